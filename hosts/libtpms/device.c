@@ -9,7 +9,7 @@
 
 #include <string.h>
 
-/* The head of a journal is at most 72,726 bytes long. */
+/* The head of a journal is at most 72,470 bytes long. */
 enum { HEAD_MOST = 72 * 1024 };
 
 static tpmsim device;

@@ -3,10 +3,12 @@ flushed, their contexts, lists, and the other commands that the layer answers. A
 bent, or come from a caller without the layer.
 """
 
-from tpmsim.caller import storage_key
+from tpmsim.caller import HERE, OPEN, storage_key
+from tpmsim.caller.templates import STORES
 from tpmsim.standard import CC, command, frames, number, NV, nv, RH_LOCKOUT, RH_NULL, RH_OWNER
 from tpmsim.standard import RH_PLATFORM, SHA256, sized, TRANSIENT
 from tpmsim.standard.handle_kinds import PRIMARY_HIERARCHIES
+from tpmsim.standard.objects import Attribute
 
 CONTEXT_SAVE, CONTEXT_LOAD, STIR_RANDOM, QUOTE = 0x162, 0x161, 0x146, 0x158
 INCREMENTAL_SELF_TEST, GET_TEST_RESULT, HASH, TEST_PARMS = 0x142, 0x17C, 0x17D, 0x18A
@@ -27,6 +29,9 @@ PARAMETERS = tuple(
 # A counter that the owner writes and reads.
 COUNTER = nv.of_type(nv.Type.COUNTER) | nv.Attribute.OWNERWRITE | nv.Attribute.OWNERREAD
 
+# The offset of the buffer in a context's contextBlob.
+BLOB_AT = 18
+
 
 def handle_of(chance):
     kind = chance.choice(KINDS if chance.random() < 0.95 else OTHERS)
@@ -34,10 +39,12 @@ def handle_of(chance):
 
 
 def primary(chance):
-    sensitive = sized(sized(b"") + sized(b""))
-    public = sized(storage_key(chance.choice((SHA256, frames.SHA1))).text)
+    sensitive = sized(sized(chance.choice((b"", b"pin"))) + sized(b""))
+    attributes = HERE | OPEN | STORES | chance.choice((0, 0, 0, Attribute.ST_CLEAR))
+    public = sized(storage_key(chance.choice((SHA256, frames.SHA1)), attributes).text)
     parameters = sensitive + public + sized(b"") + number(0, 4)
-    return command(CC.CreatePrimary, number(RH_OWNER, 4) + PASSWORD + parameters, frames.SESSIONS)
+    hierarchy = number(chance.choice((RH_OWNER, *PRIMARY_HIERARCHIES)), 4)
+    return command(CC.CreatePrimary, hierarchy + PASSWORD + parameters, frames.SESSIONS)
 
 
 def session(chance):
@@ -107,13 +114,22 @@ class Scripts:
         if int.from_bytes(buffer[6:10], "big") == CONTEXT_SAVE and not any(response[6:10]):
             self.contexts.append(response[10:])
 
-    def bent(self, data):
-        at = self.chance.randrange(len(data))
+    def bent(self, data, size=None):
+        """Returns the data with a bit turned, which is one of the first `size` bytes."""
+        at = self.chance.randrange(size or len(data))
         return data[:at] + bytes([data[at] ^ 1 << self.chance.randrange(8)]) + data[at + 1 :]
 
     def context(self):
         context = self.chance.choice(self.contexts[-12:] or [bytes(38)])
-        return context if self.chance.random() < 0.9 else self.bent(context)
+        return context if self.chance.random() < 0.9 else self.bent_context(context)
+
+    def bent_context(self, context):
+        """Returns a context with a bit turned, perhaps in its first fields, or with another end."""
+        size = self.chance.choice((BLOB_AT, len(context)))
+        way = self.chance.randrange(3)
+        if way == 0:
+            return context + b"\0"
+        return context[: self.chance.randrange(size)] if way == 1 else self.bent(context, size)
 
     def next(self):
         chance = self.chance

@@ -54,16 +54,21 @@ class Journal:
         drawn = words.random[:64]
         random = drawn.ljust(RANDOM_BYTES, b"\0")
         response = self.model.execute(buffer, words.locality, random, elapsed).response
+        self.record(buffer, response, words.locality, elapsed, drawn)
+        return response
+
+    def record(self, buffer, response, locality, elapsed, drawn, completes=False):
+        """Adds a command with its circumstances, and whether the completing layer was present."""
         sizes = number(len(drawn), 2) + number(len(buffer), 2)
         sums = number(sum_of(drawn + buffer), 8) + number(sum_of(response), 8)
-        mark = number(elapsed, 4) + number(words.locality, 1) + b"\0" + sizes + sums
+        told = number(locality, 1) + number(completes, 1)
+        mark = number(elapsed, 4) + told + sizes + sums
         self.sum = sum_from(self.sum, mark)
         lines = (
             f"# {mark.hex()} {self.sum:016x}",
-            *(f"wait {elapsed:010}", f"loc {words.locality}"),
+            *(f"wait {elapsed:010}", f"loc {locality}"),
             *(f"entropy {drawn.hex()}", f"cmd {buffer.hex()}"),
         )
         self.text += "".join(f"{it}\n" for it in lines).encode()
         self.ends.append(len(self.text))
         self.responses.append(response)
-        return response

@@ -13,10 +13,12 @@ from tpmsim.compare.main import other_tpm, told
 from tpmsim.compare.play import Comparison
 from tpmsim.caller import Caller, hmac_key
 from tpmsim.device import Answered, Device, KeptDevice, library, StartedSwtpm
+from tpmsim.device.base import Executed
 from tpmsim.model.completion import CONTEXT_LOAD, CONTEXT_SAVE
 from tpmsim.model.machine import Model
-from tpmsim.standard import command, number, SHA256
+from tpmsim.standard import command, frames, number, SHA256, TRANSIENT
 import completed_scripts
+from completed_model import CompletedModel, RecordedModel
 from journals import Journal
 
 TESTS = pathlib.Path(__file__).resolve().parents[2] / "tests"
@@ -138,8 +140,45 @@ class Completed(unittest.TestCase):
         """The other TPM loads the object's context to another handle. Later uses have that handle.
         """
         journal = self.recorded(contexts_that_move)
-        report = self.compared(journal)
+        with Moved(model=Model(bytes(256))) as other:
+            report = Comparison(other).play(journal)
         self.assertEqual((report.differences, report.not_comparable), ([], []))
+
+    def test_an_object_that_only_one_loads(self):
+        """The other TPM has no slot for the object of a context, which is then only on this
+        device.
+        """
+        journal = self.recorded(contexts_that_move)
+        with Full(model=Model(bytes(256))) as other:
+            report = Comparison(other).play(journal)
+        differences = [(it.command, it.here, it.there) for it in report.differences]
+        self.assertEqual(differences, [("ContextLoad", "success", "OBJECT_MEMORY")] * 2)
+        self.assertEqual(len(report.not_comparable), 4)
+
+
+class Moved(CompletedModel):
+    """Another TPM, whose objects have the last slots: their handles are at offset 10 in the
+    commands and responses of `contexts_that_move`.
+    """
+
+    def answer(self, buffer, locality, elapsed, random):
+        event = super().answer(moved(buffer, -4), locality, elapsed, random)
+        return Executed(buffer, moved(event.response, 4), locality, elapsed, random)
+
+
+def moved(text, count):
+    if text[10:11] != bytes([TRANSIENT]):
+        return text
+    return text[:10] + number(int.from_bytes(text[10:14], "big") + count, 4) + text[14:]
+
+
+class Full(CompletedModel):
+    """Another TPM, which never has a slot for the object of a context."""
+
+    def answer(self, buffer, locality, elapsed, random):
+        if buffer[6:10] == number(CONTEXT_LOAD, 4):
+            return Executed(buffer, frames.refusal(0x902), locality, elapsed, random)
+        return super().answer(buffer, locality, elapsed, random)
 
 
 def contexts_that_move(device):
@@ -172,6 +211,20 @@ class Others(unittest.TestCase):
         own = [it for it in report.differences if it.follows is None]
         self.assertTrue(own)
         self.assertNotIn(None, [cause_of(it) for it in own])
+
+    @unittest.skipUnless(shutil.which("swtpm"), "there is no swtpm")
+    def test_contexts_of_swtpm(self):
+        """swtpm loads its contexts when this device loads the corresponding ones. Only the tickets
+        of the keys differ.
+        """
+        with RecordedModel() as device:
+            device.journal.go_on(device.completion.numbers)
+            contexts_that_move(device)
+        with StartedSwtpm() as other:
+            report = Comparison(other).play(device.journal.text)
+        found = [(it.command, it.what) for it in report.differences]
+        self.assertEqual(found, [("CreatePrimary", "creationTicket")] * 2)
+        self.assertEqual(report.not_comparable, [])
 
     def test_wrong_words(self):
         for words in ("", "tpm", "swtpm:port=1", "mssim:path=x", "device:"):

@@ -9,32 +9,37 @@ import tempfile
 import unittest
 
 import completed_scripts
+from completed_model import RecordedModel
 from tpmsim.audit import start
 from tpmsim.audit.auditor import Auditor, report
 from tpmsim.audit.log import Log, NoLog
+from tpmsim.caller import Caller, HERE, hmac_key, OPEN
 from tpmsim.device import KeptDevice, library
 from tpmsim.explain import page, text
 from tpmsim.explain.play import Play
+from tpmsim.model import contexts
+from tpmsim.model.completion import Completion, CONTEXT_LOAD, CONTEXT_SAVE
+from tpmsim.model.state import CLEAR, STATE
 from tpmsim.records import COMPLETED
-from tpmsim.standard import lines
+from tpmsim.standard import command, lines, number, RH_PLATFORM
+from tpmsim.standard.objects import Attribute
 
-SEEDS, COMMANDS = 12, 500
+SEEDS, COMMANDS, START = 12, 500, 7
 
 # The actions of the layer, with N for each number.
 DEEDS = {
-    "context N of object N, which stays in its place",
-    "context N of session N, which stays in its place",
+    "context N of object N, which stays loaded",
+    "context N of session N, which stays in its slot",
     "object N is not there",
-    "object N waits, as it was flushed",
     "session N is not there",
     "session N is saved already",
     "N is neither a transient object nor a session",
+    "the object of context N is loaded as N",
+    "no slot of an object is free",
     "the handle of context N",
-    "what context N names, N, is gone, or is loaded",
-    "the bytes are no context since the power came on",
-    "the device was not told: the object waits in its place for the sake of its context",
-    "the device was not told: the object was flushed already, and waits in its place",
-    "N, which waited longest, was given up, and the command executed again",
+    "the session of context N, N, is gone, or is loaded",
+    "this layer did not make the context since its start",
+    *(words for _, words in contexts.FAULTS),
     "the bytes are not used",
     "no algorithm is left to be tested",
     "all tests succeeded",
@@ -78,15 +83,25 @@ def trace_of(event):
     return lines.traced(event.outcome, scene.locality, scene.elapsed)
 
 
-@unittest.skipUnless(library.is_there(), "there is no library")
-class Completed(unittest.TestCase):
+def in_python(seed, count):
+    """Returns the same of a device in Python."""
+    with RecordedModel() as device:
+        answered = completed_scripts.play(device, random.Random(seed), count, changes=True)
+    return device.journal.text, answered
+
+
+class InPython(unittest.TestCase):
+    """Journals of the device in Python, which needs no library."""
+
+    recorded = staticmethod(in_python)
+
     def test_commands_at_random(self):
-        """Each command gets the same response from Python and from the library. It is explained as
-        refused only if the library refuses it.
+        """Each command gets the recorded response when the journal is explained. It is explained as
+        refused only if it was refused.
         """
         seen = set()
         for seed in range(SEEDS):
-            journal, answered = recorded(seed, COMMANDS)
+            journal, answered = self.recorded(seed, COMMANDS)
             play = Play()
             events = list(play.events(journal))
             self.assertEqual((len(events), play.fault, play.cuts), (len(answered), "", []))
@@ -100,7 +115,7 @@ class Completed(unittest.TestCase):
         history.
         """
         for seed in range(2):
-            journal, answered = recorded(seed, COMMANDS)
+            journal, answered = self.recorded(seed, COMMANDS)
             auditor = Auditor(start.of_log(journal, None), NoLog())
             auditor.read(journal)
             counts = auditor.counts
@@ -113,6 +128,65 @@ class Completed(unittest.TestCase):
             self.assertFalse(any(it.differences for it in events))
             words = f"{counts.refused} refused and {counts.layer} answered by the completing layer"
             self.assertIn(words, "\n".join(report(auditor)))
+
+
+class OldContexts(unittest.TestCase):
+    """Why a context that the log saved can no longer be loaded."""
+
+    def setUp(self):
+        self.device = self.enterContext(RecordedModel())
+        self.tpm = Caller(self.device)
+        self.tpm.start_up()
+        self.text = b""
+
+    def saved(self, attributes=HERE | OPEN):
+        handle = self.tpm.create_primary(hmac_key(attributes=attributes), data=b"key")
+        return self.device.execute(command(CONTEXT_SAVE, number(handle, 4))).response[10:]
+
+    def restart(self, shutdown, startup):
+        self.tpm.call("Shutdown", shutdownType=shutdown)
+        self.text += self.device.journal.text
+        self.device.power_cycle()
+        self.tpm.start_up(startup)
+
+    def told(self, context):
+        """Returns what is said about the refusal of a context."""
+        response = self.device.execute(command(CONTEXT_LOAD, context)).response
+        self.assertEqual(response[6:10].hex(), "000001df")
+        return list(Play().events(self.text + self.device.journal.text))[-1].reason.words
+
+    def test_bytes(self):
+        context = self.saved()
+        told = self.told(context[:-1] + bytes([context[-1] ^ 1]))
+        self.assertTrue(told.endswith(" It differs from the context that line 17 saved."), told)
+        told = self.told(bytes(8) + context[8:])
+        self.assertTrue(told.endswith(", or may no longer load it."), told)
+
+    def test_clear(self):
+        context = self.saved()
+        self.tpm.call("Clear", RH_PLATFORM, uses=[b""])
+        wanted = "Line 17 saved it; since then TPM2_Clear changed the proof of its hierarchy."
+        self.assertIn(wanted, self.told(context))
+
+    def test_power_cycles(self):
+        context, st_clear = self.saved(), self.saved(HERE | OPEN | Attribute.ST_CLEAR)
+        self.restart(STATE, STATE)
+        wanted = "the device had a TPM Restart or a TPM Resume, and the object has stClear."
+        self.assertIn(f"Line 27 saved it; since then {wanted}", self.told(st_clear))
+        self.restart(CLEAR, CLEAR)
+        wanted = "Line 17 saved it; since then a TPM Reset or TPM2_Clear changed resetCount."
+        self.assertIn(wanted, self.told(context))
+        self.device.completion = Completion(START)
+        self.device.journal.go_on(self.device.completion.numbers)
+        self.text += self.device.journal.text
+        self.assertIn("the completing layer has started again", self.told(context))
+
+
+@unittest.skipUnless(library.is_there(), "there is no library")
+class Completed(InPython):
+    """Journals of the library: Python and the library give the same responses."""
+
+    recorded = staticmethod(recorded)
 
     def test_words(self):
         """Reports both the layer's response and the device's own response."""

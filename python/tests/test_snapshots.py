@@ -139,7 +139,7 @@ class Snapshots:
         for text, fault in {
             b"": "Short",
             device_image(): "Magic",
-            b"TPMS\0\2" + taken[6:]: "Version",
+            b"TPMS\0\3" + taken[6:]: "Version",
             taken[:-1]: "Length",
             taken + b"\0": "Length",
             taken[:300] + bent + taken[301:]: "Digest",

@@ -16,10 +16,12 @@ from tpmsim.compare.play import Comparison
 from tpmsim.device import library, ModelDevice
 from tpmsim.explain.of_device import log_of
 from tpmsim.explain.play import Play
+from tpmsim.model import image, state_text
 from tpmsim.model.completion import CONTEXT_LOAD
 from tpmsim.model.player import Words
 from tpmsim.model.state_text import Layer
 from tpmsim.policies.policy_file import digest_of, PolicyFile
+from tpmsim.records.reader import EARLIER_HEAD
 from tpmsim.standard import number
 from tpmsim.standard.objects import Attribute
 
@@ -43,6 +45,18 @@ def before():
     PCR.
     """
     return Journal().play(START, DEFINE, WRITE, *SESSION, PCR)
+
+
+def text_of_version_1(device, layer=None, held=((0, 0),) * 8):
+    """Returns a state text as an earlier version wrote it: its layer has two numbers for each slot
+    of an object, after the first two.
+    """
+    body = state_text.device_text(device)
+    if layer is None:
+        return image.digested(1, body + b"\0", state_text.MAGIC)
+    numbers = state_text.layer_text(layer)
+    objects = b"".join(number(it, 8) for both in held for it in both)
+    return image.digested(1, body + b"\1" + numbers[:16] + objects + numbers[16:], state_text.MAGIC)
 
 
 def gone_on(*lines):
@@ -117,10 +131,39 @@ class Explained(unittest.TestCase):
         journal.go_on(layer)
         play = Play()
         list(play.events(journal.text))
-        context = play.layer.context(0x03000000, 1)
+        context = play.layer.token(0x03000000, 1)
         buffer = b"\x80\x01" + number(10 + len(context), 4) + number(CONTEXT_LOAD, 4) + context
         event = play.command(buffer, 0, b"", 0, completes=True)
         self.assertEqual(event.response[10:].hex(), "03000000")
+
+    def test_a_head_of_version_1(self):
+        """A journal whose head is of version 1 is reported: its commands were executed with other
+        contexts.
+        """
+        journal = Journal().play(START)
+        journal.head(2, text_of_version_1(journal.model))
+        text, play = journal.play(*SESSION).text, Play()
+        self.assertEqual(len(list(play.events(text))), 1)
+        self.assertEqual(play.damages, [f"line 1: {EARLIER_HEAD}"])
+        auditor = Auditor(start.of_log(text, None), NoLog())
+        self.assertRaisesRegex(Disagreement, f"^script line 1: {EARLIER_HEAD}$", auditor.read, text)
+
+    def test_a_state_of_version_1(self):
+        """Objects that the layer had kept after their flush are left out; the rest is as it was."""
+        device = ModelDevice()
+        tpm = Caller(device)
+        tpm.start_up()
+        handles = [tpm.create_primary(storage_key()) for _ in range(3)]
+        session = tpm.session().handle
+        held = [(1, 0), (2, 4), (0, 0)] + [(0, 0)] * 5
+        text = text_of_version_1(device.model, Layer(7, 4, [3] + [0] * 15), held)
+        play = Play(image=text)
+        self.assertEqual(set(play.model.objects), {handles[0], handles[2]})
+        self.assertEqual(play.layer.numbers, Layer(7, 4, [3] + [0] * 15))
+        self.assertEqual(set(play.model.sessions), {session})
+        del device.model.objects[handles[1]]
+        wanted = state_text.state_text(device.model, play.layer.numbers)
+        self.assertEqual(state_text.state_text(play.model, play.layer.numbers), wanted)
 
     def test_heads_that_are_damaged(self):
         text = gone_on(CODE).text

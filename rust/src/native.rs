@@ -19,7 +19,7 @@ pub(crate) const RANDOM_BYTES: usize = 256;
 const RESPONSE_BYTES: usize = 4096;
 
 /// A buffer size that is enough for every image and every state text.
-const TEXT_BYTES: usize = 36_323;
+const TEXT_BYTES: usize = 36_195;
 
 /// `tpmsim` of the header. It is not `Sync`, since a pointer is not.
 #[repr(C)]

@@ -141,8 +141,8 @@ def pairs():
     yield "a qualified Name of 35 bytes", *spelled(sized(name + b"\0"), sized(name))
     device, layer = worked_state.device(), worked_state.layer()
     good = body_of(device, layer)
-    yield "a layer of 33 numbers", good[:-8], good
-    yield "a layer of 35 numbers", good + number(0, 8), good
+    yield "a layer of 17 numbers", good[:-8], good
+    yield "a layer of 19 numbers", good + number(0, 8), good
     yield "no byte for the layer", body_of(device)[:-1], body_of(device)
     yield "a byte behind", body_of(device) + b"\0", body_of(device)
     yield "no body", b"", body_of(device)

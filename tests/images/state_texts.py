@@ -66,6 +66,16 @@ def worked():
     print("and is read:", state_text.state_text(device, layer) == text)
 
 
+def version_1():
+    """A text of version 1 is read without the objects that were flushed. It is written as
+    version 2.
+    """
+    text = worked_state.written(worked_state.FIELDS_1)
+    wanted = state_text.state_text(worked_state.device_1(), worked_state.layer())
+    found = state_text.state_text(*state_text.open_state(text))
+    print("version 1 is read, without the object that was flushed:", found == wanted)
+
+
 def sizes():
     """Prints the sizes that docs/table/state_text.md states."""
     print(f"a new device has {len(state_text.state_text(Model())):,} bytes")
@@ -112,7 +122,9 @@ def corrected(text):
 def frames_with_one_thing_wrong(text):
     for words, bent in (
         ("another word", b"TPMI" + text[4:]),
-        ("version 2", text[:4] + frames.number(2, 2) + text[6:]),
+        ("version 0", text[:4] + frames.number(0, 2) + text[6:]),
+        ("version 3", text[:4] + frames.number(3, 2) + text[6:]),
+        ("version 2, called version 1", text[:4] + frames.number(1, 2) + text[6:]),
         ("a length of one more", text[:6] + frames.number(len(text) + 1, 4) + text[10:]),
         ("an image", image.image(Model())),
     ):
@@ -128,6 +140,7 @@ def bodies():
 def main(tests):
     play_all(pathlib.Path(tests))
     worked()
+    version_1()
     sizes()
     text = worked_state.text()
     refused(text)

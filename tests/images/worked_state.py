@@ -1,4 +1,6 @@
-"""The device of the worked state text, and that text. worked_state.txt lists the text by fields."""
+"""The device of the worked state text, and that text. worked_state.txt lists the text by fields, and
+worked_state_1.txt a text of version 1 with the same device.
+"""
 
 import copy
 import functools
@@ -40,7 +42,8 @@ wait 5
 do GetRandom 1
 """
 
-FIELDS = pathlib.Path(__file__).parent / "worked_state.txt"
+FOLDER = pathlib.Path(__file__).parent
+FIELDS, FIELDS_1 = FOLDER / "worked_state.txt", FOLDER / "worked_state_1.txt"
 
 
 @functools.cache
@@ -57,15 +60,22 @@ def device():
 
 
 def layer():
-    """Returns a completing layer with the contexts of a waiting object and of a session."""
-    return Layer(0x1122334455667788, 3, [(1, 3)] + [(0, 0)] * 7, [0, 2] + [0] * 14)
+    """Returns a completing layer with the context of a session."""
+    return Layer(0x1122334455667788, 3, [0, 2] + [0] * 14)
 
 
 def text():
     return state_text(device(), layer())
 
 
-def written():
-    """Returns the text in the file: the bytes before the first two blanks of each line."""
-    lines = FIELDS.read_text("ascii").splitlines()
+def device_1():
+    """Returns the device that is read from the text of version 1, in which object 0 was flushed."""
+    found = device()
+    del found.objects[0x80000000]
+    return found
+
+
+def written(fields=FIELDS):
+    """Returns the text in a file: the bytes before the first two blanks of each line."""
+    lines = fields.read_text("ascii").splitlines()
     return bytes.fromhex("".join(it.partition("  ")[0] for it in lines if it[:1] != "#"))

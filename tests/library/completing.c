@@ -4,7 +4,7 @@
 #include "common.h"
 #include "tpmsim.h"
 
-enum { CLOCK = 1000, WAITED = 250, OBJECTS = 8, CONTEXT_BYTES = 38 };
+enum { CLOCK = 1000, WAITED = 250, OBJECTS = 8, MOST_CONTEXT = 378 };
 
 static const uint8_t OF_FAMILY_1[] = {0, 0xc1, 0, 0, 0, 12, 0, 0, 0, 0x99, 0, 1};
 static const uint8_t STIR[] = {0x80, 1, 0, 0, 0, 14, 0, 0, 1, 0x46, 0, 2, 1, 2};
@@ -25,15 +25,15 @@ static const uint8_t HASH[] = {0x80, 1,   0,   0, 0,  21,   0, 0, 1, 0x7d, 0,
                                3,    'a', 'b', 'c', 0, 11, 0x40, 0, 0, 7};
 
 static tpmsim device, other;
-static uint8_t text[256 * 1024], response[RESPONSE_BYTES], context[CONTEXT_BYTES];
-static size_t text_size;
+static uint8_t text[256 * 1024], response[RESPONSE_BYTES], context[MOST_CONTEXT];
+static size_t text_size, context_size;
 static uint64_t now = CLOCK;
 
 /* Cycles the power, and begins the journal again. */
 static void begin(void) {
     now += WAITED;
     text_size = tpmsim_journal_begin(&device, now, text, sizeof text);
-    must(text_size > 0 && text_size <= sizeof text, "there is no room for the head");
+    must(text_size > 0 && text_size <= sizeof text, "the head does not fit");
 }
 
 /* Executes a command, adds its record to the text, and prints its response code. */
@@ -72,6 +72,8 @@ static void list_capabilities(void) {
     list("commands from StirRandom on, without the layer", 0, 2, 0x146);
     list("commands from StirRandom on", 1, 2, 0x146);
     list("properties from TPM_PT_PCR_COUNT on", 1, 6, 0x112);
+    list("properties from TPM_PT_CONTEXT_HASH on", 1, 6, 0x11a);
+    list("properties from TPM_PT_MAX_OBJECT_CONTEXT on", 1, 6, 0x121);
     list("properties from TPM_PT_TOTAL_COMMANDS on", 1, 6, 0x129);
     list("properties from TPM_PT_TOTAL_COMMANDS on, without the layer", 0, 6, 0x129);
     list("properties from TPM_PT_PERMANENT on", 1, 6, 0x200);
@@ -89,18 +91,41 @@ static void show(const char *name, const uint8_t *buffer, size_t size) {
     putchar('\n');
 }
 
+/* Takes the context from the response to TPM2_ContextSave. */
+static void take_context(void) {
+    context_size = (size_t)(response[4] << 8 | response[5]) - 10;
+    must(context_size <= sizeof context, "a context is too long");
+    memcpy(context, response + 10, context_size);
+}
+
 static void save(const char *name, const uint8_t *buffer, size_t size) {
     execute(name, 1, buffer, size);
-    memcpy(context, response + 10, sizeof context);
+    take_context();
     printf("  ");
-    put_hex(context, sizeof context);
+    put_hex(context, context_size);
     putchar('\n');
 }
 
+/* Writes TPM2_ContextLoad of the context, and returns its size. */
+static size_t load_command(uint8_t command[10 + MOST_CONTEXT]) {
+    static const uint8_t head[] = {0x80, 1, 0, 0, 0, 0, 0, 0, 1, 0x61};
+    size_t size = sizeof head + context_size;
+    memcpy(command, head, sizeof head);
+    command[4] = (uint8_t)(size >> 8);
+    command[5] = (uint8_t)size;
+    memcpy(command + sizeof head, context, context_size);
+    return size;
+}
+
 static void load(const char *name) {
-    uint8_t command[10 + CONTEXT_BYTES] = {0x80, 1, 0, 0, 0, sizeof command, 0, 0, 1, 0x61};
-    memcpy(command + 10, context, sizeof context);
-    execute(name, 1, command, sizeof command);
+    uint8_t command[10 + MOST_CONTEXT];
+    execute(name, 1, command, load_command(command));
+}
+
+/* Loads the context, and prints the handle. */
+static void load_and_show(const char *name) {
+    uint8_t command[10 + MOST_CONTEXT];
+    show(name, command, load_command(command));
 }
 
 /* Continues with the other handle. */
@@ -130,9 +155,8 @@ static void complete(const char *name, const uint8_t *buffer, size_t size) {
 }
 
 static void complete_load(const char *name) {
-    uint8_t command[10 + CONTEXT_BYTES] = {0x80, 1, 0, 0, 0, sizeof command, 0, 0, 1, 0x61};
-    memcpy(command + 10, context, sizeof context);
-    complete(name, command, sizeof command);
+    uint8_t command[10 + MOST_CONTEXT];
+    complete(name, command, load_command(command));
 }
 
 /* Loads a context, which was saved before a snapshot, in the device that is restored from the
@@ -140,7 +164,7 @@ static void complete_load(const char *name) {
 static void restore_other(void) {
     complete("a session without a journal", START_SESSION, sizeof START_SESSION);
     complete("its context", SAVE_SESSION, sizeof SAVE_SESSION);
-    memcpy(context, response + 10, sizeof context);
+    take_context();
     size_t size = tpmsim_snapshot(&device, text, sizeof text);
     printf("restored: told %u\n", tpmsim_restore(&other, text, size));
     swap_handles();
@@ -163,22 +187,25 @@ static void save_session(void) {
     execute("its context once more", 1, SAVE_SESSION, sizeof SAVE_SESSION);
 }
 
-static void create_ninth(void) {
+/* Fills the slots. The context of a flushed object can be loaded when a slot is free, also by a process that
+   opens the journal later. */
+static void fill_slots(void) {
     execute("the context of no object", 1, SAVE_OBJECT, sizeof SAVE_OBJECT);
     for (int place = 0; place < OBJECTS; place++)
         execute("an object", 1, CREATE_PRIMARY, sizeof CREATE_PRIMARY);
-    execute("one more, where none waits", 1, CREATE_PRIMARY, sizeof CREATE_PRIMARY);
+    execute("one more, where no slot is free", 1, CREATE_PRIMARY, sizeof CREATE_PRIMARY);
     save("its context", SAVE_OBJECT, sizeof SAVE_OBJECT);
+    load("loaded, where no slot is free");
     execute("its flush", 1, FLUSH_OBJECT, sizeof FLUSH_OBJECT);
     list("objects", 1, 1, 0x80000000);
     execute("its context once more", 1, SAVE_OBJECT, sizeof SAVE_OBJECT);
     execute("flushed twice", 1, FLUSH_OBJECT, sizeof FLUSH_OBJECT);
-    load("loaded");
+    open_other();
+    load_and_show("loaded");
     list("objects", 1, 1, 0x80000000);
     execute("its flush", 1, FLUSH_OBJECT, sizeof FLUSH_OBJECT);
-    execute("one more without the layer", 0, CREATE_PRIMARY, sizeof CREATE_PRIMARY);
-    execute("one more, where one waits", 1, CREATE_PRIMARY, sizeof CREATE_PRIMARY);
-    load("the context of what gave up its place");
+    execute("another object in its slot", 1, CREATE_PRIMARY, sizeof CREATE_PRIMARY);
+    load("loaded, where no slot is free");
 }
 
 /* Changes the byte of the last record's mark that records whether the layer was on. */
@@ -204,12 +231,12 @@ int main(void) {
     show("a digest with the ticket of no hierarchy", HASH, sizeof HASH);
     show("all tests", TEST_RESULT, sizeof TEST_RESULT);
     save_session();
-    create_ninth();
+    fill_slots();
     open_other();
     turn_flag();
-    save("the context of another object", SAVE_OBJECT, sizeof SAVE_OBJECT);
+    save("another context", SAVE_OBJECT, sizeof SAVE_OBJECT);
     begin();
-    execute("startup behind a power cycle", 1, STARTUP, sizeof STARTUP);
+    execute("startup after a power cycle", 1, STARTUP, sizeof STARTUP);
     load("a context of before");
     open_other();
     restore_other();

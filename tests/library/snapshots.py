@@ -4,8 +4,8 @@
 
 LIBRARY is the shared object. It gets all texts with a changed byte, with and without the right
 digest, or one in ONE_IN of them. A text that is refused leaves the device as it was. A text that
-is accepted is written again unchanged; if it has no completing layer, the new text has a new
-layer.
+is accepted is written again unchanged, a text of version 1 in version 2; if it has no completing
+layer, the new text has a new layer.
 """
 
 import collections
@@ -20,7 +20,7 @@ from tpmsim.model.state_text import Layer
 from tests.common.shims import fail
 from tests.images import state_bodies, worked_state
 
-MOST_BYTES, RANDOM = 36_323, bytes(range(256))
+MOST_BYTES, RANDOM = 36_195, bytes(range(256))
 
 # The fault for each return code of tpmsim_restore.
 FAULTS = {0: None}
@@ -113,6 +113,7 @@ def main(path: str, one_in: str = "1") -> None:
     kind(library, "a new device", [state_text.state_text(Model())])
     kind(library, "the largest", [state_text.state_text(*state_bodies.largest())])
     bodies(library)
+    kind(library, "a text of version 1", [worked_state.written(worked_state.FIELDS_1)])
     kinds(library, worked_state.text(), int(one_in))
 
 

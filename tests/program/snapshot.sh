@@ -98,7 +98,7 @@ open('bent', 'wb').write(text)
 right='text[-32:] = hashlib.sha256(text[:-32]).digest()'
 bent 'too few bytes' 'del text[41:]'
 bent 'another word' 'text[3] = 0x49'
-bent 'another version' 'text[5] = 2'
+bent 'another version' 'text[5] = 3'
 bent 'one byte fewer' 'del text[-1:]'
 bent 'one byte more' 'text += bytes(1)'
 bent 'more bytes than any text has' 'text += bytes(100_000)'

@@ -23,9 +23,11 @@ def succeeded(device: Called, buffer: bytes) -> bytes:
 
 
 class LeftDevice:
-    """A device with these entities. `loads` are the commands that load the contexts."""
+    """A device with these entities. `loads` are the commands that load the contexts. An older
+    library saves no object, since its contexts of objects differ from those of a later one.
+    """
 
-    def __init__(self, device: Called) -> None:
+    def __init__(self, device: Called, is_older: bool = False) -> None:
         self.tpm = tpm = Caller(device)
         tpm.start_up()
         for step in ("start", "data 6b65726e656c", "end"):
@@ -34,7 +36,7 @@ class LeftDevice:
         tpm.define(area(INDEX), auth=b"index")
         tpm.send(tpm.event(b"event", b"", pcr=10))
         parent = tpm.create_primary(storage_key())
-        contexts = [succeeded(device, command(SAVE, number(parent, 4)))]
+        contexts = [] if is_older else [succeeded(device, command(SAVE, number(parent, 4)))]
         self.data = self.sealed_under(parent)
         tpm.send(tpm.flush(parent))
         self.bound, self.free = tpm.session(RH_OWNER), tpm.session()

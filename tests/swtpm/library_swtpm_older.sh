@@ -1,7 +1,8 @@
 # The states of a running device that an older libtpms.so.0 left. Its volatile state was the journal since
 # power-on: swtpm/journal_state. swtpm/make_journal_state.py wrote it with such a library. The device
-# continues with its sessions, objects, contexts of the completing layer, and a launch. Damaged states are
-# refused.
+# continues with its sessions, objects, the context of a session, and a launch. Damaged states are refused;
+# so is a journal with the context of an object (swtpm/journal_of_objects), which the layer now makes
+# otherwise.
 tests=$(cd "$(dirname "$0")/.." && pwd -P)
 . "$tests/common/cases.sh"
 . "$tests/common/swtpm.sh"
@@ -12,7 +13,7 @@ cp "$older/volatile" volatile
 python3 -c 'import sys; sys.stdout.buffer.write(bytes.fromhex(sys.stdin.read()))' \
     <"$older/permanent.hex" >permanent
 
-label 'it goes on: an HMAC session writes, a policy unseals, two contexts are loaded, the other session resets'
+label 'it goes on: an HMAC session writes, a policy unseals, a saved session is loaded and resets'
 {
     printf 'set permanent permanent\nset volatile volatile\non\nestablished\n'
     echo 'do PCR_Read sha1:17+sha256:10'
@@ -44,6 +45,10 @@ for state in no_end cut_off damaged bent_head; do
 done
 
 printf 'turn volatile volatile\ncut volatile volatile\n' | play
+
+label 'the context of an object'
+cp "$tests/swtpm/journal_of_objects/volatile" of_objects
+printf 'set volatile of_objects\n' | play
 
 label 'with another permanent state'
 rm permall

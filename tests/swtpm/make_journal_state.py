@@ -1,5 +1,6 @@
 """Writes tests/swtpm/journal_state: the states of a running device, and the commands that the
-device must accept afterwards. A library left the states whose volatile state was its journal:
+device must accept afterwards. A library left the states whose volatile state was its journal. It
+also left those of journal_of_objects, in which TPM2_ContextSave of an object was executed:
 
     tools/python.sh tests/swtpm/make_journal_state.py CALLER LIBRARY SHIM
 
@@ -32,7 +33,7 @@ with tempfile.TemporaryDirectory() as room:
     told = {"LD_PRELOAD": shim, "CLOCK": str(clock)}
     device = Called(caller, library, room, TPMSIM_COMPLETE="1", **told)
     device.on()
-    left = LeftDevice(device)
+    left = LeftDevice(device, is_older=True)
     clock.write_text("1009 0\n", "ascii")
     left.write(b"to begin")
     buffers = left.buffers()

@@ -55,8 +55,8 @@ def bent(volatile: bytes) -> Iterator[tuple[str, bytes]]:
     yield "short", volatile[: TAIL_BYTES + 41]
     yield "libtpms", LIBTPMS + bytes(2000)
     yield "image", image.digested(2, text[HEAD_BYTES:-DIGEST_BYTES]) + volatile[-TAIL_BYTES:]
-    version_2 = image.digested(2, text[HEAD_BYTES:-DIGEST_BYTES], state_text.MAGIC)
-    yield "version 2", version_2 + tail(version_2, when, launch)
+    version_3 = image.digested(3, text[HEAD_BYTES:-DIGEST_BYTES], state_text.MAGIC)
+    yield "version 3", version_3 + tail(version_3, when, launch)
     yield "the text alone", text
     yield "cut", volatile[:-1]
     yield "longer", volatile + b"\0"

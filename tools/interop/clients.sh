@@ -138,7 +138,7 @@ END
 }
 
 "$top/hosts/build.sh" tcti made || exit 1
-export TPM2TOOLS_TCTI="tpmsim:state=$folder/state" LD_LIBRARY_PATH="$folder/made"
+export TPM2TOOLS_TCTI="tpmsim:state=$folder/state,rm" LD_LIBRARY_PATH="$folder/made"
 check 'tpm2-tools: startup' tpm2 startup -c
 if /usr/bin/python3 -c 'import tpm2_pytss' 2>/dev/null; then pytss; else has tpm2-pytss nothing; fi
 ! has clevis clevis-encrypt-tpm2 || clevis_by_aes

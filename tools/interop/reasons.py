@@ -11,7 +11,6 @@ REASONS = {
     "hierarchy": "hierarchies have no policies, are always enabled, and keep their seeds until TPM2_Clear",
     "index": "NV indices have no global lock and no PIN",
     "object": "no object is loaded as it is made or from outside, duplicated, or has its authorization value changed",
-    "place": "a context holds until eight objects made later have one",
     "policy": "these policy commands are not served",
     "scheme": "keyed hashes have no XOR scheme",
     "sequence": "there are no sequences of hashes and HMACs: data have up to 1,024 bytes, and no ticket",

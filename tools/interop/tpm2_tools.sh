@@ -147,8 +147,7 @@ indices() {
 }
 
 # A key that is sealed to PCR 10, under persistent handles. Without the completing layer the tool that
-# loads it fails to save its context afterwards; the object stays under its handle. The layer keeps the
-# place of an object that was flushed and has a context; therefore the test asks for handles.
+# loads it fails to save its context afterwards; the object stays under its handle.
 sealing() {
     tool createprimary -C o -G aes128cfb -g sha256
     tool evictcontrol -C o -c 0x80000000 0x81000001
@@ -217,6 +216,17 @@ contexts() {
     tool unseal -c key.context -p pcr:sha256:16
     same key
     tool flushcontext -t
+    for number in 1 2 3 4 5 6 7 8 9 10 11 12; do
+        tool create -C primary.context -i key -p "word $number" -u key.pub -r key.priv
+        tool flushcontext -t
+        tool load -C primary.context -u key.pub -r key.priv -c "key$number.context"
+        tool flushcontext -t
+    done
+    for number in 12 11 10 9 8 7 6 5 4 3 2 1; do
+        tool unseal -c "key$number.context" -p "word $number"
+        same key
+        tool flushcontext -t
+    done
 }
 
 policies() {

@@ -9,14 +9,13 @@ use Rattle.tpm_machine.specs.Drawn.{drawn_by}
 use Rattle.tpm_machine.proofs.Following.{execution_follows}
 use Rattle.tpm_journal.specs.draw_laws.Bytes.{AgreeOnDrawn, zeros_behind}
 use Rattle.tpm_journal.proofs.draw_laws.Executions.{draws_alike, executes_alike, replays, replay_draws}
-use Rattle.tpm_completion.specs.Execution.{Behind, CompletesBy, CompletesIf, Passes, Seen, given_up_behind}
-use Rattle.tpm_completion.specs.Room.{flush_asked}
+use Rattle.tpm_completion.specs.Execution.{AsksFirst, Behind, CompletesIf, Passes, Seen, asked_behind}
 use Rattle.tpm_completion.specs.declared.completion.Completion.{Completion}
 use Rattle.tpm_journal_text.specs.Entry.{PlainEntry}
 use Rattle.tpm_journal.specs.Command.{given}
 use Rattle.tpm_journal.specs.Living.{Answers, IgnoresUndrawn, Lives}
 use Rattle.tpm_journal.proofs.Again.{lives_again}
-use Rattle.tpm_journal.proofs.Drawing.{draws_within, gives_up_draws_none, no_more_drawn}
+use Rattle.tpm_journal.proofs.Drawing.{asked_draws_none, behind_within, draws_within, no_more_drawn}
 
 -- if the layer passed an event to the device, it also passes the event with other random bytes
 -- that make it execute in the same way and draw the same number of bytes
@@ -61,44 +60,32 @@ zeros_many n random few all =
 abbrev kept : Seen → List ℕ → List ℕ
 kept seen random = zeros_behind seen.drawn random
 
-behind_again : (layer : Completion) (old : Record) (first : Seen) (buffer : List ℕ) (locality elapsed : ℕ) (random : List ℕ) (place : Option ℕ) (seen : Seen)
-    → place ≡ given_up_behind first → Passes false layer old (Given buffer locality elapsed random) first
-    → Behind false first buffer locality random place seen
-    → Passes false layer old (Given buffer locality elapsed (kept seen random)) first × Behind false first buffer locality (kept seen random) place seen
-behind_again layer old first buffer locality elapsed random (Some place) seen given passes (flush, flushes, again) =
+-- the device's execution of a command is also one with the bytes that were drawn in the end
+first_again : (layer : Completion) (old : Record) (first : Seen) (buffer : List ℕ) (locality elapsed : ℕ) (random : List ℕ) (asked : Option (List ℕ)) (seen : Seen)
+    → asked ≡ asked_behind first buffer → Passes false layer old (Given buffer locality elapsed random) first → Behind false first buffer asked seen
+    → Passes false layer old (Given buffer locality elapsed (kept seen random)) first
+first_again layer old first buffer locality elapsed random (Some context) seen given passes loads =
     let all : length random ≡ 256 = passes.executes.happens.2 in
-    let few : seen.drawn ≤ length random = no_more_drawn false flush.layer flush.step.after buffer locality 0 random seen again in (
-      passes_anyhow layer old buffer locality elapsed random (kept seen random) first passes
-          (gives_up_draws_none layer old buffer locality elapsed random first place passes (sym given)) (zeros_many seen.drawn random few all),
-      (flush, flushes, passes_again flush.layer flush.step.after buffer locality 0 random seen again),
-    )
-behind_again layer old first buffer locality elapsed random None seen given passes is =
-    let same : seen.drawn ≡ first.drawn = ap (λ (s : Seen). s.drawn) is in (
-      subst (λ (n : ℕ). Passes false layer old (Given buffer locality elapsed (zeros_behind n random)) first) (sym same)
-          (passes_again layer old buffer locality elapsed random first passes),
-      is,
-    )
+    let few : seen.drawn ≤ length random =
+    behind_within false first buffer random (Some context) seen (no_more_drawn false layer old buffer locality elapsed random first passes) loads in
+    passes_anyhow layer old buffer locality elapsed random (kept seen random) first passes
+    (asked_draws_none layer old buffer locality elapsed random first context passes (sym given)) (zeros_many seen.drawn random few all)
+first_again layer old first buffer locality elapsed random None seen given passes is =
+    let same : seen.drawn ≡ first.drawn = ap (λ (s : Seen). s.drawn) is in
+    subst (λ (n : ℕ). Passes false layer old (Given buffer locality elapsed (zeros_behind n random)) first) (sym same)
+    (passes_again layer old buffer locality elapsed random first passes)
 
-by_again : (layer : Completion) (old : Record) (buffer : List ℕ) (locality elapsed : ℕ) (random : List ℕ) (place : Option ℕ) (seen : Seen)
-    → CompletesBy false layer old buffer locality elapsed random place seen
-    → CompletesBy false layer old buffer locality elapsed (kept seen random) place seen
-by_again layer old buffer locality elapsed random (Some place) seen (tick, passes, is) =
-    let same : seen.drawn ≡ tick.drawn = ap (λ (s : Seen). s.drawn) is in (
-      tick,
-      subst (λ (n : ℕ). Passes false layer old (Given [] locality elapsed (zeros_behind n random)) tick) (sym same)
-          (passes_again layer old [] locality elapsed random tick passes),
-      is,
-    )
-by_again layer old buffer locality elapsed random None seen (first, passes, behind) =
-    let again = behind_again layer old first buffer locality elapsed random (given_up_behind first) seen refl passes behind in
-    (first, again.0, again.1)
+asks_again : (layer : Completion) (old : Record) (buffer : List ℕ) (locality elapsed : ℕ) (random : List ℕ) (seen : Seen)
+    → AsksFirst false layer old buffer locality elapsed random seen → AsksFirst false layer old buffer locality elapsed (kept seen random) seen
+asks_again layer old buffer locality elapsed random seen (first, passes, behind) =
+    (first, first_again layer old first buffer locality elapsed random (asked_behind first buffer) seen refl passes behind, behind)
 
 executed_again : (completes : Bool) (layer : Completion) (old : Record) (buffer : List ℕ) (locality elapsed : ℕ) (random : List ℕ) (seen : Seen)
     → CompletesIf false completes layer old (Given buffer locality elapsed random) seen
     → CompletesIf false completes layer old (Given buffer locality elapsed (kept seen random)) seen
 executed_again false layer old buffer locality elapsed random seen passes = passes_again layer old buffer locality elapsed random seen passes
 executed_again true layer old buffer locality elapsed random seen completes =
-    by_again layer old buffer locality elapsed random (flush_asked layer buffer) seen completes
+    asks_again layer old buffer locality elapsed random seen completes
 
 pub ignores : IgnoresUndrawn
 ignores layer old c seen executed =

@@ -15,7 +15,7 @@ use Rattle.tpm_record.specs.IsRecord.{IsRecord}
 use Rattle.tpm_record.specs.Record.{Record}
 use Rattle.tpm_state_text.specs.Body.{IsWholeState, WholeState}
 use Rattle.tpm_state_text.specs.State.{state_text}
-use Rattle.tpm_state_text.proofs.StateLaws.{text_told}
+use Rattle.tpm_state_text.proofs.StateLaws.{current_told}
 use Rattle.tpm_snapshot.proofs.Layers.{layer_again}
 use Rattle.tpm_journal.specs.Checkpoint.{checkpointed, state_beside}
 use Rattle.tpm_journal.specs.Living.{Lives}
@@ -34,7 +34,7 @@ image_starts clock r is = ap (start_by_image clock (image_text Two (kept_of r)))
 
 pub state_starts : (clock : ℕ) (state : WholeState) → IsWholeState state → start_by State clock (state_text state)
     ≡ Ok (record { journal = journal_resumed (head_sum clock (state_text state)) clock state.layer; device = state.device })
-state_starts clock state is = ap (start_by_state clock (state_text state)) (text_told state is)
+state_starts clock state is = ap (start_by_state clock (state_text state)) (current_told state is)
 
 -- ---- a checkpoint
 

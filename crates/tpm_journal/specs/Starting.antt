@@ -8,7 +8,7 @@ use Rattle.tpm_journal_text.specs.declared.head.HeadKind.{HeadKind}
 use Rattle.tpm_journal_text.specs.declared.head.HeadKind.TheVariants.{Image, State}
 use Rattle.tpm_record.specs.Record.{Record}
 use Rattle.tpm_state_text.specs.Body.{WholeState}
-use Rattle.tpm_state_text.specs.State.{state_of_text}
+use Rattle.tpm_state_text.specs.State.{current_state_of_text}
 use Rattle.tpm_state_text.specs.declared.fault.RestoreFault.TheVariants.{Text}
 use Rattle.tpm_state_text.specs.declared.fault.StateFault.{StateFault}
 use Rattle.tpm_journal.specs.State.{journal_begun, journal_resumed}
@@ -29,8 +29,8 @@ start_by_image clock image (Ok kept) =
     Ok (record { journal = journal_begun clock image; device = powered_on kept })
 start_by_image clock image (Err why) = Err (fault.Image why)
 
--- the start from a state text: the device continues unchanged, and so does its completing layer,
--- if it had one
+-- the start from a state text of the current version: the device continues unchanged, and so does
+-- its completing layer, if it had one
 abbrev pub start_by_state : (clock : ℕ) → (text : List ℕ) → Result WholeState StateFault
     → Result Start OpenFault
 start_by_state clock text (Ok state) = Ok (record {
@@ -42,7 +42,7 @@ start_by_state clock text (Err why) = Err (fault.State (Text why))
 -- the start from a head of this kind, clock and content, or the fault of the content
 abbrev pub start_by : HeadKind → (clock : ℕ) → (content : List ℕ) → Result Start OpenFault
 start_by Image clock content = start_by_image clock content (image_of content)
-start_by State clock content = start_by_state clock content (state_of_text content)
+start_by State clock content = start_by_state clock content (current_state_of_text content)
 
 -- A text is the head of this kind, clock and content, followed by the rest.
 pub record BeginsWith (text : List ℕ) (kind : HeadKind) (clock : ℕ) (content rest : List ℕ)

@@ -26,10 +26,10 @@ use Rattle.tpm_record.specs.IsRecord.{IsRecord}
 use Rattle.tpm_record.specs.Record.{Record}
 use Rattle.tpm_state_text.specs.Body.{IsWholeState, WholeState}
 use Rattle.tpm_state_text.specs.Layer.{IsLayer}
-use Rattle.tpm_state_text.specs.State.{state_of_text}
+use Rattle.tpm_state_text.specs.State.{current_state_of_text}
 use Rattle.tpm_state_text.specs.declared.fault.StateFault.{StateFault}
 use Rattle.tpm_state_text.specs.declared.layer.Layer.{Layer}
-use Rattle.tpm_state_text.proofs.StateLaws.{text_found}
+use Rattle.tpm_state_text.proofs.StateLaws.{current_found}
 use Rattle.tpm_step.proofs.PowerCycles.{none_taken, starting_banks}
 use Rattle.tpm_types.specs.Limits.{object_limit, session_limit}
 use Rattle.tpm_kept_journal.specs.Opening.{opened_behind, opened_text, spot_by, started_at, started_by, started_no_head, walked}
@@ -38,7 +38,7 @@ use Rattle.tpm_kept_journal.specs.texts.HeadAt.{PlainHead, head_at}
 use Rattle.tpm_kept_journal.proofs.Entries.{sum_small}
 use Rattle.tpm_kept_journal.proofs.Following.{Tells, followed_so}
 use Rattle.tpm_kept_journal.proofs.Heads.{head_starts}
-use Rattle.tpm_kept_journal.proofs.Layers.{IsFine, fine_layer, new_fine, text_fine}
+use Rattle.tpm_kept_journal.proofs.Layers.{IsFine, new_fine}
 use Rattle.tpm_kept_journal.proofs.texts.HeadAt.{no_head}
 
 -- ---- what starts is a state of a device
@@ -66,14 +66,14 @@ pub device_is : (time : ℕ) (layer : Completion) (device : Record) → time < 2
     → IsDeviceState (record { time = time; layer = layer; device = device })
 device_is time layer device small fine is = record {
   time = small;
-  whole = record { device = is; layer = fine_layer layer fine };
+  whole = record { device = is; layer = fine };
 }
 
 pub layer_in_fine : (sum : ℕ) (state : WholeState) → sum < 2 ^ 64 → IsWholeState state → IsFine (layer_in sum state.layer)
 layer_in_fine sum state small is = by state.layer is.layer
   where
     by : (layer : Option Layer) → IfSome layer IsLayer → IsFine (layer_in sum layer)
-    by (Some layer) is = text_fine layer is
+    by (Some layer) is = is
     by None is = new_fine sum small
 
 module _ (clock : ℕ) (content : List ℕ) (small : clock < 2 ^ 64) (are : AreBytes content) (start : Start) where
@@ -88,17 +88,17 @@ module _ (clock : ℕ) (content : List ℕ) (small : clock < 2 ^ 64) (are : AreB
       (powered_record kept (image_taken content kept are e).1))
   by_image (Err why) e is = absurd cc
 
-  by_state : (read : Result WholeState StateFault) → state_of_text content ≡ read → start_by_state clock content read ≡ Ok start
+  by_state : (read : Result WholeState StateFault) → current_state_of_text content ≡ read → start_by_state clock content read ≡ Ok start
       → IsDeviceState (state_in start.journal start.device)
   by_state (Ok whole) e is =
-      let found = (text_found content whole are e).0 in
+      let found = (current_found content whole are e).0 in
       subst (λ (s : Start). IsDeviceState (state_in s.journal s.device)) (ok_is {E = OpenFault} _ start is)
       (device_is clock _ whole.device small (layer_in_fine (head_sum clock content) whole sum_is found) found.device)
   by_state (Err why) e is = absurd cc
 
   starts_whole : (kind : HeadKind) → start_by kind clock content ≡ Ok start → IsDeviceState (state_in start.journal start.device)
   starts_whole Image is = by_image (image_of content) refl is
-  starts_whole State is = by_state (state_of_text content) refl is
+  starts_whole State is = by_state (current_state_of_text content) refl is
 
 -- ---- where a text begins with a head
 

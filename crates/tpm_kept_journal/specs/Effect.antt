@@ -1,8 +1,7 @@
 -- What a command does to a kept device.
-use Rattle.std.specs.Prelude.{ℕ, Bool, List, [], ◌∷◌, ◌++◌, is_some, Option, Some, None, Result, Ok, Err}
+use Rattle.std.specs.Prelude.{ℕ, Bool, true, List, [], ◌∷◌, ◌++◌, is_some, Option, Some, None, Result, Ok, Err}
 use Rattle.std.specs.Int.{w16, w32, to_be_bytes}
 use Rattle.tpm_completion.specs.Completed.{completed}
-use Rattle.tpm_completion.specs.Completion.{new_completion}
 use Rattle.tpm_completion.specs.Execution.{Seen}
 use Rattle.tpm_image_text.specs.Fields.{yes_no_text}
 use Rattle.tpm_image_text.specs.declared.fault.Malformed.{Malformed}
@@ -10,7 +9,7 @@ use Rattle.tpm_journal.specs.Command.{Command, command_at, elapsed_of, entry_of,
 use Rattle.tpm_journal.specs.State.{time_after}
 use Rattle.tpm_journal_text.specs.Entry.{PlainEntry, entry_text, sum_after}
 use Rattle.tpm_keeping.specs.Journal.{Spot}
-use Rattle.tpm_record.specs.Cycle.{cycled}
+use Rattle.tpm_step.specs.Events.{Cycled}
 use Rattle.tpm_kept_journal.specs.Command.{After, At, Begins, Cycles, Executes, KeptCommand, Moment, command_of}
 use Rattle.tpm_kept_journal.specs.Seed.{begun_in}
 use Rattle.tpm_kept_journal.specs.State.{DeviceState, bytes_of, state_of_bytes}
@@ -37,10 +36,12 @@ abbrev pub left_by : DeviceState → (elapsed : ℕ) → Seen → DeviceState
 left_by s elapsed seen =
     record { time = time_after s.time elapsed; layer = seen.layer; device = seen.step.after }
 
--- the state after a power cycle: the completing layer begins again
-abbrev pub cycled_at : DeviceState → (now start : ℕ) → DeviceState
-cycled_at s now start =
-    record { time = now; layer = new_completion start; device = cycled s.device }
+-- the state after a power cycle: the completing layer keeps its start and its count, and forgets the
+-- contexts of the sessions, which end. The contexts of objects end with a TPM Reset
+abbrev pub cycled_at : DeviceState → (now : ℕ) → DeviceState
+cycled_at s now =
+    let seen : Seen = completed true s.layer s.device Cycled in
+    record { time = now; layer = seen.layer; device = seen.step.after }
 
 -- the state that began, or the one that was
 abbrev pub begun_or : Option DeviceState → DeviceState → DeviceState
@@ -53,7 +54,7 @@ abbrev pub moved : DeviceState → KeptCommand → DeviceState
 moved s (Executes moment locality completes random buffer) =
     let c = command_on s moment locality completes random buffer in
     left_by s c.elapsed (effect s c)
-moved s (Cycles now start) = cycled_at s now start
+moved s (Cycles now start) = cycled_at s now
 moved s (Begins seed) = begun_or (begun_in seed) s
 
 -- the report of an effect: the command's code in four bytes, the number of the check that refused

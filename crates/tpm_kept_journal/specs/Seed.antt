@@ -3,16 +3,18 @@ use Rattle.std.specs.Prelude.{ℕ, ◌==◌, List, length, if◌then◌else◌, 
 use Rattle.std.specs.Int.{w8, w64}
 use Rattle.tpm_bytes.specs.Reading.{◌>>=◌}
 use Rattle.tpm_completion.specs.Completion.{new_completion}
+use Rattle.tpm_completion.specs.declared.completion.Completion.{Completion}
 use Rattle.tpm_image_text.specs.Fields.{number_in}
 use Rattle.tpm_image_text.specs.Image.{image_of}
 use Rattle.tpm_image_text.specs.NonVolatile.{NonVolatile, powered_on}
 use Rattle.tpm_image_text.specs.declared.fault.ImageFault.{ImageFault}
 use Rattle.tpm_image_text.specs.declared.fault.Malformed.{Malformed}
-use Rattle.tpm_journal.specs.State.{layer_in}
 use Rattle.tpm_record.specs.Record.{Record, manufactured}
+use Rattle.tpm_snapshot.specs.Layer.{completion_of}
 use Rattle.tpm_state_text.specs.Body.{WholeState}
 use Rattle.tpm_state_text.specs.State.{state_of_text}
 use Rattle.tpm_state_text.specs.declared.fault.StateFault.{StateFault}
+use Rattle.tpm_state_text.specs.declared.layer.Layer.{Layer}
 use Rattle.tpm_kept_journal.specs.State.{DeviceState}
 
 -- a seed: its kind; the host's clock in milliseconds; a number for the start of the completing
@@ -46,11 +48,18 @@ abbrev pub state_opened : Seed → Result NonVolatile ImageFault → Option Devi
 state_opened seed (Ok kept) = Some (started_anew seed (powered_on kept))
 state_opened seed (Err why) = None
 
+-- the layer of a device that is restored from a state text. It has a new start, since the device
+-- of the text may have made more contexts, whose sequences this device uses again. So the contexts
+-- that were made before do not load
+abbrev pub layer_restored : (start : ℕ) → Option Layer → Completion
+layer_restored start (Some layer) = record (completion_of (Some layer)) { start = start }
+layer_restored start None = new_completion start
+
 -- the device of a state text, with its layer, if it has one
 abbrev pub state_restored : Seed → Result WholeState StateFault → Option DeviceState
 state_restored seed (Ok whole) = Some (record {
   time = seed.now;
-  layer = layer_in seed.start whole.layer;
+  layer = layer_restored seed.start whole.layer;
   device = whole.device;
 })
 state_restored seed (Err why) = None

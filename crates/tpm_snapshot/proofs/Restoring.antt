@@ -29,7 +29,7 @@ module _ (state : WholeState) (text : List ℕ) (is : IsWholeState state) (same 
   pub no_fault : (fault : StateFault) → state_of_text text ≡ Err fault → ⊥
   no_fault fault was = differ state fault (sym told_again ∙ was)
 
-pub new_again : (can : Bool) (device : Record) (state : WholeState) (text : List ℕ) (result : Result (Option Layer) RestoreFault) → RestoresNew can text device result → IsWholeState state → text ≡ state_text state → HasState can state device result
+pub new_again : (can : Bool) (device : Record) (state : WholeState) (text : List ℕ) (result : Result (Option Layer) RestoreFault) → RestoresNew can (state_of_text text) device result → IsWholeState state → text ≡ state_text state → HasState can state device result
 new_again can device state text (Ok layer) read is same = read_again state text is same (state_of device layer) read
 new_again can device state text (Err (unrestored.Text fault)) read is same = no_fault state text is same fault read
 new_again can device state text (Err unrestored.NoMemory) read is same = read

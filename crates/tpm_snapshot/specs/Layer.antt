@@ -1,33 +1,15 @@
 -- What a state text stores about the completing layer: each number that the layer remembers.
-use Rattle.std.specs.Prelude.{Option, Some, None, map}
+use Rattle.std.specs.Prelude.{Option, Some, None}
 use Rattle.tpm_completion.specs.Completion.{new_completion}
 use Rattle.tpm_completion.specs.declared.completion.Completion.{Completion}
-use Rattle.tpm_completion.specs.declared.completion.Held.{Held}
-use Rattle.tpm_state_text.specs.declared.layer.Held.{Held as HeldText}
 use Rattle.tpm_state_text.specs.declared.layer.Layer.{Layer}
-
--- what a text stores about an object, and what the layer remembers of it
-abbrev pub held_of : Held → HeldText
-held_of held = record { context = held.context; waits = held.waits }
-
-abbrev pub held_in : HeldText → Held
-held_in held = record { context = held.context; waits = held.waits }
 
 -- what a text stores about the layer
 abbrev pub layer_of : Completion → Layer
-layer_of c = record {
-  start = c.start;
-  count = c.count;
-  objects = map held_of c.objects;
-  sessions = c.sessions;
-}
+layer_of c = record { start = c.start; count = c.count; sessions = c.sessions }
 
 -- the layer in a text; if the text contains no layer, a new layer with start 0
 abbrev pub completion_of : Option Layer → Completion
 completion_of None = new_completion 0
-completion_of (Some layer) = record {
-  start = layer.start;
-  count = layer.count;
-  objects = map held_in layer.objects;
-  sessions = layer.sessions;
-}
+completion_of (Some layer) =
+    record { start = layer.start; count = layer.count; sessions = layer.sessions }

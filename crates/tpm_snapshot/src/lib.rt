@@ -4,7 +4,8 @@
 //! continues from the same state.
 //!
 //! [`snapshot_into`] writes the text of a machine into the caller's buffer. [`restored`],
-//! [`restore_new`] and [`restore_into`] read such a text. [`layer_of`] and [`completion_of`]
+//! [`restore_new`] and [`restore_into`] read such a text, of any version; [`resume_new`] reads only
+//! the version that is written. [`layer_of`] and [`completion_of`]
 //! convert between the completing layer and its part of such a text. The crate uses the machine
 //! and the completing layer, and tpm_state_text for the bytes.
 //!
@@ -16,5 +17,5 @@ mod layer;
 mod snapshot;
 
 pub use layer::{completion_of, layer_of};
-pub use snapshot::{restore_into, restore_new, restored, snapshot_into};
+pub use snapshot::{restore_into, restore_new, restored, resume_new, snapshot_into};
 pub use tpm_state_text::{Layer, RestoreFault, STATE_TEXT_LIMIT, StateFault};

@@ -12,7 +12,7 @@ ghost use Rattle.tpm_state_text.specs.Body.{IsWholeState, WholeState};
 ghost use Rattle.tpm_state_text.specs.Filling.{Restores, RestoresAgain, RestoresInto, RestoresNew};
 ghost use Rattle.tpm_state_text.specs.Filling.{state_of as whole_state};
 ghost use Rattle.tpm_state_text.specs.Sizes.{state_text_size};
-ghost use Rattle.tpm_state_text.specs.State.{state_text};
+ghost use Rattle.tpm_state_text.specs.State.{current_state_of_text, state_of_text, state_text};
 
 use std::alloc::Global;
 use tpm_machine::Machine;
@@ -44,7 +44,8 @@ pub fn restore_new<K: Keep>(
     text: &[u8],
 ) -> Result<Option<Layer>, RestoreFault>
     requires { state_of K.record_of machine.old ≡ manufactured (replicate 256 0) }
-    ensures exact { RestoresNew K.can_refuse text.now (state_of K.record_of machine.new) result }
+    ensures exact { RestoresNew K.can_refuse (state_of_text text.now)
+        (state_of K.record_of machine.new) result }
     // The text of a device restores exactly that device, unless an allocation fails.
     ensures again { (state : WholeState) → IsWholeState state → text.now ≡ state_text state
         → HasState K.can_refuse state (state_of K.record_of machine.new) result }
@@ -61,9 +62,23 @@ pub fn restore_new<K: Keep>(
 /// the device that wrote the text.
 fn fill<K: Keep>(machine: &mut Machine<K>, text: &[u8]) -> Result<Option<Layer>, RestoreFault>
     requires { state_of K.record_of machine.old ≡ manufactured (replicate 256 0) }
-    ensures { RestoresNew K.can_refuse text.now (state_of K.record_of machine.new) result }
+    ensures { RestoresNew K.can_refuse (state_of_text text.now) (state_of K.record_of machine.new)
+        result }
 {
     tpm_state_text::restore_new(machine.keep_mut(), text)
+}
+
+/// Turns a new machine of zeros into the machine of a state text, as [`restore_new`] does, but only
+/// of a text of the current version.
+pub fn resume_new<K: Keep>(
+    machine: &mut Machine<K>,
+    text: &[u8],
+) -> Result<Option<Layer>, RestoreFault>
+    requires { state_of K.record_of machine.old ≡ manufactured (replicate 256 0) }
+    ensures { RestoresNew K.can_refuse (current_state_of_text text.now)
+        (state_of K.record_of machine.new) result }
+{
+    tpm_state_text::resume_new(machine.keep_mut(), text)
 }
 
 /// Returns the machine of a state text, with its completing layer; or the first fault of the

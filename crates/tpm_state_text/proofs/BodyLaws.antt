@@ -97,7 +97,7 @@ record_of f =
       nv = nv_of f.0.0.0.0.0.0.0;
     }
 
-device_spelled : Spelled device_text IsRecord device_in
+pub device_spelled : Spelled device_text IsRecord device_in
 unfolding device_in resumed_in device_text volatile_text
 device_spelled =
     let places = then sessions_spelled (then transients_spelled (all_read fields_of record_of (λ _. refl) (λ _. refl))) in

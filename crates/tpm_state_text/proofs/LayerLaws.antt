@@ -5,13 +5,12 @@ use Rattle.std.specs.Int.{w64, to_be_bytes}
 use Rattle.std.specs.List.{All, flat_map}
 use Rattle.std.proofs.lemmas.List.Elements.{All-from_recursion, recursion_from_All}
 use Rattle.tpm_bytes.specs.Many.{many_at}
-use Rattle.tpm_types.proofs.Spelled.{Spelled, all_read, first, four_texts, respelled, then, two_texts}
-use Rattle.tpm_types.specs.Limits.{object_limit, session_limit}
+use Rattle.tpm_types.proofs.Spelled.{Spelled, all_read, first, respelled, then}
+use Rattle.tpm_types.specs.Limits.{session_limit}
 use Rattle.tpm_image_text.specs.declared.fault.Malformed.{Malformed}
 use Rattle.tpm_image_text.specs.Fields.{number_in}
-use Rattle.tpm_image_text.proofs.FieldSpelling.{many_spelled, number_in_spelled, wide64}
-use Rattle.tpm_state_text.specs.Layer.{IsHeld, IsLayer, held_in, held_text, layer_in, layer_text}
-use Rattle.tpm_state_text.specs.declared.layer.Held.{Held}
+use Rattle.tpm_image_text.proofs.FieldSpelling.{many_spelled, number_in_spelled, three_texts, wide64}
+use Rattle.tpm_state_text.specs.Layer.{IsLayer, layer_in, layer_text}
 use Rattle.tpm_state_text.specs.declared.layer.Layer.{Layer}
 
 -- a decoder of `count` elements, one after another
@@ -21,33 +20,19 @@ all_spelled {A} {text} {Is} {at} count law =
     (λ xs is. (is.0, All-from_recursion Is xs is.1))
     (λ xs is. (is.0, recursion_from_All Is xs is.1))
 
-n64 : Spelled (to_be_bytes w64) (λ n. n < 2 ^ 64) (number_in w64)
+pub n64 : Spelled (to_be_bytes w64) (λ n. n < 2 ^ 64) (number_in w64)
 n64 = number_in_spelled w64 (2 ^ 64) wide64
 
-abbrev held_fields : Held → ℕ × ℕ
-held_fields held = (held.context, held.waits)
+abbrev layer_fields : Layer → (ℕ × ℕ) × List ℕ
+layer_fields l = ((l.start, l.count), l.sessions)
 
-abbrev held_of : ℕ × ℕ → Held
-held_of f = record { context = f.0; waits = f.1 }
-
-held_spelled : Spelled held_text IsHeld held_in
-unfolding held_in held_text
-held_spelled =
-    respelled (first n64 (then n64 (all_read held_fields held_of (λ _. refl) (λ _. refl))))
-    (λ held. two_texts (to_be_bytes w64 held.context) (to_be_bytes w64 held.waits))
-    (λ held is. record { context = is.0; waits = is.1.0 })
-    (λ held is. (is.context, (is.waits, tt)))
-
-abbrev layer_fields : Layer → ((ℕ × ℕ) × List Held) × List ℕ
-layer_fields l = (((l.start, l.count), l.objects), l.sessions)
-
-abbrev layer_of : ((ℕ × ℕ) × List Held) × List ℕ → Layer
-layer_of f = record { start = f.0.0.0; count = f.0.0.1; objects = f.0.1; sessions = f.1 }
+abbrev layer_of : (ℕ × ℕ) × List ℕ → Layer
+layer_of f = record { start = f.0.0; count = f.0.1; sessions = f.1 }
 
 pub layer_spelled : Spelled layer_text IsLayer layer_in
 unfolding layer_in layer_text
 layer_spelled =
-    respelled (first n64 (then n64 (then (all_spelled object_limit held_spelled) (then (all_spelled session_limit n64) (all_read layer_fields layer_of (λ _. refl) (λ _. refl))))))
-    (λ l. four_texts (to_be_bytes w64 l.start) (to_be_bytes w64 l.count) (flat_map held_text l.objects) (flat_map (to_be_bytes w64) l.sessions))
-    (λ l is. record { start = is.0; count = is.1.0; objects = is.1.1.0.0; each_object = is.1.1.0.1; sessions = is.1.1.1.0.0; each_session = is.1.1.1.0.1 })
-    (λ l is. (is.start, (is.count, ((is.objects, is.each_object), ((is.sessions, is.each_session), tt)))))
+    respelled (first n64 (then n64 (then (all_spelled session_limit n64) (all_read layer_fields layer_of (λ _. refl) (λ _. refl)))))
+    (λ l. three_texts (to_be_bytes w64 l.start) (to_be_bytes w64 l.count) (flat_map (to_be_bytes w64) l.sessions))
+    (λ l is. record { start = is.0; count = is.1.0; sessions = is.1.1.0.0; each_session = is.1.1.0.1 })
+    (λ l is. (is.start, (is.count, ((is.sessions, is.each_session), tt))))

@@ -1,8 +1,7 @@
 -- Sessions: decoding returns a session exactly if the bytes begin with its encoding.
-use Rattle.std.proofs.Common.{◌≡◌, ℕ, ◌^◌, ◌<◌, ◌≤◌, Bool, true, false, List, length, Option, Some, None, IfSome, refl, arith}
-use Rattle.std.specs.Prelude.{◌==◌, ◌||◌}
+use Rattle.std.proofs.Common.{◌≡◌, ℕ, ◌^◌, ◌<◌, ◌≤◌, Bool, List, length, Option, Some, None, IfSome, refl, arith}
 use Rattle.std.specs.Int.{w8, w16, w32, w64, to_be_bytes}
-use Rattle.std.proofs.lemmas.Bool.{eqb-true, leb-true, le-leb}
+use Rattle.std.proofs.lemmas.Bool.{leb-true, le-leb}
 use Rattle.tpm_bytes.specs.Writing.{sized_text}
 use Rattle.tpm_bytes.proofs.Fields.{wide8, wide32}
 use Rattle.tpm_containers.specs.Slots.{AreAll}

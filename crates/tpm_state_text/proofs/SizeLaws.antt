@@ -1,7 +1,7 @@
 -- The largest sizes of the parts of a state text.
 use Rattle.std.proofs.Common.{◌≡◌, ℕ, ◌+◌, ◌*◌, ◌^◌, ◌<◌, ◌≤◌, Bool, List, [], ◌∷◌, length, Option, Some, None, IfSome, arith, length-append}
 use Rattle.std.specs.Int.{w32, w64, to_be_bytes}
-use Rattle.std.specs.List.{AllByRecursion, flat_map}
+use Rattle.std.specs.List.{All, AllByRecursion, flat_map}
 use Rattle.std.proofs.lemmas.List.Elements.{recursion_from_All}
 use Rattle.tpm_bytes.specs.Writing.{sized_text}
 use Rattle.tpm_containers.specs.Slots.{AreAll}
@@ -16,7 +16,7 @@ use Rattle.tpm_session.specs.declared.session.Session.{Session}
 use Rattle.tpm_types.specs.Symmetric.{symmetric_text}
 use Rattle.tpm_types.specs.declared.symmetric.SymmetricDefinition.{SymmetricDefinition}
 use Rattle.tpm_types.specs.declared.symmetric.SymmetricDefinition.TheVariants.{Null, Aes128Cfb, Xor}
-use Rattle.tpm_image_text.specs.Sizes.{object_fields_size}
+use Rattle.tpm_image_text.specs.Sizes.{body_size, object_fields_size}
 use Rattle.tpm_image_text.specs.Body.{object_fields_text}
 use Rattle.tpm_image_text.proofs.ObjectLaws.{object_fields_small}
 use Rattle.tpm_image_text.specs.Fields.{yes_no_text}
@@ -26,7 +26,7 @@ use Rattle.tpm_image_text.proofs.BodyLaws.{body_small}
 use Rattle.tpm_image_text.proofs.ImageLaws.{kept_is}
 use Rattle.tpm_state_text.specs.Banks.{bank_text, banks_text}
 use Rattle.tpm_state_text.specs.Body.{IsWholeState, WholeState, body_text, device_text, volatile_text}
-use Rattle.tpm_state_text.specs.Layer.{IsHeld, IsLayer, held_text, layer_text}
+use Rattle.tpm_state_text.specs.Layer.{IsLayer, layer_text}
 use Rattle.tpm_state_text.specs.declared.layer.Layer.{Layer}
 use Rattle.tpm_state_text.specs.Objects.{transients_text}
 use Rattle.tpm_state_text.specs.Places.{optional_text, places_text}
@@ -37,12 +37,12 @@ use Rattle.tpm_state_text.proofs.PlaceLaws.{each_of_all}
 
 -- ---- optional values, and lists
 
-optional_small : {A : Type 0} (text : A → List ℕ) (Is : A → Type 0) (most : ℕ) → ((x : A) → Is x → length (text x) ≤ most) → (value : Option A) → IfSome value Is → length (optional_text text value) ≤ 1 + most
+pub optional_small : {A : Type 0} (text : A → List ℕ) (Is : A → Type 0) (most : ℕ) → ((x : A) → Is x → length (text x) ≤ most) → (value : Option A) → IfSome value Is → length (optional_text text value) ≤ 1 + most
 optional_small text Is most each None is = omega arith
 optional_small text Is most each (Some x) is = omega (arith, each x is)
 
 -- the text of a list is no longer than the largest size of an element times their number
-each_small : {A : Type 0} (text : A → List ℕ) (Is : A → Type 0) (most : ℕ) → ((x : A) → Is x → length (text x) ≤ most) → (xs : List A) → AllByRecursion Is xs → length (flat_map text xs) ≤ most * length xs
+pub each_small : {A : Type 0} (text : A → List ℕ) (Is : A → Type 0) (most : ℕ) → ((x : A) → Is x → length (text x) ≤ most) → (xs : List A) → AllByRecursion Is xs → length (flat_map text xs) ≤ most * length xs
 each_small text Is most each [] all = omega arith
 each_small text Is most each (x ∷ xs) all =
     let one = each x all.0 in
@@ -94,13 +94,16 @@ banks_small b is = simp length-append (omega (arith, is.sha1.0, is.sha256.0, ban
 
 -- ---- the layer
 
-layer_small : (l : Layer) → IsLayer l → length (layer_text l) ≤ layer_size
-unfolding layer_text held_text
-layer_small l is =
-    let objects = each_small held_text IsHeld 16 (λ held _. omega arith) l.objects (recursion_from_All IsHeld l.objects is.each_object) in
+-- the numbers of the contexts of sessions
+pub contexts_small : (sessions : List ℕ) → All (λ context. context < 2 ^ 64) sessions → length (flat_map (to_be_bytes w64) sessions) ≤ 8 * length sessions
+contexts_small sessions all =
     let IsContext : ℕ → Type 0 = λ n. n < 2 ^ 64 in
-    let sessions = each_small (to_be_bytes w64) IsContext 8 (λ n _. omega arith) l.sessions (recursion_from_All IsContext l.sessions is.each_session) in
-    simp length-append (omega (arith, is.objects, is.sessions, objects, sessions))
+    each_small (to_be_bytes w64) IsContext 8 (λ n _. omega arith) sessions (recursion_from_All IsContext sessions all)
+
+layer_small : (l : Layer) → IsLayer l → length (layer_text l) ≤ layer_size
+unfolding layer_text
+layer_small l is =
+    simp length-append (omega (arith, is.sessions, contexts_small l.sessions is.each_session))
 
 -- ---- the whole body
 
@@ -116,9 +119,13 @@ volatile_small : (r : Record) → IsRecord r → length (volatile_text r) ≤ vo
 unfolding volatile_text
 volatile_small r is = simp length-append (omega (arith, banks_small r.fixed.banks is.banks, sessions_small r is, transients_small r is))
 
+pub device_small : (r : Record) → IsRecord r → length (device_text r) ≤ body_size + volatile_size
+unfolding device_text
+device_small r is =
+    simp length-append (omega (arith, body_small Two (kept_of r) (kept_is r is), volatile_small r is))
+
 pub whole_small : (state : WholeState) → IsWholeState state → length (body_text state) + 42 ≤ state_text_size
-unfolding body_text device_text
+unfolding body_text
 whole_small s is =
-    let kept = body_small Two (kept_of s.device) (kept_is s.device is.device) in
     let layer = optional_small layer_text IsLayer layer_size layer_small s.layer is.layer in
-    simp length-append (omega (arith, kept, volatile_small s.device is.device, layer))
+    simp length-append (omega (arith, device_small s.device is.device, layer))

@@ -9,6 +9,7 @@ use Rattle.tpm_state_text.specs.Body.{WholeState}
 use Rattle.tpm_state_text.specs.State.{state_of_text}
 use Rattle.tpm_state_text.specs.declared.fault.RestoreFault.{RestoreFault}
 use Rattle.tpm_state_text.specs.declared.fault.RestoreFault.TheVariants as unrestored
+use Rattle.tpm_state_text.specs.declared.fault.StateFault.{StateFault}
 use Rattle.tpm_state_text.specs.declared.layer.Layer.{Layer}
 
 -- the state of this device with this layer
@@ -38,12 +39,14 @@ FillsState can read device (Ok layer) = read ≡ Ok (state_of device layer)
 FillsState can read device (Err unfilled.Malformed) = read ≡ Err malformed
 FillsState can read device (Err unfilled.NoMemory) = can ≡ true
 
--- A new device was set to the state of a text, and the result is its layer; or the result is the
--- first fault of the text; or an allocation failed, in which case the text may be anything.
-abbrev pub RestoresNew : Bool → List ℕ → Record → Result (Option Layer) RestoreFault → Type 0
-RestoresNew can text device (Ok layer) = state_of_text text ≡ Ok (state_of device layer)
-RestoresNew can text device (Err (unrestored.Text fault)) = state_of_text text ≡ Err fault
-RestoresNew can text device (Err unrestored.NoMemory) = can ≡ true
+-- A new device was set to the state of a text, which is `read`, and the result is its layer; or the
+-- result is the first fault of the text; or an allocation failed, in which case the text may be
+-- anything.
+abbrev pub RestoresNew : Bool → (read : Result WholeState StateFault) → Record
+    → Result (Option Layer) RestoreFault → Type 0
+RestoresNew can read device (Ok layer) = read ≡ Ok (state_of device layer)
+RestoresNew can read device (Err (unrestored.Text fault)) = read ≡ Err fault
+RestoresNew can read device (Err unrestored.NoMemory) = can ≡ true
 
 -- A device was created with the state of a text, and the result also contains its layer; or the
 -- result is the first fault of the text; or an allocation failed, in which case the text may be

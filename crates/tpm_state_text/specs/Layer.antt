@@ -1,5 +1,5 @@
--- What the completing layer remembers, if a device has such a layer: its contexts. TPM 2.0
--- Library, Part 1, section 30 (context management). The same record is `Completion` in
+-- What the completing layer remembers, if a device has such a layer: the contexts that it made. TPM
+-- 2.0 Library, Part 1, section 30 (context management). The same record is `Completion` in
 -- tpm_completion.
 use Rattle.std.specs.Prelude.{◌≡◌, ℕ, ◌<◌, ◌^◌, List, ◌++◌, length, Result, Ok}
 use Rattle.std.specs.Int.{w64, to_be_bytes}
@@ -8,45 +8,25 @@ use Rattle.tpm_bytes.specs.Many.{many_at}
 use Rattle.tpm_bytes.specs.Reading.{◌>>=◌}
 use Rattle.tpm_image_text.specs.Fields.{number_in}
 use Rattle.tpm_image_text.specs.declared.fault.Malformed.{Malformed}
-use Rattle.tpm_types.specs.Limits.{object_limit, session_limit}
-use Rattle.tpm_state_text.specs.declared.layer.Held.{Held}
+use Rattle.tpm_types.specs.Limits.{session_limit}
 use Rattle.tpm_state_text.specs.declared.layer.Layer.{Layer}
 
--- A layer stores only 64-bit numbers, with one slot for each object and each session.
-pub record IsHeld (held : Held) : Type 0 where
-  pub context : held.context < 2 ^ 64
-  pub waits : held.waits < 2 ^ 64
-
+-- A layer stores only 64-bit numbers, with one slot for each session.
 pub record IsLayer (layer : Layer) : Type 0 where
   pub start : layer.start < 2 ^ 64
   pub count : layer.count < 2 ^ 64
-  pub objects : length layer.objects ≡ object_limit
-  pub each_object : All IsHeld layer.objects
   pub sessions : length layer.sessions ≡ session_limit
   pub each_session : All (λ context. context < 2 ^ 64) layer.sessions
 
-unfoldable pub held_text : Held → List ℕ
-held_text held = to_be_bytes w64 held.context ++ to_be_bytes w64 held.waits
-
-unfoldable pub held_in : List ℕ → Result (Held × List ℕ) Malformed
-held_in text = do
-  context ← number_in w64 text
-  waits ← number_in w64 context.1
-  Ok (record { context = context.0; waits = waits.0 }, waits.1)
-
--- the text of a layer: the start, the count, the objects and the sessions
+-- the text of a layer: the start, the count and the sessions
 unfoldable pub layer_text : Layer → List ℕ
 layer_text layer =
     to_be_bytes w64 layer.start ++ to_be_bytes w64 layer.count
-    ++ flat_map held_text layer.objects ++ flat_map (to_be_bytes w64) layer.sessions
+    ++ flat_map (to_be_bytes w64) layer.sessions
 
 unfoldable pub layer_in : List ℕ → Result (Layer × List ℕ) Malformed
 layer_in text = do
   start ← number_in w64 text
   count ← number_in w64 start.1
-  objects ← many_at held_in object_limit count.1
-  sessions ← many_at (number_in w64) session_limit objects.1
-  Ok (
-    record { start = start.0; count = count.0; objects = objects.0; sessions = sessions.0 },
-    sessions.1,
-  )
+  sessions ← many_at (number_in w64) session_limit count.1
+  Ok (record { start = start.0; count = count.0; sessions = sessions.0 }, sessions.1)

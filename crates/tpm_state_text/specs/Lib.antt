@@ -3,8 +3,10 @@ pub mod Policies
 pub mod Sessions
 pub mod Objects
 pub mod Banks
+pub mod Version
 pub mod Layer
 pub mod Body
+pub mod Earlier
 pub mod Frame
 pub mod State
 pub mod Filling

@@ -2,7 +2,7 @@
 -- docs/table/sessions.md, say what a session contains. Part 2, sections 6.11 (TPM_SE), 6.3
 -- (TPM_ALG_ID) and 11.1.6 (TPMT_SYM_DEF), say how its type, hash and symmetric definition are
 -- encoded. The rest of the layout is this device's own.
-use Rattle.std.specs.Prelude.{ℕ, ◌==◌, Bool, List, ◌++◌, length, if◌then◌else◌, Option, Some, None, Result, Ok}
+use Rattle.std.specs.Prelude.{ℕ, ◌==◌, List, ◌++◌, if◌then◌else◌, Option, Some, None, Result, Ok}
 use Rattle.std.specs.Int.{w8, w16, to_be_bytes}
 use Rattle.tpm_bytes.specs.Reading.{◌>>=◌}
 use Rattle.tpm_bytes.specs.Writing.{sized_text}

@@ -26,10 +26,13 @@ banks_size = 24 * 20 + 24 * 32 + 8
 abbrev pub volatile_size : ℕ
 volatile_size = 25 + banks_size + sessions_size + transients_size
 
--- the size of a layer
+-- the size of a layer, and of a layer in version 1
 abbrev pub layer_size : ℕ
-layer_size = 16 + object_limit * 16 + session_limit * 8
+layer_size = 16 + session_limit * 8
 
--- the largest size of a state text, including the 10-byte head and the 32-byte digest: 36,323
+abbrev pub earlier_layer_size : ℕ
+earlier_layer_size = layer_size + object_limit * 16
+
+-- the largest size of a state text, including the 10-byte head and the 32-byte digest: 36,195
 abbrev pub state_text_size : ℕ
 state_text_size = 10 + (body_size + volatile_size + 1 + layer_size) + 32

@@ -1,24 +1,58 @@
 -- The state text of a device: its complete state, as bytes. A device that is restored from them
 -- continues from the same state. TPM 2.0 Library, Part 1, section 12.2, defines the state of a
--- TPM; the encoding is this device's own (docs/table/state_text.md).
-use Rattle.std.specs.Prelude.{◌≡◌, ℕ, List, length, take, drop, Result}
-use Rattle.tpm_bytes.specs.Reading.{◌>>=◌, or_fault}
+-- TPM; the encoding is this device's own (docs/table/state_text.md). Of its two versions, the
+-- device writes version 2 and reads both.
+use Rattle.std.specs.Prelude.{◌≡◌, ◌⊎◌, ℕ, List, length, take, drop, Result, Ok}
+use Rattle.tpm_bytes.specs.Reading.{◌>>=◌, or_fault, refused_if}
 use Rattle.tpm_image_text.specs.Frame.{head_bytes, within_frame}
+use Rattle.tpm_image_text.specs.declared.fault.Malformed.{Malformed}
 use Rattle.tpm_state_text.specs.Body.{WholeState, body_text, state_of_body}
+use Rattle.tpm_state_text.specs.Earlier.{EarlierState, IsEarlierState, current, earlier_body_text, earlier_state_of_body}
 use Rattle.tpm_state_text.specs.Frame.{framed_state, state_format}
+use Rattle.tpm_state_text.specs.Version.{is_earlier}
 use Rattle.tpm_state_text.specs.declared.fault.StateFault.{StateFault}
 use Rattle.tpm_state_text.specs.declared.fault.StateFault.TheVariants as fault
+use Rattle.tpm_state_text.specs.declared.version.StateVersion.{StateVersion}
+use Rattle.tpm_state_text.specs.declared.version.StateVersion.TheVariants.{One, Two}
 
 -- the state text of a device
 unfoldable pub state_text : WholeState → List ℕ
-state_text state = framed_state (body_text state)
+state_text state = framed_state Two (body_text state)
+
+-- the state text of a device in version 1
+unfoldable pub earlier_text : EarlierState → List ℕ
+earlier_text state = framed_state One (earlier_body_text state)
+
+-- the state in a body of this version; of version 1 without the objects that wait
+unfoldable pub state_in_body : StateVersion → List ℕ → Result WholeState Malformed
+state_in_body One body = do
+  state ← earlier_state_of_body body
+  Ok (current state)
+state_in_body Two body = state_of_body body
 
 -- the state that a text encodes, or the first fault of the text: Short, Magic, Version, Length,
 -- Digest, Body
 abbrev pub state_of_text : List ℕ → Result WholeState StateFault
 state_of_text text = do
   framed ← within_frame state_format text
+  or_fault (state_in_body framed.0 framed.1) fault.Body
+
+-- the same for texts of version 2 only; Earlier for a text of version 1 with a correct frame. A
+-- journal begins with such a text: the commands after it were executed with the layer of its
+-- version.
+abbrev pub current_state_of_text : List ℕ → Result WholeState StateFault
+current_state_of_text text = do
+  framed ← within_frame state_format text
+  is_current ← refused_if (is_earlier framed.0) fault.Earlier
   or_fault (state_of_body framed.1) fault.Body
+
+-- A text encodes this state: it is the state text of the state; or it is a text in version 1, and
+-- the state is what is read from it.
+abbrev pub Encodes : List ℕ → WholeState → Type 0
+Encodes text state =
+    (text ≡ state_text state)
+    ⊎ ((earlier : EarlierState) × IsEarlierState earlier × (text ≡ earlier_text earlier)
+    × (state ≡ current earlier))
 
 -- The bytes `part` directly follow the head of a text.
 abbrev pub HasBehindHead : (text part : List ℕ) → Type 0

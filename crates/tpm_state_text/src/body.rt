@@ -2,11 +2,11 @@
 
 ghost use Rattle.std.specs.Prelude.{◌≡◌, ◌≤◌, ◌+◌, ◌++◌, [], length, option_copied, replicate};
 ghost use Rattle.tpm_image_text.specs.Filling.{Fills};
-ghost use Rattle.tpm_image_text.specs.Sizes.{body_size, more_size};
+ghost use Rattle.tpm_image_text.specs.Sizes.{body_size};
 ghost use Rattle.tpm_record.specs.Record.{manufactured};
 ghost use Rattle.tpm_state_text.specs.Body.{body_text, device_in, device_text, state_of_body};
 ghost use Rattle.tpm_state_text.specs.Filling.{FillsState, state_of};
-ghost use Rattle.tpm_state_text.specs.Sizes.{volatile_size};
+ghost use Rattle.tpm_state_text.specs.Sizes.{layer_size, volatile_size};
 
 use crate::layer::{Layer, read_optional_layer, write_optional_layer};
 use crate::volatile::{read_volatile, write_volatile};
@@ -16,7 +16,7 @@ use tpm_record::Keep;
 
 /// Reads a device into a new `Keep`.
 #[tactic(auto, unfolding(crate::specs::Body::device_in))]
-fn read_device<K: Keep>(keep: &mut K, text: &mut Cursor) -> Result<(), FillFault>
+pub fn read_device<K: Keep>(keep: &mut K, text: &mut Cursor) -> Result<(), FillFault>
     requires { K.record_of keep.old ≡ manufactured (replicate 256 0) }
     ensures { Fills K.can_refuse (device_in text.old) (K.record_of keep.new) result text.new }
 {
@@ -24,7 +24,7 @@ fn read_device<K: Keep>(keep: &mut K, text: &mut Cursor) -> Result<(), FillFault
     read_volatile(keep, text)
 }
 
-/// Reads a whole body into a new `Keep`, and returns its layer.
+/// Reads a whole body of version 2 into a new `Keep`, and returns its layer.
 #[tactic(auto, unfolding(crate::specs::Body::state_of_body, crate::specs::Body::body_in))]
 pub fn read_body<K: Keep>(keep: &mut K, body: &[u8]) -> Result<Option<Layer>, FillFault>
     requires { K.record_of keep.old ≡ manufactured (replicate 256 0) }
@@ -57,7 +57,7 @@ pub fn write_body<K: Keep>(keep: &K, layer: Option<&Layer>, text: &mut Text)
     requires { text.old ≡ [] }
     ensures written { text.new
         ≡ body_text (state_of (K.record_of keep.now) (option_copied layer.entry)) }
-    ensures small { length text.new ≤ body_size + more_size }
+    ensures small { length text.new ≤ body_size + (volatile_size + 1 + layer_size) }
 {
     write_device(keep, text);
     write_optional_layer(layer, text);

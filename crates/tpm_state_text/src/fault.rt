@@ -7,7 +7,7 @@ pub enum StateFault {
     Short,
     /// The text does not begin with TPMS.
     Magic,
-    /// The version of the text is not 1.
+    /// The version of the text is not 1 or 2.
     Version,
     /// The size of the text differs from the size in its head.
     Length,
@@ -15,6 +15,9 @@ pub enum StateFault {
     Digest,
     /// The bytes between the head and the digest do not encode a state.
     Body,
+    /// The version of the text is 1, where only version 2 is read: in the head of a journal. This
+    /// check comes after that of the digest.
+    Earlier,
 }
 
 /// The reasons why a device was not restored from a state text.

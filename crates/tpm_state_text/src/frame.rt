@@ -5,38 +5,39 @@ ghost use Rattle.tpm_bytes.specs.Reading.{AreBytes, Gives};
 ghost use Rattle.tpm_image_text.specs.Frame.{head_in, within_frame};
 ghost use Rattle.tpm_image_text.specs.Sizes.{body_size, more_size};
 ghost use Rattle.tpm_state_text.specs.Frame.{state_format};
+ghost use Rattle.tpm_state_text.specs.declared.version.StateVersion.TheVariants.{Two};
 
 use crate::fault::StateFault;
+use crate::version::StateVersion;
 use tpm_bytes::Sink;
 use tpm_mac::{HashAlg, digest_parts};
 
 /// The magic bytes at the front of a state text: TPMS.
 const MAGIC: [u8; 4] = [0x54, 0x50, 0x4d, 0x53];
 
-/// The version number.
-const VERSION: u16 = 1;
-
 /// Sizes of the head and of the digest, in bytes.
 const HEAD_BYTES: usize = 10;
 
 const DIGEST_BYTES: usize = 32;
 
-/// Returns the head of a state text whose body has the given size.
+/// Returns the head of a state text whose body has the given size, in the version that this device
+/// writes.
 pub fn head(body_bytes: usize) -> Sink<10>
     requires { body_bytes ≤ body_size + more_size }
-    ensures { result ≡ head_in state_format tt (10 + body_bytes + 32) }
+    ensures { result ≡ head_in state_format Two (10 + body_bytes + 32) }
 {
     let mut head = Sink::new();
     head.append(&MAGIC);
-    head.append_u16(VERSION);
+    head.append_u16(StateVersion::Two.number());
     head.append_u32((HEAD_BYTES + body_bytes + DIGEST_BYTES) as u32);
     head
 }
 
-/// Returns the body of a framed text, or the first fault of the frame.
+/// Returns the version and the body of a framed text, or the first fault of the frame.
 #[tactic(auto, unfolding(tpm_image_text::specs::Frame::within_frame))]
-pub fn framed_body(text: &[u8]) -> Result<&[u8], StateFault>
-    ensures value { Gives (λ body. (tt, body.now)) (within_frame state_format text.now) result }
+pub fn framed_body(text: &[u8]) -> Result<(StateVersion, &[u8]), StateFault>
+    ensures value { Gives (λ framed. (framed.0, framed.1.now))
+        (within_frame state_format text.now) result }
     ensures bytes { AreBytes text.now }
 {
     if text.len() < HEAD_BYTES + DIGEST_BYTES {
@@ -45,9 +46,9 @@ pub fn framed_body(text: &[u8]) -> Result<&[u8], StateFault>
     if !text.starts_with(&MAGIC) {
         return Err(StateFault::Magic);
     }
-    if u16::from_be_bytes([text[4], text[5]]) != VERSION {
+    let Some(version) = StateVersion::numbered(u16::from_be_bytes([text[4], text[5]])) else {
         return Err(StateFault::Version);
-    }
+    };
     if u32::from_be_bytes([text[6], text[7], text[8], text[9]]) as usize != text.len() {
         return Err(StateFault::Length);
     }
@@ -55,5 +56,5 @@ pub fn framed_body(text: &[u8]) -> Result<&[u8], StateFault>
     if digest_parts(HashAlg::Sha256, &[before]).as_slice() != digest {
         return Err(StateFault::Digest);
     }
-    Ok(&before[HEAD_BYTES..])
+    Ok((version, &before[HEAD_BYTES..]))
 }

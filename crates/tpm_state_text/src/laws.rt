@@ -8,14 +8,15 @@ ghost use Rattle.tpm_image_text.specs.Image.{image_text};
 ghost use Rattle.tpm_image_text.specs.NonVolatile.{kept_of};
 ghost use Rattle.tpm_image_text.specs.declared.version.Version.TheVariants.{Two};
 ghost use Rattle.tpm_state_text.specs.Body.{IsWholeState, WholeState};
+ghost use Rattle.tpm_state_text.specs.Earlier.{EarlierState, IsEarlierState, current};
 ghost use Rattle.tpm_state_text.specs.Sizes.{state_text_size};
-ghost use Rattle.tpm_state_text.specs.State.{HasBehindHead, state_of_text, state_text};
+ghost use Rattle.tpm_state_text.specs.State.{Encodes, HasBehindHead, current_state_of_text, earlier_text, state_of_text, state_text};
 ghost use Rattle.tpm_state_text.specs.declared.fault.StateFault.TheVariants as fault;
 
 /// Decoding the state text of a device returns exactly that device, with its completing layer. If
-/// decoding returns a device, the bytes are the state text of that device, which is a possible
-/// one. Two devices with the same state text are equal, and no state text exceeds the largest
-/// size.
+/// decoding returns a device, which is a possible one, the bytes are the state text of that device;
+/// or they have version 1, and the device is without the objects that wait. Two devices with the
+/// same state text are equal, and no state text exceeds the largest size.
 #[inline(always)]
 #[tactic(auto, using(crate::proofs::StateLaws::text_told, crate::proofs::StateLaws::one_state, crate::proofs::StateLaws::text_small))]
 pub fn state_laws()
@@ -23,11 +24,30 @@ pub fn state_laws()
         → state_of_text (state_text state) ≡ Ok state }
     ensures found { (text : List ℕ) (state : WholeState) → AreBytes text
         → state_of_text text ≡ Ok state
-        → IsWholeState state × (text ≡ state_text state) }
+        → IsWholeState state × Encodes text state }
     ensures one { (state other : WholeState) → IsWholeState state → IsWholeState other
         → state_text state ≡ state_text other → state ≡ other }
     ensures small { (state : WholeState) → IsWholeState state
         → length (state_text state) ≤ state_text_size }
+{}
+
+/// A text of version 1 is read as its state without the objects that wait, which is a possible
+/// state. Where only version 2 is read, version 1 is refused with Earlier, and the state text of a
+/// device, and nothing else, decodes to this device.
+#[inline(always)]
+#[tactic(auto, using(crate::proofs::StateLaws::earlier_told, crate::proofs::StateLaws::earlier_refused, crate::proofs::StateLaws::current_told, crate::proofs::StateLaws::current_found, crate::proofs::EarlierLaws::current_is))]
+pub fn version_laws()
+    ensures earlier { (state : EarlierState) → IsEarlierState state
+        → state_of_text (earlier_text state) ≡ Ok (current state) }
+    ensures possible { (state : EarlierState) → IsEarlierState state
+        → IsWholeState (current state) }
+    ensures refused { (state : EarlierState) → IsEarlierState state
+        → current_state_of_text (earlier_text state) ≡ Err fault.Earlier }
+    ensures told { (state : WholeState) → IsWholeState state
+        → current_state_of_text (state_text state) ≡ Ok state }
+    ensures found { (text : List ℕ) (state : WholeState) → AreBytes text
+        → current_state_of_text text ≡ Ok state
+        → IsWholeState state × (text ≡ state_text state) }
 {}
 
 /// In the state text of a device, the head is followed by the body of the device's image in

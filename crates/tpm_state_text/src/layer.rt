@@ -7,65 +7,29 @@ ghost use Rattle.tpm_bytes.specs.Many.{many_at};
 ghost use Rattle.tpm_bytes.specs.Reading.{Reads};
 ghost use Rattle.tpm_image_text.specs.Fields.{number_in};
 ghost use Rattle.tpm_image_text.specs.Sizes.{text_size};
-ghost use Rattle.tpm_state_text.specs.Layer.{held_in, held_text, layer_in, layer_text};
+ghost use Rattle.tpm_state_text.specs.Layer.{layer_in, layer_text};
 ghost use Rattle.tpm_state_text.specs.Places.{optional_in, optional_text};
 ghost use Rattle.tpm_state_text.specs.Sizes.{layer_size};
 
 use tpm_bytes::Cursor;
 use tpm_image_text::{Malformed, Text, read_bool, read_u64, write_bool, write_u64};
-use tpm_types::{OBJECT_LIMIT, SESSION_LIMIT};
-
-/// What the completing layer remembers of a transient object: the number of its context, and the
-/// number of its flush. Each number is 0 if there was no context or no flush.
-#[derive(Clone, Copy, PartialEq, Eq)]
-pub struct Held {
-    pub context: u64,
-    pub waits: u64,
-}
+use tpm_types::SESSION_LIMIT;
 
 /// What the completing layer remembers.
 #[derive(Clone, Copy, PartialEq, Eq)]
 pub struct Layer {
     /// The number of the layer's start.
     pub start: u64,
-    /// The number of contexts and flushes that the layer counted.
+    /// The sequence of the latest context.
     pub count: u64,
-    /// What the layer remembers of each transient object, by slot.
-    pub objects: [Held; 8],
     /// The number of the context in which each session was saved, by slot; 0 if the session is
     /// loaded.
     pub sessions: [u64; 16],
 }
 
-#[tactic(auto, unfolding(crate::specs::Layer::held_in))]
-fn read_held(text: &mut Cursor) -> Result<Held, Malformed>
-    ensures { Reads (λ held. held) (held_in text.old) text.old result text.new }
-{
-    let mut ahead = Cursor::new(text.rest());
-    let context = read_u64(&mut ahead)?;
-    let waits = read_u64(&mut ahead)?;
-    *text = ahead;
-    Ok(Held { context, waits })
-}
-
+/// Reads the numbers of the contexts of all sessions.
 #[tactic(auto, using(crate::proofs::Loops::left_laws))]
-fn read_objects(text: &mut Cursor) -> Result<[Held; 8], Malformed>
-    ensures { Reads (λ objects. objects) (many_at held_in 8 text.old) text.old result text.new }
-{
-    let mut ahead = Cursor::new(text.rest());
-    let mut objects = [Held {
-        context: 0,
-        waits: 0,
-    }; 8];
-    for place in 0..OBJECT_LIMIT {
-        objects[place] = read_held(&mut ahead)?;
-    }
-    *text = ahead;
-    Ok(objects)
-}
-
-#[tactic(auto, using(crate::proofs::Loops::left_laws))]
-fn read_sessions(text: &mut Cursor) -> Result<[u64; 16], Malformed>
+pub fn read_sessions(text: &mut Cursor) -> Result<[u64; 16], Malformed>
     ensures { Reads (λ sessions. sessions) (many_at (number_in w64) 16 text.old) text.old
         result text.new }
 {
@@ -85,13 +49,11 @@ fn read_layer(text: &mut Cursor) -> Result<Layer, Malformed>
     let mut ahead = Cursor::new(text.rest());
     let start = read_u64(&mut ahead)?;
     let count = read_u64(&mut ahead)?;
-    let objects = read_objects(&mut ahead)?;
     let sessions = read_sessions(&mut ahead)?;
     *text = ahead;
     Ok(Layer {
         start,
         count,
-        objects,
         sessions,
     })
 }
@@ -108,26 +70,6 @@ pub fn read_optional_layer(text: &mut Cursor) -> Result<Option<Layer>, Malformed
     };
     *text = ahead;
     Ok(layer)
-}
-
-#[tactic(auto, unfolding(crate::specs::Layer::held_text))]
-fn write_held(held: &Held, text: &mut Text)
-    requires { length text.old + 16 ≤ text_size }
-    ensures written { text.new ≡ text.old ++ held_text held.now }
-    ensures small { length text.new ≡ length text.old + 16 }
-{
-    write_u64(held.context, text);
-    write_u64(held.waits, text);
-}
-
-fn write_objects(objects: &[Held; 8], text: &mut Text)
-    requires { length text.old + 128 ≤ text_size }
-    ensures written { text.new ≡ text.old ++ flat_map held_text objects.now }
-    ensures small { length text.new ≡ length text.old + 128 }
-{
-    for held in objects {
-        write_held(held, text);
-    }
 }
 
 fn write_sessions(sessions: &[u64; 16], text: &mut Text)
@@ -148,7 +90,6 @@ fn write_layer(layer: &Layer, text: &mut Text)
 {
     write_u64(layer.start, text);
     write_u64(layer.count, text);
-    write_objects(&layer.objects, text);
     write_sessions(&layer.sessions, text);
 }
 

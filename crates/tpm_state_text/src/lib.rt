@@ -8,16 +8,18 @@
 //! of an image, which tpm_image_text writes. This crate adds what a power cycle would clear, and
 //! what the completing layer remembers.
 //!
-//! [`snapshot_into`] writes the text of a device. [`restored`], [`restore_new`] and
-//! [`restore_into`] read such a text, into any type that keeps a device's state. They allocate
-//! memory only for the state itself.
+//! [`snapshot_into`] writes the text of a device, in version 2. [`restored`], [`restore_new`] and
+//! [`restore_into`] read a text of version 1 or 2, into any type that keeps a device's state.
+//! [`resume_new`] reads only version 2. They allocate memory only for the state itself.
 //!
 //! Decoding the state text of a device returns exactly that device. Decoding succeeds only on the
-//! state text of a possible device. No proper prefix of a state text is a state text ([`laws`]).
+//! text of a possible device, in version 1 without the objects that wait for their contexts. No
+//! proper prefix of a state text is a state text ([`laws`]).
 
 mod banks;
 mod bindings;
 mod body;
+pub mod earlier;
 pub mod fault;
 mod frame;
 pub mod laws;
@@ -29,9 +31,11 @@ mod restoring;
 mod session;
 mod sessions;
 mod snapshot;
+pub mod version;
 mod volatile;
 
 pub use fault::{RestoreFault, StateFault};
-pub use layer::{Held, Layer};
-pub use restoring::{restore_into, restore_new, restored};
+pub use layer::Layer;
+pub use restoring::{restore_into, restore_new, restored, resume_new};
 pub use snapshot::{STATE_TEXT_LIMIT, StateBody, snapshot_into, write_state};
+pub use version::StateVersion;

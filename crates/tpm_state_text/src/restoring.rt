@@ -3,28 +3,69 @@
 ghost use Rattle.std.specs.Prelude.{◌≡◌, ◌||◌, replicate};
 ghost use Rattle.tpm_record.specs.Record.{manufactured};
 ghost use Rattle.tpm_state_text.specs.Body.{IsWholeState, WholeState};
-ghost use Rattle.tpm_state_text.specs.Filling.{Restores, RestoresAgain, RestoresInto, RestoresNew};
-ghost use Rattle.tpm_state_text.specs.State.{state_text};
+ghost use Rattle.tpm_state_text.specs.Filling.{FillsState, Restores, RestoresAgain, RestoresInto, RestoresNew};
+ghost use Rattle.tpm_state_text.specs.State.{current_state_of_text, state_in_body, state_of_text, state_text};
 
 use crate::body::read_body;
+use crate::earlier::read_earlier_body;
 use crate::fault::{RestoreFault, StateFault};
 use crate::frame::framed_body;
 use crate::layer::Layer;
+use crate::version::StateVersion;
 use std::alloc::Global;
 use tpm_image_text::FillFault;
 use tpm_record::Keep;
+
+/// Reads the body of a text of this version into a new device of zeros, and returns the completing
+/// layer.
+#[tactic(auto, unfolding(crate::specs::State::state_in_body))]
+fn read_version<K: Keep>(
+    keep: &mut K,
+    version: StateVersion,
+    body: &[u8],
+) -> Result<Option<Layer>, FillFault>
+    requires { K.record_of keep.old ≡ manufactured (replicate 256 0) }
+    ensures { FillsState K.can_refuse (state_in_body version body.now) (K.record_of keep.new)
+        result }
+{
+    match version {
+        StateVersion::One => read_earlier_body(keep, body),
+        StateVersion::Two => read_body(keep, body),
+    }
+}
 
 /// Turns a new device of zeros into the device of a state text, without moving it, and returns
 /// the completing layer; or returns the first fault of the text. On error, the device's state is
 /// unspecified.
 pub fn restore_new<K: Keep>(keep: &mut K, text: &[u8]) -> Result<Option<Layer>, RestoreFault>
     requires { K.record_of keep.old ≡ manufactured (replicate 256 0) }
-    ensures { RestoresNew K.can_refuse text.now (K.record_of keep.new) result }
+    ensures { RestoresNew K.can_refuse (state_of_text text.now) (K.record_of keep.new) result }
 {
-    let body = match framed_body(text) {
-        Ok(body) => body,
+    let (version, body) = match framed_body(text) {
+        Ok(framed) => framed,
         Err(fault) => return Err(RestoreFault::Text(fault)),
     };
+    match read_version(keep, version, body) {
+        Ok(layer) => Ok(layer),
+        Err(FillFault::Malformed) => Err(RestoreFault::Text(StateFault::Body)),
+        Err(FillFault::NoMemory) => Err(RestoreFault::NoMemory),
+    }
+}
+
+/// Turns a new device of zeros into the device of a state text, as [`restore_new`] does, but only
+/// of a text of version 2.
+pub fn resume_new<K: Keep>(keep: &mut K, text: &[u8]) -> Result<Option<Layer>, RestoreFault>
+    requires { K.record_of keep.old ≡ manufactured (replicate 256 0) }
+    ensures { RestoresNew K.can_refuse (current_state_of_text text.now) (K.record_of keep.new)
+        result }
+{
+    let (version, body) = match framed_body(text) {
+        Ok(framed) => framed,
+        Err(fault) => return Err(RestoreFault::Text(fault)),
+    };
+    if version == StateVersion::One {
+        return Err(RestoreFault::Text(StateFault::Earlier));
+    }
     match read_body(keep, body) {
         Ok(layer) => Ok(layer),
         Err(FillFault::Malformed) => Err(RestoreFault::Text(StateFault::Body)),

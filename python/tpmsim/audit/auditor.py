@@ -13,6 +13,7 @@ from tpmsim.audit.session_lines import SessionLines
 from tpmsim.audit.start import Start
 from tpmsim.audit.uses import Guesses, Refusals, Uses
 from tpmsim.audit.watch import Entities, Seen, Watch
+from tpmsim.model.history import ObjectPlaced
 from tpmsim.model.image import Fault
 from tpmsim.model.player import LINES
 from tpmsim.policies.policy_file import PolicyFile
@@ -106,8 +107,6 @@ class Auditor:
     def command(self, step: records.Command) -> None:
         event = step.buffer, step.locality, step.random, step.elapsed
         outcome = self.watch.executed(*event, step.completes)
-        for it in self.watch.others:
-            self.note(it)
         trace = records.COMPLETED
         if not step.completes:
             trace = lines.traced(outcome, step.locality, step.elapsed)
@@ -122,6 +121,8 @@ class Auditor:
                 self.refuse(seen)
             else:
                 self.accept(seen)
+            if seen.placed is not None:
+                self.place(seen, seen.placed)
             self.follow()
         except Disagreement as fault:
             name = "power" if seen.is_power_cycle else command_name(seen.outcome.row.code)
@@ -164,6 +165,12 @@ class Auditor:
         else:
             self.counts.accepted += 1
         self.note(seen)
+
+    def place(self, seen: Seen, placed: ObjectPlaced) -> None:
+        """Adds the object of a context to the history."""
+        self.history.add(placed)
+        self.values.place(seen, placed)
+        self.entities.place(seen, placed)
 
     def note(self, seen: Seen) -> None:
         """Judges an event's entries by the history before it, then adds to the history what the

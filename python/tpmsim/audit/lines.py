@@ -12,7 +12,7 @@ from tpmsim.audit.log import section
 from tpmsim.audit.watch import Seen
 from tpmsim.explain.words import command_words
 from tpmsim.model import pcrs, state
-from tpmsim.model.history import Accepted, defined_index, History
+from tpmsim.model.history import Accepted, defined_index, History, ObjectPlaced
 from tpmsim.model.machine import Model
 from tpmsim.model.parameters import Selection
 from tpmsim.policies.pcr_values import PcrValues
@@ -112,6 +112,9 @@ class ValueLines:
         if not seen.is_power_cycle:
             handles = handles_set(seen.accepted)
             self.set_by |= dict.fromkeys(handles, f"that line {seen.line} set")
+
+    def place(self, seen: Seen, placed: ObjectPlaced) -> None:
+        self.set_by[placed.handle] = f"that the context of line {seen.line} has"
 
     def words(self, handle: int, value: bytes) -> str:
         if not value:

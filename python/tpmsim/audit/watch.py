@@ -8,7 +8,7 @@ from tpmsim.explain.play import Event, OF_ENTRIES, Watched
 from tpmsim.explain.words import handle_words
 from tpmsim.model import nv_commands
 from tpmsim.model.general import Command
-from tpmsim.model.history import Accepted, defined_index, PowerCycle
+from tpmsim.model.history import Accepted, defined_index, ObjectPlaced, PastEvent, PowerCycle
 from tpmsim.model.machine import Model, Outcome
 from tpmsim.model.protection import LOCKOUT_AUTH, TRIES
 from tpmsim.standard import CC, KEYEDHASH, name_of, nv, objects, RH_LOCKOUT
@@ -60,7 +60,8 @@ def view_of(device: Model, handle: int) -> View:
 @dataclass
 class Seen:
     """An event. `known` is the command, if it passed the general checks, with a view of each handle
-    before the command; `event` is what is known about it, if it was accepted.
+    before the command; `event` is what is known about it, if it was accepted; `placed` is the
+    object of a context, if the completing layer loaded one for the command.
     """
 
     buffer: bytes = b""
@@ -70,6 +71,7 @@ class Seen:
     known: Command | None = None
     views: list[View] = field(default_factory=list)
     event: Accepted | PowerCycle | None = None
+    placed: ObjectPlaced | None = None
     line: int = 0
 
     @property
@@ -115,7 +117,6 @@ class Watch(Watched):
         # The history judges a refusal for an entry.
         super().__init__(device, lambda scene: not is_of_entry(scene.check, scene.refused))
         self.seen: Seen | None = None
-        self.others = list[Seen]()
         setattr(device, "tell", self.told)
 
     @property
@@ -126,27 +127,20 @@ class Watch(Watched):
     def executed(
         self, buffer: bytes, locality: int, random: bytes, elapsed: int, completes: bool = False
     ) -> Outcome:
-        """Executes an event; appends to `others` the commands that the completing layer sent to the
-        device for it.
-        """
-        self.seen, self.others = Seen(buffer, locality, elapsed), []
+        """Executes a command."""
+        self.seen = Seen(buffer, locality, elapsed)
         self.seen.explained = self.command(buffer, locality, random, elapsed, completes)
         return self.seen.outcome
-
-    def give_up(self, buffer: bytes, locality: int, random: bytes, elapsed: int) -> Outcome:
-        asked, self.seen = self.latest, Seen(buffer, locality, elapsed, line=self.line)
-        outcome = super().give_up(buffer, locality, random, elapsed)
-        if self.seen.event is not None:
-            self.others.append(self.seen)
-        self.seen = asked
-        return outcome
 
     def authorize(self, command: Command, locality: int) -> None:
         self.latest.known = command
         self.latest.views = [view_of(self.model, it) for it in command.handles]
         super().authorize(command, locality)
 
-    def told(self, event: Accepted | PowerCycle) -> None:
+    def told(self, event: PastEvent) -> None:
+        if isinstance(event, ObjectPlaced):
+            self.latest.placed = event
+            return
         if isinstance(event, PowerCycle):
             self.seen = Seen()
         self.latest.event = event
@@ -223,6 +217,10 @@ class Entities:
 
     def of(self, handle: int) -> Entity:
         return self.now.get(handle) or self.keep(Entity(handle, handle_words(handle)))
+
+    def place(self, seen: Seen, placed: ObjectPlaced) -> None:
+        """Notes the object of a context."""
+        self.begin(placed.handle, seen.line, f"of line {seen.line} (ContextLoad)")
 
     def note(self, seen: Seen) -> None:
         """Notes an event that the device has executed."""

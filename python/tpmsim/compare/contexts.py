@@ -8,7 +8,8 @@ from dataclasses import dataclass
 from typing import TYPE_CHECKING
 
 from tpmsim.device import Unsupported
-from tpmsim.model.completion import Asked, asked_of, CONTEXT_LOAD, CONTEXT_SAVE, numbers_of
+from tpmsim.model.completion import Asked, asked_of, CONTEXT_LOAD, CONTEXT_SAVE, names_session
+from tpmsim.model.completion import numbers_of
 from tpmsim.standard import command, number
 
 if TYPE_CHECKING:
@@ -60,6 +61,15 @@ class Contexts:
         elif asked.code == CONTEXT_LOAD:
             self.loaded(int.from_bytes(here[10:14], "big"), there, self.kept.get(asked.parameters))
 
+    def lose(self, buffer: bytes, here: bytes, line: int) -> None:
+        """Notes an object or a session that a line loaded on this device only."""
+        if loads_context(buffer):
+            self.translation.lost[int.from_bytes(here[10:14], "big")] = line
+
+    def power_cycle(self) -> None:
+        """Forgets the contexts of sessions. Those of objects may still be loaded."""
+        self.kept = {text: it for text, it in self.kept.items() if not names_session(text)}
+
     def loaded(self, handle: int, there: bytes, kept: Kept | None) -> None:
         """Notes that a reloaded object or session has a different handle on the other TPM than
         before.
@@ -69,6 +79,12 @@ class Contexts:
         self.translation.lost.pop(handle, None)
         if kept is not None and kept.name is not None:
             self.translation.known.note(other, kept.name, kept.auth_value)
+
+
+def loads_context(buffer: bytes) -> bool:
+    """Whether a command is TPM2_ContextLoad."""
+    asked = asked_of(buffer)
+    return asked is not None and asked.code == CONTEXT_LOAD
 
 
 def handle_of(asked: Asked) -> int | None:

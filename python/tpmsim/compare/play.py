@@ -4,6 +4,7 @@ from dataclasses import dataclass, field, replace
 
 from tpmsim import records
 from tpmsim.caller.entries import Prepared
+from tpmsim.compare.contexts import loads_context
 from tpmsim.compare.differences import between, code_word, Difference
 from tpmsim.compare.reference import parsed, Received, Reference
 from tpmsim.compare.translation import NotComparable, Translation
@@ -180,9 +181,10 @@ class Comparison:
         name = command_name(int.from_bytes(event.buffer[6:10], "big")) or "?"
         if codes[0] != codes[1]:
             self.differ(name, asked, "code", *map(code_word, codes))
-        if asked is None and not any(codes):
-            self.translation.contexts.note(event.buffer, event.response, response)
-        if asked is None or isinstance(prepared, bytes):
+        if asked is None:
+            self.note_context(event, response)
+            return
+        if isinstance(prepared, bytes):
             return
         there = self.translation.received(prepared, response) if not codes[1] else None
         if there and not codes[0]:
@@ -198,6 +200,18 @@ class Comparison:
             self.flush(there.handle)
             if asked.code == CC.NV_DefineSpace:
                 self.other.execute(self.translation.undefining(there))
+
+    def note_context(self, event: Executed, response: bytes) -> None:
+        """Notes the context that a command saved or loaded, if any."""
+        contexts = self.translation.contexts
+        is_here, is_there = (not any(it[6:10]) for it in (event.response, response))
+        if is_here and is_there:
+            contexts.note(event.buffer, event.response, response)
+        elif is_here:
+            contexts.lose(event.buffer, event.response, self.line)
+        elif is_there and loads_context(event.buffer):
+            # Removes what is loaded only on the other TPM.
+            self.flush(int.from_bytes(response[10:14], "big"))
 
     def differ(self, name: str, asked: Command | None, what: str, here: str, there: str) -> None:
         touched = self.touched(asked, what)
@@ -233,7 +247,10 @@ class Comparison:
         """Notes what only this device has now, since a command returned or made it, and what it
         ended.
         """
-        if asked is None or any(event.response[6:10]):
+        if any(event.response[6:10]):
+            return
+        if asked is None:
+            self.translation.contexts.lose(event.buffer, event.response, line)
             return
         lost = self.translation.lost
         if asked.code.answers_handle:

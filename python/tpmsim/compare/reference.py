@@ -5,7 +5,7 @@ from typing import Any
 
 from tpmsim import records
 from tpmsim.device import library
-from tpmsim.device.base import Executed
+from tpmsim.device.base import Executed, Snapshot
 from tpmsim.device.child import ChildDevice
 from tpmsim.device.library import LibraryDevice
 from tpmsim.device.told import Device
@@ -13,6 +13,7 @@ from tpmsim.model import image, state_text
 from tpmsim.model.completion import Completion
 from tpmsim.model.general import Command
 from tpmsim.model.machine import MANUFACTURED, Model, Outcome
+from tpmsim.model.object_rules import Object
 from tpmsim.model.policy_state import Session
 from tpmsim.model.protection import Lockout
 from tpmsim.records import goes_on, opened
@@ -78,7 +79,7 @@ class Reference:
             self.outcome(*told)
             self.layer.forget(self.model)
             return self.event
-        done = self.layer.execute(self.model, told, self.outcome, self.outcome)
+        done = self.layer.execute(self.model, told, self.outcome, self.place)
         return Executed(*(step.buffer, done.outcome.response, step.locality, step.elapsed))
 
     def outcome(self, buffer: bytes, locality: int, random: bytes, elapsed: int) -> Outcome:
@@ -87,6 +88,12 @@ class Reference:
         if outcome.response != self.event.response:
             raise AssertionError(f"the device in Python answers otherwise: {buffer.hex()}")
         return outcome
+
+    def place(self, kept: Object) -> int | None:
+        """Places the object of a context in both instances."""
+        handle = self.model.place(kept)
+        self.device.resume(Snapshot.of(state_text.state_text(self.model)))
+        return handle
 
     def is_device_of(self, step: records.Begin) -> bool:
         if not goes_on(self.model, step.content):

@@ -43,7 +43,7 @@ class Translation:
         for handle in [it for it in self.handles if is_session(it) or first_byte(it) == 0x80]:
             del self.handles[handle]
         self.sessions, self.tied, self.hashed = {}, {}, {}
-        self.contexts.kept.clear()
+        self.contexts.power_cycle()
         self.lost = {it: line for it, line in self.lost.items() if first_byte(it) in (1, 0x81)}
 
     def handle(self, number: int) -> int:

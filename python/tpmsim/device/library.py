@@ -138,7 +138,7 @@ NAME = "libtpmsim.so.0"
 RESPONSE_BYTES = 4096
 
 # Large enough for any image and any state text.
-TEXT_BYTES = 36_323
+TEXT_BYTES = 36_195
 
 # The results of a call (library/tpmsim.h): NO_MEMORY, the faults of an image from 4 on, and those
 # of a state text from 13 on.

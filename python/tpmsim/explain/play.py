@@ -7,16 +7,19 @@ from typing import Callable, Iterator
 
 from tpmsim import records
 from tpmsim.explain import accepted, dissection, entries, general, ingredients, own, parameters
+from tpmsim.explain.contexts import Contexts
 from tpmsim.explain.dissection import Field
 from tpmsim.explain.past import Past
 from tpmsim.explain.reason import Fact, OfLayer, Reason, Scene, WANTED
 from tpmsim.model import image as images
-from tpmsim.model.completion import Completed, Completion
+from tpmsim.model.completion import asked_of, Completed, Completion, CONTEXT_LOAD, CONTEXT_SAVE
+from tpmsim.model.contexts import INTEGRITY
 from tpmsim.model.general import Command
 from tpmsim.model.machine import Model, Outcome
+from tpmsim.model.object_rules import Object
 from tpmsim.records import goes_on, Opened, opened, TRACE
 from tpmsim.records.marks import sum_of
-from tpmsim.standard import lines, policy
+from tpmsim.standard import HEADER_BYTES, lines, policy
 
 CODE_DIGITS = 8
 OF_ENTRIES = "G9", "G10"
@@ -162,7 +165,7 @@ class Watched:
         # Values that the user tries in a refused HMAC, password or policy.
         self.tried: tuple[bytes, ...] = ()
         self.event: Event | None = None
-        self.layer = Completion()
+        self.layer, self.contexts = Completion(), Contexts()
         self.put(model)
 
     def put(self, model: Model) -> None:
@@ -216,33 +219,38 @@ class Watched:
         return event
 
     def completed(self, buffer: bytes, locality: int, random: bytes, elapsed: int) -> Event:
-        """Executes a command with the completing layer, which may respond itself, or execute
-        another command first.
+        """Executes a command with the completing layer, which may respond itself, and place the
+        object of a context.
         """
         told = buffer, locality, random, elapsed
-        done = self.layer.execute(self.model, told, self.execute, self.give_up)
-        if self.event is None or self.event.scene.buffer != buffer:
-            scene = Scene(self.model, self.past, self.line, *told)
-            scene.check, self.event = done.own.row.check, Event(self.line, scene, done.own)
-        event, event.completes = self.event, True
+        done = self.layer.execute(self.model, told, self.execute, self.place)
+        event, self.now.completes = self.now, True
         if not done.did:
             return self.judged()
         event.layer, event.own = done.did, done.own
-        if done.outcome is event.outcome or not done.own.refused:
+        if not done.own.refused:
             self.judged()  # the device did it
         event.outcome, event.scene.refused = done.outcome, done.outcome.refused or ""
-        if done.outcome is not done.own and event.refused and not event.reason:
-            event.reason = of_layer(done)
+        self.note_context(event, done)
         return event
 
-    def give_up(self, buffer: bytes, locality: int, random: bytes, elapsed: int) -> Outcome:
-        """Executes a command that the layer sends to the device, and that is not an event of the
-        log.
-        """
-        outcome = self.execute(buffer, locality, random, elapsed)
-        self.event = None
-        self.past.follow(self.line, "given up by the completing layer")
-        return outcome
+    def note_context(self, event: Event, done: Completed) -> None:
+        """Notes a saved context, or why a command with the layer is refused."""
+        asked, bound = asked_of(event.scene.buffer), (self.model, self.layer.start)
+        if not event.refused:
+            if asked is not None and asked.code == CONTEXT_SAVE:
+                self.contexts.note(self.line, event.response[HEADER_BYTES:], *bound)
+            return
+        more = ""
+        if asked is not None and asked.code == CONTEXT_LOAD and done.did == INTEGRITY[1]:
+            more = self.contexts.why_wrong(asked.parameters, *bound)
+        event.reason = of_layer(done, more)
+
+    def place(self, kept: Object) -> int | None:
+        """Places the object of a context in the device."""
+        handle = self.model.place(kept)
+        self.past.follow(self.line, "ContextLoad")
+        return handle
 
     def follow(self, event: Event, outcome: Outcome) -> None:
         scene, answered = event.scene, None
@@ -274,8 +282,8 @@ class Watched:
         return Model.answered_parameters(self.model, command, parameters)
 
 
-def of_layer(done: Completed) -> Reason:
-    return OfLayer("", f"The completing layer answers it: {done.did}.")
+def of_layer(done: Completed, more: str = "") -> Reason:
+    return OfLayer("", f"The completing layer answers it: {done.did}. {more}".rstrip())
 
 
 class Play(Watched):

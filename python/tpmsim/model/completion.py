@@ -1,21 +1,20 @@
 """The completing layer above the device: what it answers where the device by design does not
-(docs/USING.md). Its contexts are tokens for objects and sessions that stay in the device.
+(docs/USING.md). The context of an object holds the object; the context of a session is a token for
+the session, which stays in the device.
 """
 
 from __future__ import annotations
 
-from dataclasses import dataclass, replace
+from dataclasses import dataclass
 from typing import Callable, Self
 
-from tpmsim.model import capability, completion_rows, object_commands
+from tpmsim.model import capability, completion_rows, contexts
 from tpmsim.model.completion_properties import Counts, properties
 from tpmsim.model.machine import Model, Outcome, PLACE_BITS, SESSIONS
+from tpmsim.model.object_rules import Object
 from tpmsim.model.state_text import Layer
-from tpmsim.standard import CC, command, Fields, frames, is_session, number, RH_NULL
-from tpmsim.standard import Short, sized, TRANSIENT
+from tpmsim.standard import CC, Fields, frames, is_session, number, RH_NULL, Short, sized, TRANSIENT
 from tpmsim.standard.handle_kinds import first_byte
-
-OBJECTS = object_commands.OBJECTS
 
 # The commands that only the layer has, each with its attributes in TPM2_GetCapability.
 STIR_RANDOM, CONTEXT_LOAD, CONTEXT_SAVE = 0x146, 0x161, 0x162
@@ -58,24 +57,22 @@ LISTS = {
     **{it: "an empty list" for it in EMPTY},
 }
 
-TOKEN, LAST_NUMBER = b"tpmsim 1", 2**64 - 1
-BETWEEN = 26  # bytes of a context between its number and its handle
-NOTHING = bytes(256)
+# The first bytes of a session's token, and the number of bytes of its context between the sequence
+# and the handle.
+TOKEN, BETWEEN = b"tpmsim 1", 26
+
+LAST_SEQUENCE = 2**64 - 1
 
 Execute = Callable[[bytes, int, bytes, int], Outcome]
-
-
-@dataclass(frozen=True)
-class Held:
-    """An object's context, or 0, and the number of its flush, or 0 where it does not wait."""
-
-    context: int = 0
-    waits: int = 0
+# Places an object in the device. Returns its handle, or None if no slot is free.
+Place = Callable[[Object], int | None]
 
 
 @dataclass(frozen=True)
 class Completed:
-    """What came of a command, what the device itself came to first, and what the layer did, if anything."""
+    """The outcome of a command, the outcome of the device itself, and what the layer did, if
+    anything.
+    """
 
     outcome: Outcome
     own: Outcome
@@ -117,12 +114,25 @@ def told(outcome: Outcome, parameters: bytes = b"") -> Outcome:
     return Outcome(frames.success(parameters), outcome.row)
 
 
+def names_session(context: bytes) -> bool:
+    """Returns whether the savedHandle of a context, which comes after the sequence, is a session's.
+    Every other context is read as an object's.
+    """
+    fields = Fields(context)
+    try:
+        fields.number(8)
+        return is_session(fields.number(4))
+    except Short:
+        return False
+
+
 class Completion:
-    """What the layer remembers of a device since a start, by whose number it knows its contexts."""
+    """What the layer remembers of a device since a start, by whose number it knows its contexts:
+    the sequence of the last context, and for each saved session the sequence of its context.
+    """
 
     def __init__(self, start: int = 0) -> None:
         self.start, self.count = start, 0
-        self.objects = [Held()] * OBJECTS
         self.sessions = [0] * SESSIONS
 
     @classmethod
@@ -130,91 +140,35 @@ class Completion:
         """The layer whose numbers a state text has."""
         made = cls(numbers.start)
         made.count, made.sessions = numbers.count, list(numbers.sessions)
-        made.objects = [Held(*it) for it in numbers.objects]
         return made
 
     @property
     def numbers(self) -> Layer:
         """Those that a state text has."""
-        objects = [(it.context, it.waits) for it in self.objects]
-        return Layer(self.start, self.count, objects, list(self.sessions))
+        return Layer(self.start, self.count, list(self.sessions))
 
     def execute(
-        self,
-        device: Model,
-        event: tuple[bytes, int, bytes, int],
-        execute: Execute,
-        gives_up: Execute,
+        self, device: Model, event: tuple[bytes, int, bytes, int], execute: Execute, place: Place
     ) -> Completed:
-        """A command with the layer: its buffer, locality, random bytes and milliseconds. `execute` has the
-        device execute one, and `gives_up` one of the layer's own.
+        """A command with the layer: its buffer, locality, random bytes and milliseconds. `execute`
+        has the device execute it, and `place` has the device place the object of a context.
         """
-        buffer, locality, random, elapsed = event
-        place = self.flush_asked(buffer)
-        if place is not None:
-            own = gives_up(b"", locality, random, elapsed)
-            self.forget(device)
-            return self.note_flush(own, place)
-        own = execute(buffer, locality, random, elapsed)
+        own = execute(*event)
         self.forget(device)
-        place = self.given_up(own)
-        if place is None:
-            return self.reply(device, buffer, own)
-        handle = TRANSIENT << 24 | place
-        gives_up(command(CC.FlushContext, number(handle, 4)), locality, NOTHING, 0)
-        self.forget(device)
-        again = execute(buffer, locality, random, 0)
-        self.forget(device)
-        words = f"{handle:08x}, which waited longest, was given up, and the command executed again"
-        return Completed(again, own, words)
+        return self.reply(device, event[0], own, place)
 
     def forget(self, device: Model) -> None:
-        """The contexts of what is gone."""
-        for place in range(OBJECTS):
-            if TRANSIENT << 24 | place not in device.objects:
-                self.objects[place] = Held()
+        """The contexts of the sessions that are gone."""
         taken = {it & PLACE_BITS for it in device.sessions}
         self.sessions = [it if at in taken else 0 for at, it in enumerate(self.sessions)]
-
-    def held(self, handle: int) -> Held:
-        place = handle & PLACE_BITS
-        return self.objects[place] if place < OBJECTS else Held()
 
     def saved(self, handle: int) -> int:
         place = handle & PLACE_BITS
         return self.sessions[place] if place < SESSIONS else 0
 
-    # Objects that wait for their contexts' sake.
-
-    def flush_asked(self, buffer: bytes) -> int | None:
-        """The place of the object with a context that is flushed."""
-        asked = asked_of(buffer)
-        found = numbers_of(asked.parameters, 1) if asked and asked.code == CC.FlushContext else None
-        if not found or first_byte(found[0]) != TRANSIENT or self.count == LAST_NUMBER:
-            return None
-        return found[0] & PLACE_BITS if self.held(found[0]).context else None
-
-    def note_flush(self, own: Outcome, place: int) -> Completed:
-        held, words = self.objects[place], "the device was not told: the object waits in its place"
-        if held.waits:
-            words = (
-                "the device was not told: the object was flushed already, and waits in its place"
-            )
-            return Completed(refused(own, "HANDLE/p1"), own, words)
-        self.count += 1
-        self.objects[place] = replace(held, waits=self.count)
-        return Completed(told(own), own, f"{words} for the sake of its context")
-
-    def given_up(self, own: Outcome) -> int | None:
-        """The object that waits longest, for another one that found no place."""
-        if own.row.code not in (CC.CreatePrimary, CC.Load) or own.refused != "OBJECT_MEMORY":
-            return None
-        waiting = [(it.waits, at) for at, it in enumerate(self.objects) if it.waits]
-        return min(waiting)[1] if waiting else None
-
     # Answers after the device's.
 
-    def reply(self, device: Model, buffer: bytes, own: Outcome) -> Completed:
+    def reply(self, device: Model, buffer: bytes, own: Outcome, place: Place) -> Completed:
         stands, asked = Completed(own, own), asked_of(buffer)
         if asked is None:
             is_probe = int.from_bytes(buffer[:2], "big") == OF_FAMILY_1 and len(buffer) > 1
@@ -225,19 +179,19 @@ class Completion:
         if not device.started:
             return stands
         if own.refused == "COMMAND_CODE":
-            return self.served(device, asked, stands)
+            return self.served(device, asked, stands, place)
         if asked.code == CC.GetCapability:
             return self.capability(device, asked, stands)
         return stands
 
-    def served(self, device: Model, asked: Asked, stands: Completed) -> Completed:
+    def served(self, device: Model, asked: Asked, stands: Completed, place: Place) -> Completed:
         own, numbers = stands.own, numbers_of(asked.parameters, 1)
         if asked.code == STIR_RANDOM:
             size = int.from_bytes(asked.parameters[:2], "big")
             is_whole = len(asked.parameters) == 2 + size and size <= MOST_STIRRED
             return Completed(told(own), own, "the bytes are not used") if is_whole else stands
         if asked.code == CONTEXT_LOAD:
-            return self.load(device, asked.parameters, own)
+            return self.load(device, asked.parameters, own, place)
         if asked.code == CONTEXT_SAVE and numbers is not None:
             return self.save(device, numbers[0], own)
         if asked.code in completion_rows.ROWS:
@@ -282,14 +236,12 @@ class Completion:
         return [] if wanted in EMPTY else None
 
     def counts(self, device: Model) -> Counts:
-        kinds = frames.HMAC_SESSION, frames.POLICY_SESSION, TRANSIENT
-        return Counts(*(len(self.handles(device, it) or ()) for it in kinds))
+        saved = sum(bool(it) for it in self.sessions)
+        objects = sum(first_byte(it) == TRANSIENT for it in device.objects)
+        return Counts(len(device.sessions) - saved, saved, objects)
 
     def handles(self, device: Model, kind: int) -> list[tuple[int, bytes]] | None:
-        """Those of objects that do not wait, and of sessions that are loaded (02) or saved (03)."""
-        if kind == TRANSIENT:
-            objects = sorted(it for it in device.objects if first_byte(it) == TRANSIENT)
-            return [(it, number(it, 4)) for it in objects if not self.held(it).waits]
+        """Those of sessions that are loaded (02) or saved (03)."""
         if kind not in (frames.HMAC_SESSION, frames.POLICY_SESSION):
             return None
         is_saved = kind == frames.POLICY_SESSION
@@ -299,61 +251,70 @@ class Completion:
 
     # Contexts.
 
-    def context(self, handle: int, count: int) -> bytes:
-        saved = TRANSIENT << 24 if first_byte(handle) == TRANSIENT else handle
+    def token(self, handle: int, sequence: int) -> bytes:
+        """The context of a session."""
         token = TOKEN + number(self.start, 8) + number(handle, 4)
-        return number(count, 8) + number(saved, 4) + number(RH_NULL, 4) + sized(token)
+        return number(sequence, 8) + number(handle, 4) + number(RH_NULL, 4) + sized(token)
 
     def save(self, device: Model, handle: int, own: Outcome) -> Completed:
-        if first_byte(handle) == TRANSIENT:
-            held = self.held(handle)
-            if handle not in device.objects or held.waits:
-                why = "waits, as it was flushed" if held.waits else "is not there"
-                return Completed(refused(own, "REFERENCE_H0"), own, f"object {handle:08x} {why}")
-            return self.saved_object(handle, held, own)
-        if not is_session(handle):
+        is_object = first_byte(handle) == TRANSIENT
+        if not is_object and not is_session(handle):
             words = f"{handle:08x} is neither a transient object nor a session"
             return Completed(refused(own, "VALUE/h1"), own, words)
-        if handle not in device.sessions or self.saved(handle):
-            why = "is saved already" if handle in device.sessions else "is not there"
-            return Completed(refused(own, "REFERENCE_H0"), own, f"session {handle:08x} {why}")
-        if self.count == LAST_NUMBER:
-            return Completed(refused(own, "TOO_MANY_CONTEXTS"), own, "no number is left")
-        self.count += 1
-        self.sessions[handle & PLACE_BITS] = self.count
-        text, words = self.context(handle, self.count), f"context {self.count} of session"
-        return Completed(told(own, text), own, f"{words} {handle:08x}, which stays in its place")
+        if is_object:
+            what, is_there, is_saved = "object", handle in device.objects, False
+        else:
+            what, is_there, is_saved = (
+                "session",
+                handle in device.sessions,
+                bool(self.saved(handle)),
+            )
+        if not is_there or is_saved:
+            why = "is saved already" if is_there else "is not there"
+            return Completed(refused(own, "REFERENCE_H0"), own, f"{what} {handle:08x} {why}")
+        if self.count == LAST_SEQUENCE:
+            return Completed(refused(own, "TOO_MANY_CONTEXTS"), own, "no sequence is left")
+        return self.saved_as(device, handle, own)
 
-    def saved_object(self, handle: int, held: Held, own: Outcome) -> Completed:
-        if not held.context and self.count == LAST_NUMBER:
-            return Completed(refused(own, "TOO_MANY_CONTEXTS"), own, "no number is left")
-        if not held.context:
-            self.count += 1
-            held = self.objects[handle & PLACE_BITS] = Held(self.count)
-        text = self.context(handle, held.context)
-        words = f"context {held.context} of object {handle:08x}, which stays in its place"
+    def saved_as(self, device: Model, handle: int, own: Outcome) -> Completed:
+        """Saves an object, or a session that is loaded, with the next sequence."""
+        self.count += 1
+        if handle in device.objects:
+            text = contexts.sealed(device, self.start, self.count, device.objects[handle])
+            words = f"context {self.count} of object {handle:08x}, which stays loaded"
+        else:
+            self.sessions[handle & PLACE_BITS] = self.count
+            text = self.token(handle, self.count)
+            words = f"context {self.count} of session {handle:08x}, which stays in its slot"
         return Completed(told(own, text), own, words)
 
-    def load(self, device: Model, text: bytes, own: Outcome) -> Completed:
-        fields = Fields(text)
+    def load(self, device: Model, context: bytes, own: Outcome, place: Place) -> Completed:
+        if names_session(context):
+            return self.load_session(device, context, own)
         try:
-            count = fields.number(8)
+            kept = contexts.opened(device, self.start, context)
+        except contexts.Fault as fault:
+            return Completed(refused(own, fault.name), own, fault.words)
+        handle = place(kept)
+        if handle is None:
+            return Completed(refused(own, "OBJECT_MEMORY"), own, "no slot of an object is free")
+        sequence = int.from_bytes(context[:8], "big")
+        words = f"the object of context {sequence} is loaded as {handle:08x}"
+        return Completed(told(own, number(handle, 4)), own, words)
+
+    def load_session(self, device: Model, context: bytes, own: Outcome) -> Completed:
+        fields = Fields(context)
+        try:
+            sequence = fields.number(8)
             fields.take(BETWEEN)
             handle = fields.number(4)
         except Short:
-            handle = count = 0
-        if text != self.context(handle, count):
-            words = "the bytes are no context since the power came on"
+            handle = sequence = 0
+        if context != self.token(handle, sequence):
+            words = "this layer did not make the context since its start"
             return Completed(refused(own, "INTEGRITY/p1"), own, words)
-        words, is_object = f"{handle:08x}", first_byte(handle) == TRANSIENT
-        is_there = handle in device.objects if is_object else handle in device.sessions
-        known = self.held(handle).context if is_object else self.saved(handle)
-        is_known = is_object or is_session(handle)
-        if not is_known or not is_there or not count or count != known:
-            words = f"what context {count} names, {handle:08x}, is gone, or is loaded"
+        if handle not in device.sessions or not sequence or sequence != self.saved(handle):
+            words = f"the session of context {sequence}, {handle:08x}, is gone, or is loaded"
             return Completed(refused(own, "HANDLE/p1"), own, words)
-        if is_object:
-            self.objects[handle & PLACE_BITS] = Held(count)
-        else:
-            self.sessions[handle & PLACE_BITS] = 0
-        return Completed(told(own, number(handle, 4)), own, f"the handle of context {count}")
+        self.sessions[handle & PLACE_BITS] = 0
+        return Completed(told(own, number(handle, 4)), own, f"the handle of context {sequence}")

@@ -4,13 +4,13 @@ The comments have the names of the standard, without TPM_PT_.
 
 from dataclasses import dataclass
 
-from tpmsim.model import nv_commands, object_commands, persistent
+from tpmsim.model import contexts, nv_commands, object_commands, persistent
 from tpmsim.model.machine import Model, SESSIONS
-from tpmsim.standard import CC, COMMAND_BYTES, DIGEST_BYTES, nv, RH_ENDORSEMENT, RH_LOCKOUT
-from tpmsim.standard import RH_OWNER
+from tpmsim.standard import AES, CC, COMMAND_BYTES, DIGEST_BYTES, frames, nv, RH_ENDORSEMENT
+from tpmsim.standard import RH_LOCKOUT, RH_OWNER, SHA256
 from tpmsim.standard.handle_kinds import PCRS
 
-CONTEXT_BYTES = 38
+SESSION_CONTEXT_BYTES = 38
 IDENTITY = {
     **{0x100: 0x322E3000, 0x101: 0, 0x102: 138},  # FAMILY_INDICATOR, LEVEL, REVISION
     **{0x103: 273, 0x104: 2016},  # DAY_OF_YEAR, YEAR: 29 September 2016
@@ -27,9 +27,12 @@ LIMITS = {
     0x114: 2**32 - 1,  # CONTEXT_GAP_MAX: a saved context never gets too old
     **{0x116: nv_commands.INDICES, 0x117: nv_commands.INDEX_BYTES},  # NV_COUNTERS_MAX, NV_INDEX_MAX
     0x118: 0,  # MEMORY: none is shared
+    # CONTEXT_HASH, CONTEXT_SYM, CONTEXT_SYM_SIZE: of an object's context
+    **{0x11A: SHA256, 0x11B: AES, 0x11C: frames.AES_KEY_BITS},
     **{0x11E: COMMAND_BYTES, 0x11F: COMMAND_BYTES},  # MAX_COMMAND_SIZE, MAX_RESPONSE_SIZE
     0x120: DIGEST_BYTES,  # MAX_DIGEST
-    **{0x121: CONTEXT_BYTES, 0x122: CONTEXT_BYTES},  # MAX_OBJECT_CONTEXT, MAX_SESSION_CONTEXT
+    # MAX_OBJECT_CONTEXT, MAX_SESSION_CONTEXT
+    **{0x121: contexts.CONTEXT_BYTES, 0x122: SESSION_CONTEXT_BYTES},
     **{0x128: 0, 0x12B: 0, 0x12D: 0},  # SPLIT_MAX, VENDOR_COMMANDS, MODES
     0x12C: nv_commands.BUFFER_BYTES,  # NV_BUFFER_MAX
 }
@@ -48,7 +51,7 @@ ENABLED, ORDERLY = 0xF, 0x8000_0000
 
 @dataclass(frozen=True)
 class Counts:
-    """How many sessions are loaded and saved, and how many transient objects do not wait."""
+    """How many sessions are loaded, how many are saved, and how many transient objects there are."""
 
     loaded: int
     saved: int

@@ -19,6 +19,7 @@ from tpmsim.standard.values import read_all
 
 if TYPE_CHECKING:
     from tpmsim.model.machine import Model
+    from tpmsim.model.object_rules import Object
 
 
 @dataclass(frozen=True)
@@ -64,6 +65,17 @@ class Accepted:
 @dataclass(frozen=True)
 class PowerCycle:
     """A power cycle."""
+
+
+@dataclass(frozen=True)
+class ObjectPlaced:
+    """The object of a context, which the completing layer loaded under this handle."""
+
+    handle: int
+    placed: Object
+
+
+PastEvent = Accepted | PowerCycle | ObjectPlaced
 
 
 # PCRs: the current values of each bank, and those at the last shutdown.
@@ -127,6 +139,9 @@ class AuthValues:
 
     def of(self, handle: int) -> bytes:
         return self.values.get(handle, b"")
+
+    def place(self, it: ObjectPlaced) -> None:
+        self.values[it.handle] = it.placed.auth_value
 
     def command(self, it: Accepted) -> None:
         if it.code in (CC.HierarchyChangeAuth, CC.NV_ChangeAuth):
@@ -302,10 +317,12 @@ class History:
     counters: Counters = field(default_factory=Counters)
     sessions: Sessions = field(default_factory=Sessions)
 
-    def add(self, event: Accepted | PowerCycle) -> None:
+    def add(self, event: PastEvent) -> None:
         if isinstance(event, PowerCycle):
             self.pcrs.power_cycle()
             self.sessions.power_cycle()
+        elif isinstance(event, ObjectPlaced):
+            self.auth_values.place(event)
         else:
             self.sessions.command(event, self.pcrs, self.auth_values)
             self.pcrs.command(event)

@@ -12,7 +12,7 @@ from typing import Callable
 from tpmsim.model import capability, general, history, nv_commands, object_commands, pcrs
 from tpmsim.model import persistent, policy_commands, policy_state, protection, state
 from tpmsim.model.general import Answer, Command, Refusal
-from tpmsim.model.history import Accepted, PowerCycle
+from tpmsim.model.history import Accepted, PastEvent
 from tpmsim.model.nv_commands import Index
 from tpmsim.model.object_rules import Object
 from tpmsim.model.parameters import buffer, choice, integer, Parameters, Request, takes
@@ -138,8 +138,19 @@ class Model(
         self.tell(self.accepted(command, shown, plain, answer, random))
         return Outcome(self.success(command, answer, random), Row(command.code, "ok"))
 
+    def place(self, kept: Object) -> int | None:
+        """Places the object of a context in the lowest free slot. Returns its handle, or None if no
+        slot is free.
+        """
+        free = self.free_objects()
+        if not free:
+            return None
+        self.objects[free[0]] = kept
+        self.tell(history.ObjectPlaced(free[0], kept))
+        return free[0]
+
     @staticmethod
-    def tell(event: Accepted | PowerCycle) -> None:
+    def tell(event: PastEvent) -> None:
         """Has no effect unless it is replaced."""
 
     def accepted(

@@ -19,9 +19,13 @@ HMAC_BYTES = 1024
 class Commands(Held):
     """The commands for a device with `objects`, PCRs, and the hierarchies' `seeds` and `proofs`."""
 
-    def free_object(self, check: str) -> int:
+    def free_objects(self) -> list[int]:
+        """Returns the handles of the free slots, in ascending order."""
         places = [TRANSIENT << 24 | it for it in range(OBJECTS)]
-        free = [it for it in places if it not in self.objects]
+        return [it for it in places if it not in self.objects]
+
+    def free_object(self, check: str) -> int:
+        free = self.free_objects()
         if not free:
             raise Refusal("OBJECT_MEMORY", check)
         return free[0]

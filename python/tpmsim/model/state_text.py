@@ -3,7 +3,8 @@ where the old one stopped.
 
 It has the frame of an image, with another magic. Its body (docs/table/state_text.md) contains what
 the device keeps without power, as in its image; what a power cycle would clear; and what the
-completing layer remembers, if there is one.
+completing layer remembers, if there is one. State texts are written in version 2. Version 1, in
+which the layer remembers objects too, is also read.
 """
 
 from __future__ import annotations
@@ -25,7 +26,12 @@ from tpmsim.standard.aes_tables import encrypt_block
 
 T = TypeVar("T")
 
-MAGIC, VERSION = b"TPMS", 1
+MAGIC, VERSION = b"TPMS", 2
+
+# The version in which the layer has two numbers for each object: that of its context, and that of
+# its flush. An object that was flushed, and whose context could still be loaded, is left out.
+VERSION_1 = 1
+VERSIONS = VERSION_1, VERSION
 
 # The meaning of a byte, by its value.
 PROTECTIONS = None, TRIES, LOCKOUT_AUTH
@@ -37,13 +43,12 @@ LOCKOUT_TIMES = range(MILLISECONDS * 2**32)
 
 @dataclass
 class Layer:
-    """What the completing layer remembers: for each object slot the numbers of its context and of
-    its flush, and for each session the number of its context; 0 if there is none.
+    """What the completing layer remembers: the number of its start, the sequence of its last
+    context, and for each saved session the sequence of its context, otherwise 0.
     """
 
     start: int = 0
     count: int = 0
-    objects: list[tuple[int, int]] = field(default_factory=lambda: [(0, 0)] * OBJECTS)
     sessions: list[int] = field(default_factory=lambda: [0] * SESSIONS)
 
 
@@ -121,9 +126,7 @@ def policy_text(told: State) -> bytes:
 
 
 def layer_text(layer: Layer) -> bytes:
-    objects = [it for held in layer.objects for it in held]
-    numbers = layer.start, layer.count, *objects, *layer.sessions
-    return b"".join(number(it, 8) for it in numbers)
+    return b"".join(number(it, 8) for it in (layer.start, layer.count, *layer.sessions))
 
 
 # Reading. Bytes that are not a state text have the faults of an image, in the same order.
@@ -132,16 +135,21 @@ def layer_text(layer: Layer) -> bytes:
 def open_state(
     text: bytes, block_cipher: aes.BlockCipher = encrypt_block
 ) -> tuple[Model, Layer | None]:
-    _, body = image.within_frame(text, MAGIC, (VERSION,))
+    version, body = image.within_frame(text, MAGIC, VERSIONS)
     device = Model(block_cipher=block_cipher)
     try:
         fields = Parameters(body)
         read_device(fields, device)
-        layer = optional(fields, read_layer)
+        layer = optional(fields, lambda it: read_layer(it, device, version))
         fields.end()
     except (Refusal, Short):
         raise image.Fault("Body") from None
     return device, layer
+
+
+def is_earlier(text: bytes) -> bool:
+    """Returns whether a text begins as a state text of version 1 does."""
+    return text.startswith(MAGIC + number(VERSION_1, 2))
 
 
 def fault_of(text: bytes) -> str | None:
@@ -222,7 +230,16 @@ def read_policy(fields: Parameters) -> State:
     )
 
 
-def read_layer(fields: Parameters) -> Layer:
+def read_layer(fields: Parameters, device: Model, version: int) -> Layer:
     start, count = fields.number(8), fields.number(8)
-    objects = [(fields.number(8), fields.number(8)) for _ in range(OBJECTS)]
-    return Layer(start, count, objects, [fields.number(8) for _ in range(SESSIONS)])
+    if version == VERSION_1:
+        read_flushed(fields, device)
+    return Layer(start, count, [fields.number(8) for _ in range(SESSIONS)])
+
+
+def read_flushed(fields: Parameters, device: Model) -> None:
+    """Reads the layer's numbers of the objects, and removes those that were flushed."""
+    for place in range(OBJECTS):
+        _, flushed = fields.number(8), fields.number(8)
+        if flushed:
+            device.objects.pop(TRANSIENT << 24 | place, None)

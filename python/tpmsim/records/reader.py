@@ -8,6 +8,7 @@ import re
 from dataclasses import dataclass, field, replace
 from typing import Iterator
 
+from tpmsim.model import state_text
 from tpmsim.model.player import BadLine, LINE_BYTES, LINES, RANDOM_BYTES, Words
 from tpmsim.records.drawn import drawn_of
 from tpmsim.records.marks import HeadMark, Mark, OFFSET_BASIS, sum_from
@@ -27,6 +28,10 @@ COMMANDS = b"cmd", b"do "
 
 DAMAGED_HEAD = "the head is damaged: its sums are others"
 OTHER_KIND = "the head is damaged: it holds {}"
+EARLIER_HEAD = (
+    "the head holds a state text of version 1: an earlier version executed the commands, and its "
+    "contexts cannot be loaded"
+)
 DAMAGED_MARK = "the record is damaged: the sum of its mark is another one"
 OTHER_LINES = "the record is damaged: its lines are not those of its mark"
 
@@ -246,9 +251,9 @@ def hex_of(text: bytes) -> bytes | None:
 
 
 def damage_of(mark: HeadMark, content: bytes) -> str:
-    """Returns how the head of a journal is damaged; empty if it is not."""
+    """Returns what is wrong with the head of a journal; empty if nothing is."""
     if not mark.is_of(content):
         return DAMAGED_HEAD
-    if mark.is_state == is_state_text(content):
-        return ""
-    return OTHER_KIND.format("an image" if mark.is_state else "a state text")
+    if mark.is_state != is_state_text(content):
+        return OTHER_KIND.format("an image" if mark.is_state else "a state text")
+    return EARLIER_HEAD if state_text.is_earlier(content) else ""

@@ -1,7 +1,7 @@
 use Rattle.std.proofs.Common.{◌∙◌}
-use Rattle.tpm_state_text.specs.Layer.{held_in}
+use Rattle.tpm_state_text.specs.Earlier.{held_in}
 use Rattle.tpm_state_text.proofs.Loops.{left_more, length_set}
-use Rattle.tpm_state_text.proofs.layer.read_objects.Goals as goal
+use Rattle.tpm_state_text.proofs.earlier.read_objects.Goals as goal
 
 pub loop-place-preserved : goal.loop-place-preserved
 loop-place-preserved c =

@@ -1,8 +1,8 @@
 use Rattle.std.proofs.Common.{◌≡◌, length}
 use Rattle.tpm_bytes.specs.Many.{many_at}
-use Rattle.tpm_state_text.specs.Layer.{held_in}
+use Rattle.tpm_state_text.specs.Earlier.{held_in}
 use Rattle.tpm_state_text.proofs.Loops.{left}
-use Rattle.tpm_state_text.proofs.layer.read_objects.Given as goal
+use Rattle.tpm_state_text.proofs.earlier.read_objects.Given as goal
 
 -- The objects read so far, followed by those still to be read, are the whole list.
 abbrev pub invariant-loop-place : goal.invariant-loop-place

@@ -1,0 +1,125 @@
+-- Version 1 of a state text, which can be read but is no longer written. In this version the
+-- completing layer also remembers objects, since a context of an object did not contain the object:
+-- an object with a context that was flushed waited in its slot, where TPM2_ContextLoad found it.
+-- The contexts of version 2 contain the whole object, so that no object waits. Reading version 1
+-- removes the objects that wait.
+use Rattle.std.specs.Prelude.{◌≡◌, ℕ, ◌<◌, ◌^◌, ◌==◌, List, ◌++◌, get_or, length, if◌then◌else◌, IfSome, Option, Some, None, option_map, Result, Ok}
+use Rattle.std.specs.Int.{w64, to_be_bytes}
+use Rattle.std.specs.List.{All, flat_map, fold}
+use Rattle.tpm_bytes.specs.Many.{many_at}
+use Rattle.tpm_bytes.specs.Numbers.{numbers_below}
+use Rattle.tpm_bytes.specs.Reading.{◌>>=◌}
+use Rattle.tpm_image_text.specs.Fields.{filling, number_in}
+use Rattle.tpm_image_text.specs.declared.fault.Malformed.{Malformed}
+use Rattle.tpm_object.specs.declared.object.Object.{Object}
+use Rattle.tpm_record.specs.IsRecord.{IsRecord}
+use Rattle.tpm_record.specs.Objects.{object_handle, without_object}
+use Rattle.tpm_record.specs.Record.{Record}
+use Rattle.tpm_types.specs.Limits.{object_limit, session_limit}
+use Rattle.tpm_state_text.specs.Body.{WholeState, device_in, device_text}
+use Rattle.tpm_state_text.specs.Places.{optional_in, optional_text}
+use Rattle.tpm_state_text.specs.declared.earlier.EarlierLayer.{EarlierLayer}
+use Rattle.tpm_state_text.specs.declared.earlier.Held.{Held}
+use Rattle.tpm_state_text.specs.declared.layer.Layer.{Layer}
+
+-- ---- the layer
+
+-- A layer stores only 64-bit numbers, with one slot for each object and each session.
+pub record IsHeld (held : Held) : Type 0 where
+  pub context : held.context < 2 ^ 64
+  pub waits : held.waits < 2 ^ 64
+
+pub record IsEarlierLayer (layer : EarlierLayer) : Type 0 where
+  pub start : layer.start < 2 ^ 64
+  pub count : layer.count < 2 ^ 64
+  pub objects : length layer.objects ≡ object_limit
+  pub each_object : All IsHeld layer.objects
+  pub sessions : length layer.sessions ≡ session_limit
+  pub each_session : All (λ context. context < 2 ^ 64) layer.sessions
+
+unfoldable pub held_text : Held → List ℕ
+held_text held = to_be_bytes w64 held.context ++ to_be_bytes w64 held.waits
+
+unfoldable pub held_in : List ℕ → Result (Held × List ℕ) Malformed
+held_in text = do
+  context ← number_in w64 text
+  waits ← number_in w64 context.1
+  Ok (record { context = context.0; waits = waits.0 }, waits.1)
+
+-- the text of a layer: the start, the count, the objects and the sessions
+unfoldable pub earlier_layer_text : EarlierLayer → List ℕ
+earlier_layer_text layer =
+    to_be_bytes w64 layer.start ++ to_be_bytes w64 layer.count
+    ++ flat_map held_text layer.objects ++ flat_map (to_be_bytes w64) layer.sessions
+
+unfoldable pub earlier_layer_in : List ℕ → Result (EarlierLayer × List ℕ) Malformed
+earlier_layer_in text = do
+  start ← number_in w64 text
+  count ← number_in w64 start.1
+  objects ← many_at held_in object_limit count.1
+  sessions ← many_at (number_in w64) session_limit objects.1
+  Ok (
+    record { start = start.0; count = count.0; objects = objects.0; sessions = sessions.0 },
+    sessions.1,
+  )
+
+-- ---- the body
+
+-- the whole state of a device as version 1 has it
+pub record EarlierState : Type 0 where
+  pub device : Record
+  pub layer : Option EarlierLayer
+
+-- A state is possible: each of its parts has the right size and width.
+pub record IsEarlierState (state : EarlierState) : Type 0 where
+  pub device : IsRecord state.device
+  pub layer : IfSome state.layer IsEarlierLayer
+
+-- the text of a body: that of the device, followed by that of the layer, if there is one
+unfoldable pub earlier_body_text : EarlierState → List ℕ
+earlier_body_text state =
+    device_text state.device ++ optional_text earlier_layer_text state.layer
+
+unfoldable pub earlier_body_in : List ℕ → Result (EarlierState × List ℕ) Malformed
+earlier_body_in text = do
+  device ← device_in text
+  layer ← optional_in earlier_layer_in device.1
+  Ok (record { device = device.0; layer = layer.0 }, layer.1)
+
+-- the state in a body, which must take up all of the bytes
+unfoldable pub earlier_state_of_body : List ℕ → Result EarlierState Malformed
+earlier_state_of_body text = filling earlier_body_in text
+
+-- ---- the state that is read
+
+-- what is remembered of an object without a context
+abbrev pub not_held : Held
+not_held = record { context = 0; waits = 0 }
+
+-- the slots without the object in one of them, if it waits
+unfoldable pub without_one : List Held → List (Option Object) → (place : ℕ) → List (Option Object)
+without_one held objects place =
+    if (get_or held place not_held).waits == 0 then objects
+    else without_object objects (object_handle place)
+
+-- the slots without the objects that wait
+unfoldable pub without_waiting : List Held → List (Option Object) → List (Option Object)
+without_waiting held objects = fold (without_one held) objects (numbers_below object_limit)
+
+-- the device without the objects that wait; without a layer no object waits
+abbrev pub device_of : Record → Option EarlierLayer → Record
+device_of device (Some layer) =
+    record device { objects = without_waiting layer.objects device.objects }
+device_of device None = device
+
+-- what stays of the layer: its start, its count and the contexts of sessions
+abbrev pub layer_of : EarlierLayer → Layer
+layer_of layer =
+    record { start = layer.start; count = layer.count; sessions = layer.sessions }
+
+-- the state that is read from version 1
+abbrev pub current : EarlierState → WholeState
+current state = record {
+  device = device_of state.device state.layer;
+  layer = option_map layer_of state.layer;
+}

@@ -1,0 +1,38 @@
+//! The versions of a state text.
+
+ghost use Rattle.std.specs.Prelude.{◌≡◌};
+ghost use Rattle.tpm_state_text.specs.Version.{state_version_number, state_version_numbered};
+
+/// A version of a state text.
+#[derive(Clone, Copy, PartialEq, Eq)]
+pub enum StateVersion {
+    /// Version 1 can be read but is no longer written. In it, flushed objects could wait for their
+    /// contexts.
+    One,
+    /// In version 2, the completing layer remembers only the contexts of sessions.
+    Two,
+}
+
+impl StateVersion {
+    /// The number that stands for the version in a text.
+    pub fn number(self) -> u16
+        ensures { result ≡ state_version_number self }
+    {
+        match self {
+            StateVersion::One => 1,
+            StateVersion::Two => 2,
+        }
+    }
+
+    /// The version with this number, if there is one.
+    #[tactic(auto, unfolding(crate::specs::Version::state_version_numbered))]
+    pub fn numbered(number: u16) -> Option<StateVersion>
+        ensures { result ≡ state_version_numbered number }
+    {
+        match number {
+            1 => Some(StateVersion::One),
+            2 => Some(StateVersion::Two),
+            _ => None,
+        }
+    }
+}

@@ -1,0 +1,176 @@
+"""The context of a transient object (TPM 2.0 Library, Part 1, section 30, and Part 2, section 14).
+TPM2_ContextSave returns it, and TPM2_ContextLoad loads the object from it.
+
+A context holds the whole object, encrypted. Its integrity value binds it to the proof of the
+object's hierarchy, to the start of the completing layer, and to the device's count of TPM Resets.
+"""
+
+from __future__ import annotations
+
+from dataclasses import dataclass
+from typing import Self
+
+from tpmsim.faults import TpmsimError
+from tpmsim.model import image
+from tpmsim.model.general import Refusal
+from tpmsim.model.machine import Model
+from tpmsim.model.object_rules import Object
+from tpmsim.model.parameters import Parameters
+from tpmsim.standard import aes, digest_bytes, Fields, kdfa, mac, number, SHA256, Short, sized
+from tpmsim.standard.objects import Attribute
+
+# The savedHandle of an object without stClear, and of one with it.
+ORDINARY, ST_CLEAR = 0x8000_0000, 0x8000_0002
+
+# The largest size of an object in a context: its hierarchy, its qualified Name, its public area and
+# its sensitive area.
+OBJECT_BYTES = 4 + 36 + 84 + 202
+
+INTEGRITY_BYTES = digest_bytes(SHA256)
+BLOB_BYTES = 2 + INTEGRITY_BYTES + OBJECT_BYTES
+HEAD_BYTES = 8 + 4 + 4
+CONTEXT_BYTES = HEAD_BYTES + 2 + BLOB_BYTES
+
+
+class Fault(TpmsimError):
+    """Why bytes are not a context of this device: a response code, and what is wrong."""
+
+    def __init__(self, name: str, words: str) -> None:
+        super().__init__(name, words)
+        self.name, self.words = name, words
+
+
+TRUNCATED = "INSUFFICIENT/p1", "the context is truncated"
+SAVED_HANDLE = "HANDLE/p1", "savedHandle is neither an object's nor a session's"
+HIERARCHY = "VALUE/p1", "the context's hierarchy is not a hierarchy"
+SIZE = "SIZE/p1", "a size in the context is wrong, or bytes follow the context"
+INTEGRITY = "INTEGRITY/p1", "the device did not make the context, or may no longer load it"
+FAULTS = TRUNCATED, SAVED_HANDLE, HIERARCHY, SIZE, INTEGRITY
+
+
+@dataclass(frozen=True)
+class Binding:
+    """What a context is bound to: the start of the layer, resetCount and restartCount."""
+
+    start: int
+    resets: int
+    restarts: int
+
+    @classmethod
+    def of(cls, device: Model, start: int) -> Self:
+        return cls(start, device.reset_count, device.restart_count)
+
+
+@dataclass(frozen=True)
+class Head:
+    """The fields before the contextBlob."""
+
+    sequence: int
+    saved_handle: int
+    hierarchy: int
+
+    @classmethod
+    def of(cls, sequence: int, kept: Object) -> Self:
+        is_cleared = kept.public.has(Attribute.ST_CLEAR)
+        return cls(sequence, ST_CLEAR if is_cleared else ORDINARY, kept.hierarchy)
+
+    @property
+    def text(self) -> bytes:
+        return number(self.sequence, 8) + number(self.saved_handle, 4) + number(self.hierarchy, 4)
+
+
+# How a context is protected (Part 1, section 30.3).
+
+
+def key_and_iv(proof: bytes, head: Head) -> tuple[bytes, bytes]:
+    """Returns the key and the IV with which the object is encrypted."""
+    newer, older = number(head.sequence, 8), number(head.saved_handle, 4)
+    made = kdfa(SHA256, proof, b"CONTEXT", newer, older, 2 * aes.BLOCK)
+    return made[: aes.BLOCK], made[aes.BLOCK :]
+
+
+def integrity(proof: bytes, binding: Binding, head: Head, cipher: bytes) -> bytes:
+    """Only an object with stClear is bound to restartCount."""
+    restarts = binding.restarts if head.saved_handle == ST_CLEAR else 0
+    counts = number(binding.start, 8) + number(binding.resets, 4) + number(restarts, 4)
+    bound = counts + number(head.sequence, 8) + number(head.saved_handle, 4)
+    return mac(SHA256, proof, bound + cipher)
+
+
+def sealed(device: Model, start: int, sequence: int, kept: Object) -> bytes:
+    """Returns the context of an object of this device."""
+    head, proof = Head.of(sequence, kept), device.proofs[kept.hierarchy]
+    keys = key_and_iv(proof, head)
+    cipher = aes.cfb_encrypt(*keys, image.object_text(kept), device.block_cipher)
+    right = integrity(proof, Binding.of(device, start), head, cipher)
+    return head.text + sized(sized(right) + cipher)
+
+
+# Reading. The faults are in the order in which they are found.
+
+
+def opened(device: Model, start: int, context: bytes) -> Object:
+    """Returns the object of a context; raises Fault for bytes that are not a context of it."""
+    fields = Fields(context)
+    head = read_head(fields)
+    given, cipher = parts_of(read_blob(fields))
+    proof = device.proofs[head.hierarchy]
+    if given != integrity(proof, Binding.of(device, start), head, cipher):
+        raise Fault(*INTEGRITY)
+    return read_object(head, aes.cfb_decrypt(*key_and_iv(proof, head), cipher, device.block_cipher))
+
+
+def read_number(fields: Fields, size: int) -> int:
+    try:
+        return fields.number(size)
+    except Short:
+        raise Fault(*TRUNCATED) from None
+
+
+def read_head(fields: Fields) -> Head:
+    sequence = read_number(fields, 8)
+    saved_handle = read_number(fields, 4)
+    if saved_handle not in (ORDINARY, ST_CLEAR):
+        raise Fault(*SAVED_HANDLE)
+    hierarchy = read_number(fields, 4)
+    if hierarchy not in image.HIERARCHIES:
+        raise Fault(*HIERARCHY)
+    return Head(sequence, saved_handle, hierarchy)
+
+
+def read_blob(fields: Fields) -> bytes:
+    """Returns the contextBlob, which has to be the rest of the context."""
+    size = read_number(fields, 2)
+    if size > BLOB_BYTES:
+        raise Fault(*SIZE)
+    if size > len(fields.data):
+        raise Fault(*TRUNCATED)
+    blob = fields.take(size)
+    if fields.data:
+        raise Fault(*SIZE)
+    return blob
+
+
+def parts_of(blob: bytes) -> tuple[bytes, bytes]:
+    """Returns the integrity value and the encrypted object of a contextBlob."""
+    fields = Fields(blob)
+    try:
+        given = fields.sized()
+    except Short:
+        raise Fault(*SIZE) from None
+    if len(given) != INTEGRITY_BYTES:
+        raise Fault(*SIZE)
+    return given, fields.data
+
+
+def read_object(head: Head, plain: bytes) -> Object:
+    """Returns the object of a decrypted text, whose hierarchy and stClear are those of the head."""
+    fields = Parameters(plain)
+    try:
+        found = image.read_object(fields, image.HIERARCHIES)
+        fields.end()
+    except (Refusal, image.Fault):
+        raise Fault(*INTEGRITY) from None
+    if Head.of(head.sequence, found) != head:
+        raise Fault(*INTEGRITY)
+    return found
