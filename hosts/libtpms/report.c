@@ -59,6 +59,7 @@ const char *words_of_told(uint8_t told) {
     case TPMSIM_STATE_LENGTH: return "it is not as long as it says";
     case TPMSIM_STATE_DIGEST: return "it has another digest than it says";
     case TPMSIM_STATE_BODY: return "it spells no device";
+    case TPMSIM_STATE_EARLIER: return "its journal holds a state of an earlier version";
     case TPMSIM_NO_JOURNAL: return "it is no journal";
     case TPMSIM_DAMAGED: return "its journal is damaged";
     case TPMSIM_OTHERWISE: return "another version of the device wrote it, which answered otherwise";

@@ -19,10 +19,10 @@ pub fn context_laws()
     ensures start { RefusesAnotherStart }
 {}
 
-/// TPM2_ContextSave of an object changes nothing on the device but the time. TPM2_ContextLoad of the
-/// context brings back the same object under a free handle, or is refused by OBJECT_MEMORY if there
-/// is none. Every command except TPM2_Startup and TPM2_Clear leaves the context valid, also
-/// TPM2_FlushContext of the object.
+/// TPM2_ContextSave of an object changes nothing on the device except the time. TPM2_ContextLoad of
+/// the context brings back the same object under a free handle, or is refused by OBJECT_MEMORY if
+/// all slots are taken. Every command except TPM2_Startup and TPM2_Clear leaves the context valid,
+/// also TPM2_FlushContext of the object.
 #[inline(always)]
 pub fn object_laws()
     ensures saved { SavesObjects }

@@ -10,12 +10,12 @@ use tpm_types::HierarchyHandle;
 use tpm_types_object::{Public, Sensitive};
 
 /// Aborts the test if the actual value is not the expected one.
-fn check<R: Abort, T: PartialEq + Drop>(rt: &R, found: T, wanted: T) {
+pub fn check<R: Abort, T: PartialEq + Drop>(rt: &R, found: T, wanted: T) {
     assert!(rt; found == wanted);
 }
 
 /// The public area of each key, in a sized buffer.
-const KEY: &[u8] = b"\0\x10\0\x08\0\x0b\0\x04\x04\x40\0\0\0\x05\0\x0b\0\0";
+pub const KEY: &[u8] = b"\0\x10\0\x08\0\x0b\0\x04\x04\x40\0\0\0\x05\0\x0b\0\0";
 
 const ST_CLEAR_KEY: &[u8] = b"\0\x10\0\x08\0\x0b\0\x04\x04\x44\0\0\0\x05\0\x0b\0\0";
 
@@ -56,7 +56,7 @@ fn hierarchies(value: u8) -> Hierarchies {
 }
 
 /// The primary key of the owner with this public area.
-fn key_of(public: &[u8]) -> Option<Object> {
+pub fn key_of(public: &[u8]) -> Option<Object> {
     let public = Public::read_sized(&mut Cursor::new(public)).ok()?;
     let sensitive = Sensitive::read_sized(&mut Cursor::new(SENSITIVE)).ok()?;
     let owner = HierarchyHandle::Owner;

@@ -1,9 +1,12 @@
 #![tactic(auto)]
 
-//! Tests of contexts for what no clause covers: two contexts that Python computed, each fault, and
-//! the counts to which a context is bound.
+//! Tests of contexts for what no clause covers: two contexts that Python computed, each fault, the
+//! counts to which a context is bound, and a device with the completing layer that saves a key and
+//! loads it again.
 //!
-//! The crate uses `tpm_context`, and no crate uses it.
+//! The crate uses `tpm_context` and `tpm_completion`, and no crate uses it.
 
 #[cfg(test)]
 mod contexts;
+#[cfg(test)]
+mod loading;

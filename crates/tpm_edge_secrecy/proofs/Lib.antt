@@ -1,3 +1,4 @@
+pub mod Contexts
 pub mod Layer
 pub mod Completed
 pub mod Opened

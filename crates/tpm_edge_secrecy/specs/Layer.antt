@@ -1,30 +1,64 @@
 -- What a device with the completing layer reveals of what it keeps secret: no more than the device
--- alone, except which of three authorization values are empty, and the contexts of objects with
--- secrets, which are encrypted. TPM 2.0 Library, Part 1, section 30 (context management), and Part
--- 2, section 8.6 (TPMA_PERMANENT).
+-- alone, except which of three authorization values are empty, and the contexts of objects that have
+-- secrets. TPM 2.0 Library, Part 1, section 30 (context management), and Part 2, section 8.6
+-- (TPMA_PERMANENT).
 use Rattle.std.specs.Int.{w32}
 use Rattle.std.specs.Option.{option_map_or}
-use Rattle.std.specs.Prelude.{Bool, Err, List, Ok, Result, [], false, ℕ, ◌&&◌, ◌==◌, ◌||◌, ◌∷◌, ◌≡◌}
+use Rattle.std.specs.Prelude.{Bool, Err, List, Ok, Result, [], false, is_some, length, ℕ, ◌&&◌, ◌==◌, ◌||◌, ◌∷◌, ◌≡◌}
 use Rattle.tpm_bytes.specs.Reading.{number_at}
 use Rattle.tpm_bytes.specs.declared.cursor.Short.{Short}
+use Rattle.tpm_completion.specs.Answer.{is_refusal}
 use Rattle.tpm_completion.specs.Command.{Command, plain_command}
-use Rattle.tpm_completion.specs.Completed.{completed}
+use Rattle.tpm_completion.specs.Completed.{completed, passed}
 use Rattle.tpm_completion.specs.Completion.{forgotten}
 use Rattle.tpm_completion.specs.Execution.{Seen}
 use Rattle.tpm_completion.specs.Loading.{context_asked, object_opened}
 use Rattle.tpm_completion.specs.Properties.{values_set}
 use Rattle.tpm_completion.specs.Reply.{reply}
+use Rattle.tpm_completion.specs.Saving.{next_number}
 use Rattle.tpm_completion.specs.declared.completion.Completion.{Completion}
 use Rattle.tpm_object.specs.declared.object.Object.{Object}
 use Rattle.tpm_record.specs.Objects.{object_at}
 use Rattle.tpm_record.specs.Record.{Record}
 use Rattle.tpm_row_secrecy.specs.Secrecy.{DifferInSecrets, Secrecy, has_secret_data, of_data, without_secrets}
-use Rattle.tpm_secrecy.specs.Tells.{TellsNothing, is_reading}
+use Rattle.tpm_secrecy.specs.Tells.{EventsAlike, TellsNothing, is_reading}
 use Rattle.tpm_step.specs.Events.{Cycled, Given, Placed, PlainEvent}
-use Rattle.tpm_step.specs.Step.{step}
 use Rattle.tpm_step.specs.declared.event.Row.{Row}
-use Rattle.tpm_types.specs.Handle.{numbered}
+use Rattle.tpm_types.specs.Handle.{is_transient, numbered}
+use Rattle.tpm_types.specs.declared.handle.Handle.{Handle}
 use Rattle.tpm_types_object.specs.declared.public.Public.{Public}
+
+-- ---- which contexts hold secrets
+
+-- whether an object has a secret: its authorization value; or its sealed data or HMAC key
+abbrev pub has_secret : Secrecy → Object → Bool
+has_secret s o = s.object_values o.public || has_secret_data s o
+
+-- whether saving a handle's object writes a secret into a context: the handle is a transient
+-- object's, a sequence is left for the context, and the object has a secret
+abbrev pub saves_object : Secrecy → Record → Completion → Handle → Bool
+saves_object s r c handle =
+    is_transient handle
+    && (is_some (next_number c) && option_map_or (has_secret s) (object_at r.objects handle) false)
+
+-- whether TPM2_ContextSave of the handle in these parameters writes a secret into a context
+abbrev pub handle_saves : Secrecy → Record → Completion → Result (ℕ × List ℕ) Short → Bool
+handle_saves s r c (Ok handle) =
+    (length handle.1 == 0) && saves_object s r c (numbered handle.0)
+handle_saves s r c (Err e) = false
+
+-- whether a command is TPM2_ContextSave (162), and writes a secret into a context
+abbrev pub command_saves : Secrecy → Record → Completion → Result Command Short → Bool
+command_saves s r c (Ok command) =
+    (command.code == 0x162) && handle_saves s r c (number_at w32 command.parameters)
+command_saves s r c (Err e) = false
+
+-- whether the layer's answer to a buffer is the context of an object that has a secret; the device
+-- gave this response, which is COMMAND_CODE (143) for each command that the layer serves itself
+abbrev pub saves_secret : Secrecy → Record → Completion → (buffer response : List ℕ) → Bool
+saves_secret s r c buffer response =
+    r.fixed.started
+    && (is_refusal 0x143 response && command_saves s r c (plain_command buffer))
 
 -- ---- what the layer reads of a device
 
@@ -34,39 +68,20 @@ abbrev pub SetAlike : Record → Record → Type 0
 SetAlike one other =
     values_set one.fixed.hierarchies ≡ values_set other.fixed.hierarchies
 
--- whether an object contains a secret: its sealed data, its key or its authorization value
-abbrev pub holds_secret : Secrecy → Object → Bool
-holds_secret s o = has_secret_data s o || s.object_values o.public
-
--- whether the handle of a command names a transient object that contains a secret
-abbrev pub names_holder : Secrecy → Record → Result (ℕ × List ℕ) Short → Bool
-names_holder s r (Ok handle) =
-    option_map_or (holds_secret s) (object_at r.objects (numbered handle.0)) false
-names_holder s r (Err e) = false
-
--- whether a buffer is TPM2_ContextSave (162) of an object that contains a secret. Its context
--- contains the secret, encrypted under the proof of the object's hierarchy. No law says that
--- nobody decrypts it, so that this counts as a reading of the secret
-abbrev pub saves_in : Secrecy → Record → Result Command Short → Bool
-saves_in s r (Ok command) =
-    (command.code == 0x162) && names_holder s r (number_at w32 command.parameters)
-saves_in s r (Err e) = false
-
-unfoldable pub saves_secret : Secrecy → Record → (buffer : List ℕ) → Bool
-saves_secret s r buffer = saves_in s r (plain_command buffer)
-
--- What the layer answers after a response of the device, and what it remembers then, is the same for
--- two devices that differ only in secrets, if they agree on which of these values are empty, and if
--- the command saves no object that contains a secret.
+-- What the layer answers after a response of the device, and what it remembers then, is the same of
+-- two devices that differ in what is secret alone, if they agree on which of these values are
+-- empty, and the answer is not the context of an object that has a secret.
 abbrev pub LayerAnswersAlike : Type 0
 LayerAnswersAlike =
     (s : Secrecy) (one other : Record) (c : Completion) (buffer response : List ℕ)
     (was_told : Bool)
-    → DifferInSecrets s one other → SetAlike one other → saves_secret s one buffer ≡ false
+    → DifferInSecrets s one other → SetAlike one other
+    → saves_secret s one c buffer response ≡ false
     → reply one c buffer response was_told ≡ reply other c buffer response was_told
 
--- Which context of an object a command loads, and the object in it or the fault, are the same for
--- two such devices.
+-- The layer loads the same context on two devices that differ in what is secret alone, and the
+-- context contains the same object on both, or has the same fault: the proofs of the hierarchies are
+-- no secrets.
 abbrev pub LayerLoadsAlike : Type 0
 LayerLoadsAlike =
     (s : Secrecy) (one other : Record) (c : Completion) (buffer response context : List ℕ)
@@ -82,33 +97,38 @@ LayerForgetsAlike =
 
 -- ---- an event
 
+-- whether the layer's answer to an event is the context of an object that has a secret
+abbrev pub is_saving : Secrecy → Completion → Record → PlainEvent → Bool
+is_saving s c r (Given buffer locality elapsed random) =
+    let first : Seen = passed c r (Given buffer locality elapsed random) in
+    saves_secret s first.step.after first.layer buffer first.step.response
+is_saving s c r Cycled = false
+is_saving s c r (Placed object) = false
+
+-- whether an event reads secrets with the layer (true), or without it (false): the device reads
+-- them, or the layer writes them into a context
+abbrev pub is_reading_with : Secrecy → (completes : Bool) → Completion → Record → PlainEvent → Bool
+is_reading_with s completes c r event =
+    is_reading s r event || (completes && is_saving s c r event)
+
 -- Two effects give the same response and report the same row; the layer remembers the same after
 -- both, and the two devices differ in what is secret alone.
 pub record CompletesAlike (s : Secrecy) (x y : Seen) : Type 0 where
   pub step : TellsNothing s x.step y.step
   pub layer : x.layer ≡ y.layer
 
--- whether the layer saves an object that contains a secret, when the device has answered an event
-abbrev pub saves_then : Secrecy → Record → PlainEvent → Bool
-saves_then s r (Given buffer locality elapsed random) =
-    saves_secret s (step r (Given buffer locality elapsed random)).after buffer
-saves_then s r Cycled = false
-saves_then s r (Placed object) = false
-
--- whether an event reads a secret: on the device, or with the layer (true) by saving an object
-abbrev pub reads_with : Secrecy → (completes : Bool) → Record → PlainEvent → Bool
-reads_with s completes r event = is_reading s r event || (completes && saves_then s r event)
-
 -- Two devices differ in secret data alone. An event that does not read them reveals nothing of
--- them with the layer either, also if the layer loads a context and the device places its object.
--- No memory is refused.
+-- them with the layer either, also if it loads an object from its context. If the event itself
+-- places an object, the object that the other device places may differ in this data too. No memory
+-- is refused.
 abbrev pub CompletedTellsNothing : Type 0
 CompletedTellsNothing =
     (indices : ℕ → Bool) (objects : Public → Bool) (one other : Record) (completes : Bool)
-    (c : Completion) (event : PlainEvent)
+    (c : Completion) (event also : PlainEvent)
     → let s : Secrecy = of_data indices objects in
-    DifferInSecrets s one other → reads_with s completes one event ≡ false
-    → CompletesAlike s (completed completes c one event) (completed completes c other event)
+    DifferInSecrets s one other → EventsAlike s event also
+    → is_reading_with s completes c one event ≡ false
+    → CompletesAlike s (completed completes c one event) (completed completes c other also)
 
 -- ---- a list of events
 
@@ -128,14 +148,23 @@ abbrev pub NoneReadsWith : Secrecy → Completion → Record → Completions →
 NoneReadsWith s c r [] = Unit {0}
 NoneReadsWith s c r (e ∷ es) =
     let x : Seen = completed e.0 c r e.1 in
-    (reads_with s e.0 r e.1 ≡ false) × NoneReadsWith s x.layer x.step.after es
+    (is_reading_with s e.0 c r e.1 ≡ false) × NoneReadsWith s x.layer x.step.after es
+
+-- These events are the same, and the layer completes the same ones; but objects that they place may
+-- differ in secrets.
+abbrev pub CompletionsAlike : Secrecy → Completions → Completions → Type 0
+CompletionsAlike s [] [] = Unit {0}
+CompletionsAlike s (e ∷ es) (f ∷ fs) =
+    (e.0 ≡ f.0) × EventsAlike s e.1 f.1 × CompletionsAlike s es fs
+CompletionsAlike s [] (f ∷ fs) = ⊥
+CompletionsAlike s (e ∷ es) [] = ⊥
 
 -- Two devices differ in secret data alone, and have the same layer. They answer alike until an
 -- event reads these data.
 abbrev pub CompletedRunTellsNothing : Type 0
 CompletedRunTellsNothing =
     (indices : ℕ → Bool) (objects : Public → Bool) (one other : Record) (c : Completion)
-    (events : Completions)
+    (events others : Completions)
     → let s : Secrecy = of_data indices objects in
-    DifferInSecrets s one other → NoneReadsWith s c one events
-    → answers_with c one events ≡ answers_with c other events
+    DifferInSecrets s one other → CompletionsAlike s events others → NoneReadsWith s c one events
+    → answers_with c one events ≡ answers_with c other others

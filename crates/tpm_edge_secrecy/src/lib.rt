@@ -9,16 +9,18 @@
 
 ghost use Rattle.tpm_edge_secrecy.specs.Layer.{CompletedRunTellsNothing};
 ghost use Rattle.tpm_edge_secrecy.specs.Layer.{CompletedTellsNothing};
-ghost use Rattle.tpm_edge_secrecy.specs.Layer.{LayerAnswersAlike, LayerForgetsAlike, LayerLoadsAlike};
+ghost use Rattle.tpm_edge_secrecy.specs.Layer.{LayerAnswersAlike, LayerForgetsAlike};
+ghost use Rattle.tpm_edge_secrecy.specs.Layer.{LayerLoadsAlike};
 ghost use Rattle.tpm_edge_secrecy.specs.Opened.{OpenedDataNeedPolicy};
 
-/// The completing layer reveals which of ownerAuth, endorsementAuth and lockoutAuth are empty. It
-/// reveals nothing else that the device keeps secret, unless it saves an object that contains a
-/// secret: the context contains the secret, encrypted. For two devices that differ only in secrets
-/// and agree on these values, the answers and what the layer remembers are the same, and so are the
-/// objects of contexts that are loaded. So if two devices differ only in secret data, an event that
-/// does not read them reveals nothing of them with the layer either, and neither does a list of
-/// events. To save an object counts as a reading.
+/// The completing layer reveals which of ownerAuth, endorsementAuth and lockoutAuth are empty, and
+/// the contexts of objects that have secrets; nothing else that the device keeps secret. Two devices
+/// that differ in secrets alone, authorization values among them, and agree on which values are
+/// empty, get the same answers from the layer, which remembers the same for both. Only
+/// TPM2_ContextSave of an object that has a secret may answer otherwise: it counts as a command that
+/// reads the secret. A context that is loaded contains the same object on both. So if two devices
+/// differ in secret data alone, an event that does not read them reveals nothing of them with the
+/// layer either, and neither does a list of events.
 #[inline(always)]
 pub fn layer_laws()
     ensures answers { LayerAnswersAlike }

@@ -48,8 +48,8 @@ pub(crate) enum Command<'a> {
         random: &'a [u8],
         buffer: &'a [u8],
     },
-    /// A power cycle at this time of the host's clock. The number of the layer's start is one that
-    /// no start had before.
+    /// A power cycle at this time of the host's clock. The number `start` has no effect; the
+    /// completing layer keeps its start.
     Cycle {
         now_ms: u64,
         start: u64,

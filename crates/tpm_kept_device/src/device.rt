@@ -70,8 +70,8 @@ impl Device for KeptDevice {
     fn leap(&mut self, command: &[u8], response: &mut Vec<u8>) -> Result<(), Exhausted> {
         self.parts.read_widths();
         match read_command(command) {
-            Ok(Command::Cycle { now_ms, start }) => {
-                self.parts.cycle_power(now_ms, start);
+            Ok(Command::Cycle { now_ms, .. }) => {
+                self.parts.cycle_power(now_ms);
                 Ok(())
             }
             Ok(Command::Begin { seed }) => self.begin_anew(seed, response),

@@ -2,18 +2,17 @@
 
 ghost use Rattle.std.specs.Prelude.{◌≡◌, ◌≤◌, ◌++◌, IfOk, OnOk, false, length, option_copied, replicate, take, true};
 ghost use Rattle.std.specs.Option.{MatchOption};
-ghost use Rattle.tpm_completion.specs.Completion.{new_completion};
 ghost use Rattle.tpm_journal.specs.Command.{Executed, entry_of};
 ghost use Rattle.tpm_completion.specs.Execution.{seen_of};
 ghost use Rattle.tpm_journal.specs.Opening.{OpensJournal};
 ghost use Rattle.tpm_journal.specs.Replay.{Replays};
-ghost use Rattle.tpm_journal.specs.State.{journal_after, layer_in};
+ghost use Rattle.tpm_journal.specs.State.{journal_after};
 ghost use Rattle.tpm_keeping.specs.Journal.{started, stepped};
 ghost use Rattle.tpm_kept_journal.specs.DeviceJournal.{device_journal};
 ghost use Rattle.tpm_kept_journal.specs.Effect.{command_on, cycled_at};
 ghost use Rattle.tpm_kept_journal.specs.Opening.{head_of, head_sum_of, opened_text, walked};
 ghost use Rattle.tpm_kept_journal.specs.Salvage.{salvaged_text};
-ghost use Rattle.tpm_kept_journal.specs.Seed.{begun_in, state_made, state_opened, state_restored};
+ghost use Rattle.tpm_kept_journal.specs.Seed.{begun_in, layer_restored, state_made, state_opened, state_restored};
 ghost use Rattle.tpm_kept_journal.specs.State.{IsDeviceState, bytes_of, whole_of};
 ghost use Rattle.tpm_kept_device.specs.View.{BeginsAs, answer_in, plain_seed, spot_in, state_of};
 ghost use Rattle.tpm_image_text.specs.Image.{image_of};
@@ -29,7 +28,7 @@ use crate::command::{Command, read_command};
 use crate::front::whole_size;
 use crate::seed::{Seed, read_seed};
 use std::alloc::Global;
-use tpm_completion::Completion;
+use tpm_completion::{Completion, execute as complete};
 use tpm_image::open_into;
 use tpm_journal::Journal;
 use tpm_journal::opening::open;
@@ -126,7 +125,7 @@ impl Parts {
         Ok(Some(parts))
     }
 
-    /// The device of a seed's state text, with its layer, if it has one.
+    /// The device of a seed's state text, with its layer, if it has one, under a new start.
     fn restore(alloc: Global, seed: &Seed) -> Result<Option<Box<Parts>>, Exhausted>
         ensures { IfOk result (BeginsAs (λ b. b.value)
             (state_restored (plain_seed seed.now) (state_of_text seed.now.content.now))) }
@@ -135,7 +134,7 @@ impl Parts {
         let Ok(layer) = restore_new(&mut parts.machine, seed.content) else {
             return Ok(None);
         };
-        parts.begin_journal(seed.now_ms, layer_in(seed.start, layer.as_ref()));
+        parts.begin_journal(seed.now_ms, layer_restored(seed.start, layer.as_ref()));
         Ok(Some(parts))
     }
 
@@ -280,13 +279,15 @@ impl Parts {
         )
     }
 
-    /// Cycles the power of a device, whose layer begins again.
-    pub fn cycle_power(&mut self, now_ms: u64, start: u64)
-        ensures { state_of self.new ≡ cycled_at (state_of self.old) now_ms start }
+    /// Power-cycles the device. Its layer keeps its start, and forgets the contexts of sessions.
+    #[tactic(auto, unfolding(tpm_completion::specs::Completed::passed))]
+    pub fn cycle_power(&mut self, now_ms: u64)
+        ensures { state_of self.new ≡ cycled_at (state_of self.old) now_ms }
     {
-        self.machine
-            .execute_into(&Event::PowerCycle, &mut self.outcome);
-        self.begin_journal(now_ms, Completion::of_start(start));
+        let mut layer = self.journal.layer;
+        let outcome = &mut self.outcome;
+        complete(&mut self.machine, &mut layer, true, &Event::PowerCycle, outcome);
+        self.begin_journal(now_ms, layer);
     }
 
     /// Appends the head of the state, and returns its sum.
@@ -346,12 +347,16 @@ fn put_head_of(
     }
 }
 
-/// The layer of a state: the one that it has, or a new one of this start.
-fn layer_in(start: u64, layer: Option<&Layer>) -> Completion
-    ensures { result ≡ layer_in start (option_copied layer.entry) }
+/// The layer of a device that is restored: that of the text with a new start, or a new one.
+fn layer_restored(start: u64, layer: Option<&Layer>) -> Completion
+    ensures { result ≡ layer_restored start (option_copied layer.entry) }
 {
     match layer {
-        Some(_) => completion_of(layer),
+        Some(_) => {
+            let mut restored = completion_of(layer);
+            restored.start = start;
+            restored
+        }
         None => Completion::of_start(start),
     }
 }

@@ -69,7 +69,7 @@ fn put_given(
     text.extend_from_slice(buffer)
 }
 
-/// A power cycle at this time, with this number for the start of the completing layer.
+/// A power cycle at this time. The number has no effect.
 #[tactic(auto, using(crate::proofs::Texts::cycle_read))]
 pub fn power_cycle(alloc: Global, now_ms: u64, start: u64) -> Result<Vec<u8>, AllocError>
     ensures text { IfOk result (λ text. text.items ≡ cycle_text now_ms start) }

@@ -1,9 +1,9 @@
 -- A device that executes the entries of a text goes where the text leads.
-use Rattle.std.proofs.Common.{◌≡◌, ◌<◌, ◌+◌, ◌==◌, ℕ, zero, suc, Bool, true, false, List, [], ◌∷◌, ◌++◌, length, drop, map, get_or, Option, Some, None, refl, subst, sym, ap, ◌∙◌, append_assoc, arith, length-append, eq-eqb, eqb-true}
+use Rattle.std.proofs.Common.{◌≡◌, ◌<◌, ◌+◌, ◌==◌, ℕ, zero, suc, Bool, true, false, List, [], ◌∷◌, ◌++◌, length, drop, map, get_or, Option, Some, None, Result, Ok, Err, refl, subst, sym, ap, ◌∙◌, append_assoc, arith, length-append, eq-eqb, eqb-true}
 use Rattle.std.specs.List.{AllByRecursion}
+use Rattle.std.proofs.lemmas.Bool.{false≢true}
 use Rattle.std.proofs.lemmas.List.{length-take-le, take-append-drop}
-use Rattle.tpm_completion.specs.Execution.{Behind, Completes, CompletesBy, CompletesIf, Seen, given_up_behind}
-use Rattle.tpm_completion.specs.Room.{flush_asked}
+use Rattle.tpm_completion.specs.Execution.{AsksFirst, Behind, Completes, CompletesIf, Loads, PlacesIf, Seen, asked_behind, opened_behind}
 use Rattle.tpm_completion.specs.declared.completion.Completion.{Completion}
 use Rattle.tpm_completion.proofs.Exactly.{exactly}
 use Rattle.tpm_journal.specs.Command.{IsPerformed, event_of}
@@ -18,6 +18,8 @@ use Rattle.tpm_journal_text.specs.Journal.{IsDamaged, IsTorn, entries_text}
 use Rattle.tpm_journal_text.specs.Sum.{sum_of}
 use Rattle.tpm_journal_text.proofs.Standing.{entry_text_some}
 use Rattle.tpm_keeping.specs.Journal.{Spot}
+use Rattle.tpm_context.specs.declared.fault.ContextFault.{ContextFault}
+use Rattle.tpm_object.specs.declared.object.Object.{Object}
 use Rattle.tpm_record.specs.IsRecord.{IsRecord}
 use Rattle.tpm_record.specs.Record.{Record}
 use Rattle.tpm_step.specs.Events.{Cycled, Given, Placed, PlainEvent}
@@ -26,7 +28,7 @@ use Rattle.tpm_kept_journal.specs.Opening.{Fails, found_at, found_next, performa
 use Rattle.tpm_kept_journal.specs.State.{DeviceState, IsDeviceState, bytes_of, spot_of, state_in, state_of_bytes}
 use Rattle.tpm_kept_journal.specs.texts.NextAt as next
 use Rattle.tpm_kept_journal.specs.texts.Parts.{where_so}
-use Rattle.tpm_kept_journal.proofs.Layers.{IsFine, completed_fine, fine_layer, layer_fine}
+use Rattle.tpm_kept_journal.proofs.Layers.{IsFine, completed_fine}
 use Rattle.tpm_kept_journal.proofs.States.{state_told}
 use Rattle.tpm_kept_journal.proofs.Walks.{found_torn, spot_made, walk_ends, walk_entry, walk_fails, walk_otherwise}
 use Rattle.tpm_kept_journal.proofs.texts.NextAt.{next_only}
@@ -35,20 +37,28 @@ use Rattle.tpm_kept_journal.proofs.texts.TornText.{is_torn_text-Decides}
 
 -- ---- the record after an effect is one
 
-behind_record : (first : Seen) (buffer : List ℕ) (locality : ℕ) (random : List ℕ) (place : Option ℕ) (seen : Seen)
-    → IsRecord first.step.after → Behind false first buffer locality random place seen → IsRecord seen.step.after
-behind_record first buffer locality random (Some place) seen is (flush, flushes, again) = again.executes.is_record
-behind_record first buffer locality random None seen is same = subst (λ (s : Seen). IsRecord s.step.after) (sym same) is
+content_record : (refused : Bool) (first : Seen) (object : Object) (seen : Seen) → IsRecord first.step.after → PlacesIf false refused first object seen
+    → IsRecord seen.step.after
+content_record false first object seen is (placing, places, same) = subst (λ (s : Seen). IsRecord s.step.after) (sym same) places.executes.is_record
+content_record true first object seen is (may, same) = absurd (false≢true may)
 
-by_record : (c : Completion) (old : Record) (buffer : List ℕ) (locality elapsed : ℕ) (random : List ℕ) (place : Option ℕ) (seen : Seen)
-    → CompletesBy false c old buffer locality elapsed random place seen → IsRecord seen.step.after
-by_record c old buffer locality elapsed random (Some place) seen (tick, passes, same) =
-    subst (λ (s : Seen). IsRecord s.step.after) (sym same) passes.executes.is_record
-by_record c old buffer locality elapsed random None seen (first, passes, behind) =
-    behind_record first buffer locality random (given_up_behind first) seen passes.executes.is_record behind
+loads_record : (first : Seen) (content : Result Object ContextFault) (seen : Seen) → IsRecord first.step.after → Loads false first content seen
+    → IsRecord seen.step.after
+loads_record first (Ok object) seen is (refused, places) = content_record refused first object seen is places
+loads_record first (Err fault) seen is same = subst (λ (s : Seen). IsRecord s.step.after) (sym same) is
+
+behind_record : (first : Seen) (buffer : List ℕ) (asked : Option (List ℕ)) (seen : Seen)
+    → IsRecord first.step.after → Behind false first buffer asked seen → IsRecord seen.step.after
+behind_record first buffer (Some context) seen is loads = loads_record first (opened_behind first context) seen is loads
+behind_record first buffer None seen is same = subst (λ (s : Seen). IsRecord s.step.after) (sym same) is
+
+asks_record : (c : Completion) (old : Record) (buffer : List ℕ) (locality elapsed : ℕ) (random : List ℕ) (seen : Seen)
+    → AsksFirst false c old buffer locality elapsed random seen → IsRecord seen.step.after
+asks_record c old buffer locality elapsed random seen (first, passes, behind) =
+    behind_record first buffer (asked_behind first buffer) seen passes.executes.is_record behind
 
 completes_record : (c : Completion) (old : Record) (event : PlainEvent) (seen : Seen) → Completes false c old event seen → IsRecord seen.step.after
-completes_record c old (Given buffer locality elapsed random) seen is = by_record c old buffer locality elapsed random (flush_asked c buffer) seen is
+completes_record c old (Given buffer locality elapsed random) seen is = asks_record c old buffer locality elapsed random seen is
 completes_record c old Cycled seen passes = passes.executes.is_record
 completes_record c old (Placed object) seen passes = passes.executes.is_record
 
@@ -64,10 +74,9 @@ state_after s completes event elapsed seen is done = record {
   time = omega arith;
   whole = record {
     device = record_after completes s.layer s.device event seen done;
-    layer = fine_layer seen.layer (
+    layer =
         subst (λ (x : Seen). IsFine x.layer) (sym (exactly false completes s.layer s.device event seen done refl))
-        (completed_fine completes s.layer s.device event (layer_fine s.layer is.whole.layer))
-        );
+        (completed_fine completes s.layer s.device event is.whole.layer);
   };
 }
 

@@ -3,6 +3,7 @@ pub mod Replay
 pub mod Entries
 pub mod Walks
 pub mod States
+pub mod Beginning
 pub mod Heads
 pub mod JournalLaws
 pub mod Layers

@@ -5,22 +5,24 @@ use Rattle.std.proofs.lemmas.Bool.{false≢true}
 use Rattle.std.proofs.lemmas.List.{length-append, length-replicate, length-take-le}
 use Rattle.std.proofs.lemmas.Slice.Eq.{bytes_eq-Decides}
 use Rattle.tpm_completion.specs.Answer.{is_refusal, refusal}
-use Rattle.tpm_completion.specs.Completed.{behind, completed, completed_by, done_behind, gave_up_behind, noted_behind, passed}
+use Rattle.tpm_completion.specs.Command.{plain_command}
+use Rattle.tpm_completion.specs.Completed.{behind, completed, done_behind, loaded_behind, passed}
 use Rattle.tpm_completion.specs.Completion.{forgotten}
-use Rattle.tpm_completion.specs.Execution.{Seen, given_up_behind, no_random}
-use Rattle.tpm_completion.specs.Room.{flush_asked, flush_text, given_up, longest, wants_room}
+use Rattle.tpm_completion.specs.Execution.{Seen, asked_behind, opened_behind}
+use Rattle.tpm_completion.specs.Loading.{context_asked, object_context_in}
 use Rattle.tpm_completion.specs.declared.completion.Completion.{Completion}
 use Rattle.tpm_journal.specs.Command.{Command, entry_of, given, padded}
 use Rattle.tpm_journal.specs.draw_laws.Bytes.{AgreeOnDrawn, zeros_behind}
 use Rattle.tpm_journal.proofs.draw_laws.Executions.{draws_alike, steps_alike}
 use Rattle.tpm_journal.proofs.draw_laws.Fronts.{front_kept}
+use Rattle.tpm_context.specs.declared.fault.ContextFault.{ContextFault}
 use Rattle.tpm_machine.specs.Drawn.{drawn_by, drawn_by_command}
+use Rattle.tpm_object.specs.declared.object.Object.{Object}
 use Rattle.tpm_record.specs.Record.{Record}
 use Rattle.tpm_record.specs.Tick.{ticked}
 use Rattle.tpm_step.specs.Answer.{answer_to, framed, handle_answer, success_text}
 use Rattle.tpm_step.specs.Events.{Given, PlainEvent}
 use Rattle.tpm_step.specs.Step.{Accepted, Stepped, accepted, step, stepped_of}
-use Rattle.tpm_step.specs.declared.event.Row.{Row}
 use Rattle.tpm_step.specs.declared.refused_command.RefusedCommand.{RefusedCommand}
 use Rattle.tpm_types.specs.declared.handle.Handle.{Handle}
 use Rattle.tpm_types_command.specs.AuthEntry.{Entry}
@@ -92,22 +94,22 @@ module _ (c : Completion) (old : Record) (buffer : List ℕ) (locality elapsed :
   passed_anyhow other none as_long =
       passed_alike other (as_long, ap (λ (n : ℕ). take n other) none ∙ ap (λ (n : ℕ). take n random) (sym none))
 
--- ---- a command for which an object is given up drew none before
+-- ---- a command that loads the context of an object draws none
 
--- a success is no refusal: the third byte of its code is 0, and not 9
-framed_success : (tag : ℕ) (body : List ℕ) → is_refusal 0x902 (framed tag 0 body) ≡ true → ⊥
+-- a success is no refusal: the third byte of its code is 0, and not 1
+framed_success : (tag : ℕ) (body : List ℕ) → is_refusal 0x143 (framed tag 0 body) ≡ true → ⊥
 framed_success tag body is =
-    let same : framed tag 0 body ≡ refusal 0x902 = (bytes_eq-Decides (framed tag 0 body) (refusal 0x902)).0 is in
-    let never : 0 ≡ 9 = ap (λ (l : List ℕ). get_or l 8 0) same in
+    let same : framed tag 0 body ≡ refusal 0x143 = (bytes_eq-Decides (framed tag 0 body) (refusal 0x143)).0 is in
+    let never : 0 ≡ 1 = ap (λ (l : List ℕ). get_or l 8 0) same in
     absurd cc
 
-success_no_refusal : (entries : List Entry) (handle : Option Handle) (answer area : List ℕ) → is_refusal 0x902 (success_text entries handle answer area) ≡ true → ⊥
+success_no_refusal : (entries : List Entry) (handle : Option Handle) (answer area : List ℕ) → is_refusal 0x143 (success_text entries handle answer area) ≡ true → ⊥
 unfolding success_text
 success_no_refusal [] handle answer area is = framed_success 0x8001 (handle_answer handle ++ answer) is
 success_no_refusal (entry ∷ entries) handle answer area is =
     framed_success 0x8002 (handle_answer handle ++ to_be_bytes w32 (length answer) ++ answer ++ area) is
 
-refused_draws_none : (r : Record) (random : List ℕ) (a : Result Accepted RefusedCommand) → is_refusal 0x902 (stepped_of r random a).response ≡ true
+refused_draws_none : (r : Record) (random : List ℕ) (a : Result Accepted RefusedCommand) → is_refusal 0x143 (stepped_of r random a).response ≡ true
     → drawn_by_command random a 0 ≡ 0
 unfolding answer_to
 refused_draws_none r random (Ok a) is = absurd (success_no_refusal _ _ _ _ is)
@@ -117,26 +119,22 @@ and_right : (a b : Bool) → (a && b) ≡ true → b ≡ true
 and_right true b is = is
 and_right false b is = absurd (false≢true is)
 
-and_left : (a b : Bool) → (a && b) ≡ true → a ≡ true
-and_left true b is = refl
-and_left false b is = absurd (false≢true is)
+if_some : {X : Type 0} (test : Bool) (found : Option X) (x : X) → (if test then found else None) ≡ Some x → test ≡ true
+if_some true found x is = refl
+if_some false found x is = absurd cc
 
-some_if : {X : Type 0} (test : Bool) (x y : X) → (if test then Some x else None) ≡ Some y → test ≡ true
-some_if true x y is = refl
-some_if false x y is = absurd cc
+asked_refused : (r : Record) (buffer response context : List ℕ) → context_asked r buffer response ≡ Some context → is_refusal 0x143 response ≡ true
+unfolding context_asked
+asked_refused r buffer response context is =
+    and_right r.fixed.started (is_refusal 0x143 response) (if_some _ (object_context_in (plain_command buffer)) context is)
 
-given_up_refused : (layer : Completion) (row : Row) (response : List ℕ) (place : ℕ) → given_up layer row response ≡ Some place → is_refusal 0x902 response ≡ true
-unfolding given_up
-given_up_refused layer row response place is =
-    and_right _ (is_refusal 0x902 response) (and_left (wants_room row response) _ (some_if _ (longest layer).place place is))
-
-gives_up_draws_none : (c : Completion) (old : Record) (buffer : List ℕ) (locality elapsed : ℕ) (random : List ℕ) (place : ℕ)
-    → given_up_behind (passed c old (Given buffer locality elapsed random)) ≡ Some place
+asked_draws_none : (c : Completion) (old : Record) (buffer : List ℕ) (locality elapsed : ℕ) (random context : List ℕ)
+    → asked_behind (passed c old (Given buffer locality elapsed random)) buffer ≡ Some context
     → drawn_by old (Given buffer locality elapsed random) 0 ≡ 0
 unfolding passed
-gives_up_draws_none c old buffer locality elapsed random place given =
+asked_draws_none c old buffer locality elapsed random context asked =
     refused_draws_none (ticked old elapsed) random (accepted (ticked old elapsed) buffer locality random)
-    (given_up_refused _ _ _ place given)
+    (asked_refused _ buffer _ context asked)
 
 -- ---- with the layer
 
@@ -149,57 +147,35 @@ module _ (c : Completion) (old : Record) (buffer : List ℕ) (locality elapsed :
   abbrev first : Seen
   first = passed c old (Given buffer locality elapsed random)
 
-  -- the device's first execution, with the bytes that were drawn in the end
-  first_again : (place : Option ℕ) → given_up_behind first ≡ place
-      → passed c old (Given buffer locality elapsed (zeros_behind (done_behind first buffer locality random place).drawn random)) ≡ first
+  -- the number of bytes drawn to load a context, or to refuse it: none that the device did not draw
+  few_content : (content : Result Object ContextFault) → (loaded_behind first content).drawn ≤ length random
+  few_content (Ok object) = omega arith
+  few_content (Err fault) = few_drawn c old buffer locality elapsed random
+
+  few_behind : (asked : Option (List ℕ)) → (done_behind first buffer asked).drawn ≤ length random
+  few_behind (Some context) = few_content (opened_behind first context)
+  few_behind None = few_drawn c old buffer locality elapsed random
+
+  -- the device's execution, with the bytes that were drawn in the end
+  first_again : (asked : Option (List ℕ)) → asked_behind first buffer ≡ asked
+      → passed c old (Given buffer locality elapsed (zeros_behind (done_behind first buffer asked).drawn random)) ≡ first
   first_again None is = passed_again c old buffer locality elapsed random first.drawn refl all
-  first_again (Some place) is =
-      let flush : Seen = passed first.layer first.step.after (Given (flush_text place) locality 0 no_random) in
-      let n : ℕ = (gave_up_behind first buffer locality random place).drawn in
+  first_again (Some context) is =
+      let n : ℕ = (done_behind first buffer (Some context)).drawn in
       passed_anyhow c old buffer locality elapsed random (zeros_behind n random)
-      (gives_up_draws_none c old buffer locality elapsed random place is)
-      (zeros_many n random (few_drawn flush.layer flush.step.after buffer locality 0 random) all)
-
-  -- and what comes after it
-  rest_again : (place : Option ℕ)
-      → done_behind first buffer locality (zeros_behind (done_behind first buffer locality random place).drawn random) place
-      ≡ done_behind first buffer locality random place
-  rest_again None = refl
-  rest_again (Some place) =
-      let flush : Seen = passed first.layer first.step.after (Given (flush_text place) locality 0 no_random) in
-      passed_again flush.layer flush.step.after buffer locality 0 random (gave_up_behind first buffer locality random place).drawn refl all
-
-  by_again : (place : Option ℕ)
-      → completed_by c old buffer locality elapsed (zeros_behind (completed_by c old buffer locality elapsed random place).drawn random) place
-      ≡ completed_by c old buffer locality elapsed random place
-  by_again (Some place) =
-      ap (λ (t : Seen). noted_behind t place)
-      (passed_again c old [] locality elapsed random (passed c old (Given [] locality elapsed random)).drawn refl all)
-  by_again None =
-      let kept : List ℕ = zeros_behind (behind first buffer locality random).drawn random in
-      ap (λ (f : Seen). behind f buffer locality kept) (first_again (given_up_behind first) refl)
-      ∙ rest_again (given_up_behind first)
+      (asked_draws_none c old buffer locality elapsed random context is)
+      (zeros_many n random (few_behind (Some context)) all)
 
   pub completed_again : (completes : Bool) (n : ℕ) → n ≡ (completed completes c old (Given buffer locality elapsed random)).drawn
       → completed completes c old (Given buffer locality elapsed (zeros_behind n random)) ≡ completed completes c old (Given buffer locality elapsed random)
   completed_again false n is = passed_again c old buffer locality elapsed random n is all
   completed_again true n is =
       ap (λ (m : ℕ). completed true c old (Given buffer locality elapsed (zeros_behind m random))) is
-      ∙ by_again (flush_asked c buffer)
-
-  few_behind : (place : Option ℕ) → (done_behind first buffer locality random place).drawn ≤ length random
-  few_behind None = few_drawn c old buffer locality elapsed random
-  few_behind (Some place) =
-      let flush : Seen = passed first.layer first.step.after (Given (flush_text place) locality 0 no_random) in
-      few_drawn flush.layer flush.step.after buffer locality 0 random
-
-  few_by : (place : Option ℕ) → (completed_by c old buffer locality elapsed random place).drawn ≤ length random
-  few_by (Some place) = few_drawn c old [] locality elapsed random
-  few_by None = few_behind (given_up_behind first)
+      ∙ ap (λ (f : Seen). behind f buffer) (first_again (asked_behind first buffer) refl)
 
   pub completed_few : (completes : Bool) → (completed completes c old (Given buffer locality elapsed random)).drawn ≤ length random
   completed_few false = few_drawn c old buffer locality elapsed random
-  completed_few true = few_by (flush_asked c buffer)
+  completed_few true = few_behind (asked_behind first buffer)
 
 -- ---- entries
 

@@ -38,7 +38,7 @@ use Rattle.tpm_kept_journal.specs.texts.HeadAt.{PlainHead, head_at}
 use Rattle.tpm_kept_journal.proofs.Entries.{sum_small}
 use Rattle.tpm_kept_journal.proofs.Following.{Tells, followed_so}
 use Rattle.tpm_kept_journal.proofs.Heads.{head_starts}
-use Rattle.tpm_kept_journal.proofs.Layers.{IsFine, fine_layer, new_fine, text_fine}
+use Rattle.tpm_kept_journal.proofs.Layers.{IsFine, new_fine}
 use Rattle.tpm_kept_journal.proofs.texts.HeadAt.{no_head}
 
 -- ---- what starts is a state of a device
@@ -66,14 +66,14 @@ pub device_is : (time : ℕ) (layer : Completion) (device : Record) → time < 2
     → IsDeviceState (record { time = time; layer = layer; device = device })
 device_is time layer device small fine is = record {
   time = small;
-  whole = record { device = is; layer = fine_layer layer fine };
+  whole = record { device = is; layer = fine };
 }
 
 pub layer_in_fine : (sum : ℕ) (state : WholeState) → sum < 2 ^ 64 → IsWholeState state → IsFine (layer_in sum state.layer)
 layer_in_fine sum state small is = by state.layer is.layer
   where
     by : (layer : Option Layer) → IfSome layer IsLayer → IsFine (layer_in sum layer)
-    by (Some layer) is = text_fine layer is
+    by (Some layer) is = is
     by None is = new_fine sum small
 
 module _ (clock : ℕ) (content : List ℕ) (small : clock < 2 ^ 64) (are : AreBytes content) (start : Start) where

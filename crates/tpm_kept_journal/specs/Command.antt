@@ -14,8 +14,8 @@ pub data Moment : Type 0 where
 
 -- A command of the standard: when it comes, its locality, whether the layer completes what the
 -- device does, 256 random bytes, and its buffer. A power cycle: the host's clock in milliseconds,
--- and a number for the layer's start, which no start had before. A new beginning, as the restoring
--- of a snapshot: a seed.
+-- and a number that has no effect; the completing layer keeps its start. A new beginning, as the
+-- restoring of a snapshot: a seed.
 pub data KeptCommand : Type 0 where
   Executes : Moment → (locality : ℕ) → (completes : Bool) → (random buffer : List ℕ) → KeptCommand
   Cycles : (now start : ℕ) → KeptCommand
@@ -45,7 +45,7 @@ executed_after_in text = do
   elapsed ← number_in w32 text
   executed_in (After elapsed.0) elapsed.1
 
--- the text of a power cycle, after its kind: eight bytes for the clock, and eight for the start
+-- the text of a power cycle, after its kind: eight bytes for the clock, and eight for the number
 unfoldable pub cycled_in : List ℕ → Result KeptCommand Malformed
 cycled_in text = do
   now ← number_in w64 text

@@ -8,6 +8,7 @@ ghost use Rattle.tpm_keeping.specs.Journal.{IsJournal, Spot};
 ghost use Rattle.tpm_kept_journal.specs.DeviceJournal.{device_journal};
 ghost use Rattle.tpm_kept_journal.specs.Opening.{head_of, opened_text};
 ghost use Rattle.tpm_kept_journal.specs.Salvage.{salvaged_text};
+ghost use Rattle.tpm_kept_journal.specs.Seed.{Seed, begun_of};
 ghost use Rattle.tpm_kept_journal.specs.State.{DeviceState, IsDeviceState, bytes_of, state_of_bytes};
 ghost use Rattle.tpm_kept_journal.specs.State.{whole_of};
 ghost use Rattle.tpm_state_text.specs.State.{state_text};
@@ -30,6 +31,15 @@ pub fn device_state_laws()
     ensures told { (s : DeviceState) → IsDeviceState s → state_of_bytes (bytes_of s) ≡ Some s }
     ensures head { (s : DeviceState) → IsDeviceState s → AreBytes (state_text (whole_of s))
         → head_text State s.time (state_text (whole_of s)) ≡ head_of (bytes_of s) }
+{}
+
+/// The completing layer of a device that begins has the start of the seed, also if the device is
+/// restored from a state text with a layer. So the contexts that were made before do not load.
+#[inline(always)]
+#[tactic(auto, using(crate::proofs::Beginning::begins_with))]
+pub fn start_laws()
+    ensures { (seed : Seed) (s : DeviceState) → begun_of seed ≡ Some s
+        → s.layer.start ≡ seed.start }
 {}
 
 /// What is salvaged of a text of bytes is the device of the longest front that opens.

@@ -4,3 +4,4 @@ pub mod Replays
 pub mod Devices
 pub mod Journals
 pub mod Placed
+pub mod Contexts

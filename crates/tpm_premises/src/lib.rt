@@ -1,12 +1,14 @@
 #![tactic(auto)]
 
 //! Examples that satisfy the premises of laws: about policies, uses of objects, replays, two
-//! devices with one history, devices that differ in secrets, placed objects, and journals.
+//! devices with one history, devices that differ in secrets, placed objects, contexts, and
+//! journals.
 //!
 //! A law whose premise can never be satisfied says nothing. Each example here satisfies one
 //! premise, by computation. Each law is the contract of a function that has no effect at run
 //! time. No crate depends on this one.
 
+ghost use Rattle.tpm_premises.specs.Contexts.{HasSavedObject};
 ghost use Rattle.tpm_premises.specs.Devices.{AreTwoDevices, AreTwoSecrets};
 ghost use Rattle.tpm_premises.specs.Journals.{HasOneEntry};
 ghost use Rattle.tpm_premises.specs.Placed.{IsPlaced};
@@ -51,6 +53,13 @@ pub fn device_premises()
 #[tactic(auto, using(crate::proofs::Placed::is_placed))]
 pub fn placed_premise()
     ensures { IsPlaced }
+{}
+
+/// An object can be saved, and its context is valid on the device after the object is gone, and on a
+/// device on which all slots are taken.
+#[inline(always)]
+pub fn context_premise()
+    ensures { HasSavedObject }
 {}
 
 /// A journal contains an entry for a command that a device executed.

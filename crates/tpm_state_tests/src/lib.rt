@@ -11,3 +11,5 @@
 mod sizes;
 #[cfg(test)]
 mod snapshots;
+#[cfg(test)]
+mod versions;

@@ -23,7 +23,7 @@ const START_SESSION: &[u8] = b"\x80\x01\0\0\0\x2b\0\0\x01\x76\x40\0\0\x07\x40\0\
     \0\0\0\0\0\0\0\0\0\0\0\0\0\0\0\0\0\0\x01\0\x10\0\x0b";
 
 /// The last bytes of the state text as the Python device writes it. They are part of its digest.
-const END: &[u8] = &[0x3d, 0x27, 0x66, 0xed, 0x8f, 0x1c, 0xe2, 0xb1];
+const END: &[u8] = &[0x3f, 0x11, 0xe6, 0xe7, 0x23, 0xa3, 0x73, 0x6d];
 
 /// Fails the test if the value found is not the expected one.
 pub fn check<R: Abort, T: PartialEq + Drop>(rt: &R, found: T, wanted: T) {

@@ -134,12 +134,15 @@ state_fault_text state.Version = codes "Version"
 state_fault_text state.Length = codes "Length"
 state_fault_text state.Digest = codes "Digest"
 state_fault_text state.Body = codes "Body"
+state_fault_text state.Earlier = codes "Earlier"
 
 -- what the fault of a journal says of it
 abbrev pub journal_fault_text : JournalFault → List ℕ
 journal_fault_text journal.IsNoJournal = codes "journal is no journal of a device"
 journal_fault_text journal.HoldsNoImage = codes "journal holds an image that this program does not open"
 journal_fault_text journal.HoldsNoState = codes "journal holds a state that this program does not open"
+journal_fault_text journal.HoldsEarlierState =
+    codes "journal holds a state of an earlier version: take a snapshot with that version, and restore it with this one"
 journal_fault_text (journal.IsDamaged line) = codes "journal line " ++ decimal line ++ codes " is damaged"
 journal_fault_text (journal.WasAnsweredOtherwise line) =
     codes "journal line " ++ decimal line ++ codes " was answered otherwise"

@@ -55,6 +55,8 @@ pub enum JournalFault {
     HoldsNoImage,
     /// The head's state text is not one of this version of the program.
     HoldsNoState,
+    /// The head's state text is one of an earlier version, in which flushed objects could wait.
+    HoldsEarlierState,
     /// The entry that begins at this line is damaged.
     IsDamaged(u64),
     /// The entry that begins at this line was answered otherwise than it is now.
@@ -145,6 +147,7 @@ impl Fault {
             StateFault::Length => "Length",
             StateFault::Digest => "Digest",
             StateFault::Body => "Body",
+            StateFault::Earlier => "Earlier",
         }
     }
 }
@@ -199,6 +202,10 @@ impl fmt::Display for JournalFault {
             JournalFault::HoldsNoState => {
                 write!(f, "journal holds a state that this program does not open")
             }
+            JournalFault::HoldsEarlierState => write!(
+                f,
+                "journal holds a state of an earlier version: take a snapshot with that version, and restore it with this one"
+            ),
             JournalFault::IsDamaged(line) => write!(f, "journal line {line} is damaged"),
             JournalFault::WasAnsweredOtherwise(line) => {
                 write!(f, "journal line {line} was answered otherwise")

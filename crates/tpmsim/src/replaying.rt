@@ -6,6 +6,7 @@ use tpm_bytes::Tap;
 use tpm_journal::{FollowFault, OpenFault, RetellFault, Telling, retell};
 use tpm_machine::Machine;
 use tpm_slots::SlotKeep;
+use tpm_state_text::{RestoreFault, StateFault};
 use tpm_step::Outcome;
 use tpmsim_image::Subject;
 
@@ -35,6 +36,9 @@ pub fn replay_journal(rt: &HostRuntime, path: &str) -> Result<(), Fault> {
 fn fault_of(fault: RetellFault, text: &[u8]) -> Fault {
     match fault {
         RetellFault::Open(OpenFault::Image(_)) => Fault::Journal(JournalFault::HoldsNoImage),
+        RetellFault::Open(OpenFault::State(RestoreFault::Text(StateFault::Earlier))) => {
+            Fault::Journal(JournalFault::HoldsEarlierState)
+        }
         RetellFault::Open(OpenFault::State(_)) => Fault::Journal(JournalFault::HoldsNoState),
         RetellFault::Open(_) => Fault::Journal(JournalFault::IsNoJournal),
         RetellFault::Follow { fault, taken } => {

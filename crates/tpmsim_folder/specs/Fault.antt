@@ -40,6 +40,8 @@ said_text said.WantsRandom = codes "needs random bytes, and the system gives non
 said_text said.IsNoJournal = codes "is no journal of a device"
 said_text said.HoldsNoImage = codes "holds an image that this program does not open"
 said_text said.HoldsNoState = codes "holds a state that this program does not open"
+said_text said.HoldsEarlierState =
+    codes "holds a state of an earlier version: take a snapshot with that version, and restore it with this one"
 said_text said.WasAnsweredOtherwise =
     codes "was written by a program that answers otherwise than this one, and stays as it is"
 said_text (said.Keeper fault) = sentence fault
@@ -54,6 +56,7 @@ abbrev pub is_of_contents : Said → Bool
 is_of_contents said.IsNoJournal = true
 is_of_contents said.HoldsNoImage = true
 is_of_contents said.HoldsNoState = true
+is_of_contents said.HoldsEarlierState = true
 is_of_contents said.WasAnsweredOtherwise = true
 is_of_contents (said.Keeper Damaged) = true
 is_of_contents _ = false

@@ -50,6 +50,8 @@ pub enum Said {
     HoldsNoImage,
     /// The head's state text is not one of this version of the program.
     HoldsNoState,
+    /// The head's state text is one of an earlier version, in which flushed objects could wait.
+    HoldsEarlierState,
     WasAnsweredOtherwise,
     /// This fault of the keeper.
     Keeper(Fault),
@@ -126,6 +128,9 @@ impl Said {
             Said::IsNoJournal => "is no journal of a device",
             Said::HoldsNoImage => "holds an image that this program does not open",
             Said::HoldsNoState => "holds a state that this program does not open",
+            Said::HoldsEarlierState => {
+                "holds a state of an earlier version: take a snapshot with that version, and restore it with this one"
+            }
             Said::WasAnsweredOtherwise => {
                 "was written by a program that answers otherwise than this one, and stays as it is"
             }
@@ -142,6 +147,7 @@ impl Said {
             Said::IsNoJournal
                 | Said::HoldsNoImage
                 | Said::HoldsNoState
+                | Said::HoldsEarlierState
                 | Said::WasAnsweredOtherwise
                 | Said::Keeper(Fault::Damaged)
         )

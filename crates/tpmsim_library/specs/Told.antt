@@ -48,6 +48,7 @@ state_number state.Version = 15
 state_number state.Length = 16
 state_number state.Digest = 17
 state_number state.Body = 18
+state_number state.Earlier = 21
 
 -- the number of the fault for which a device is not restored
 abbrev pub restore_number : RestoreFault → ℕ

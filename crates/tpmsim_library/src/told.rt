@@ -52,6 +52,7 @@ pub fn state_number(fault: StateFault) -> u8
         StateFault::Length => 16,
         StateFault::Digest => 17,
         StateFault::Body => 18,
+        StateFault::Earlier => 21,
     }
 }
 

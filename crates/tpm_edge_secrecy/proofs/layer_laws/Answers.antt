@@ -1,5 +1,6 @@
 use Rattle.tpm_edge_secrecy.proofs.Completed.{completed_run_tells_nothing, completed_tells_nothing}
-use Rattle.tpm_edge_secrecy.proofs.Layer.{layer_answers_alike, layer_forgets_alike, layer_loads_alike}
+use Rattle.tpm_edge_secrecy.proofs.Contexts.{layer_loads_alike}
+use Rattle.tpm_edge_secrecy.proofs.Layer.{layer_answers_alike, layer_forgets_alike}
 use Rattle.tpm_edge_secrecy.proofs.layer_laws.Goals as goal
 
 pub returns-clause-answers : goal.returns-clause-answers

@@ -7,6 +7,9 @@ use Rattle.tpm_journal.specs.declared.opening.OpenFault.{OpenFault}
 use Rattle.tpm_journal.specs.declared.opening.OpenFault.TheVariants as opening
 use Rattle.tpm_keeping.specs.declared.holder.Fault.TheVariants as keeper
 use Rattle.tpm_record.specs.Record.{Record}
+use Rattle.tpm_state_text.specs.declared.fault.RestoreFault.{RestoreFault}
+use Rattle.tpm_state_text.specs.declared.fault.RestoreFault.TheVariants as restore
+use Rattle.tpm_state_text.specs.declared.fault.StateFault.TheVariants as state
 use Rattle.tpmsim_folder.specs.declared.fault.Said.{Said}
 use Rattle.tpmsim_folder.specs.declared.fault.Said.TheVariants as said
 
@@ -15,10 +18,14 @@ abbrev pub said_of_following : FollowFault → Said
 said_of_following following.Damaged = said.Keeper keeper.Damaged
 said_of_following following.Otherwise = said.WasAnsweredOtherwise
 
+abbrev pub said_of_state : RestoreFault → Said
+said_of_state (restore.Text state.Earlier) = said.HoldsEarlierState
+said_of_state _ = said.HoldsNoState
+
 abbrev pub said_of_opening : OpenFault → Said
 said_of_opening opening.NoJournal = said.IsNoJournal
 said_of_opening (opening.Image fault) = said.HoldsNoImage
-said_of_opening (opening.State fault) = said.HoldsNoState
+said_of_opening (opening.State fault) = said_of_state fault
 said_of_opening (opening.Follow fault) = said_of_following fault
 
 -- A text is not opened as a journal, because of this fault.

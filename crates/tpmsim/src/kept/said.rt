@@ -9,6 +9,7 @@ use tpm_journal::{FollowFault, OpenFault};
 use tpm_keeping::holder::Fault;
 use tpm_machine::Machine;
 use tpm_slots::SlotKeep;
+use tpm_state_text::{RestoreFault, StateFault};
 use tpm_step::Outcome;
 use tpmsim_folder::Said;
 
@@ -33,6 +34,7 @@ pub fn said_of_opening(fault: OpenFault) -> Said
     match fault {
         OpenFault::NoJournal => Said::IsNoJournal,
         OpenFault::Image(_) => Said::HoldsNoImage,
+        OpenFault::State(RestoreFault::Text(StateFault::Earlier)) => Said::HoldsEarlierState,
         OpenFault::State(_) => Said::HoldsNoState,
         OpenFault::Follow(fault) => said_of_following(fault),
     }

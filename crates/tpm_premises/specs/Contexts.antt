@@ -1,0 +1,67 @@
+-- An example of an object that is saved, and whose context is loaded again.
+use Rattle.std.specs.Prelude.{◌≡◌, true, Some, None, Ok}
+use Rattle.tpm_object.specs.Object.{IsObject}
+use Rattle.tpm_types.specs.Handle.{is_transient}
+use Rattle.tpm_record.specs.IsRecord.{IsRecord}
+use Rattle.tpm_record.specs.Objects.{next_handle, object_at}
+use Rattle.tpm_record.specs.Record.{Record}
+use Rattle.tpm_step.specs.FailedRun.{tried}
+use Rattle.tpm_step.specs.Placing.{placed}
+use Rattle.tpm_context.specs.Meaning.{IsMaking, Making, context_of}
+use Rattle.tpm_completion.specs.Completion.{new_completion}
+use Rattle.tpm_completion.specs.Loaded.{StaysValid}
+use Rattle.tpm_completion.specs.Loading.{object_opened}
+use Rattle.tpm_completion.specs.Saving.{binding_of, counted, next_number}
+use Rattle.tpm_completion.specs.declared.completion.Completion.{Completion}
+use Rattle.tpm_premises.specs.Placed.{first_transient, saved_object}
+
+-- a started device without the object, and one with it; and a device on which all slots are taken
+abbrev pub without_object : Record
+without_object = tried 1 0 0
+
+abbrev pub one_more : Record → Record
+one_more r = placed r saved_object
+
+abbrev pub with_object : Record
+with_object = one_more without_object
+
+abbrev pub four_more : Record → Record
+four_more r = one_more (one_more (one_more (one_more r)))
+
+abbrev pub full : Record
+full = four_more (four_more without_object)
+
+-- the layer at its start, and after its first context
+abbrev pub first_layer : Completion
+first_layer = new_completion 1
+
+abbrev pub later_layer : Completion
+later_layer = counted first_layer 1
+
+-- what the context of the object is made from
+abbrev pub making : Making
+making = record {
+  hierarchies = with_object.fixed.hierarchies;
+  binding = binding_of with_object first_layer;
+  sequence = 1;
+  object = saved_object;
+}
+
+-- The object can be saved on the device with it. Its context is valid on the device without it,
+-- where it gets the same handle again, and on the device on which all slots are taken.
+pub record HasSavedObject : Type 0 where
+  pub started : with_object.fixed.started ≡ true
+  pub transient : is_transient first_transient ≡ true
+  pub found : object_at with_object.objects first_transient ≡ Some saved_object
+  pub next : next_number first_layer ≡ Some 1
+  pub object : IsObject saved_object
+  pub later_started : without_object.fixed.started ≡ true
+  pub is_record : IsRecord without_object
+  pub valid : StaysValid with_object without_object first_layer later_layer saved_object
+  pub is_making : IsMaking making
+  pub opens : object_opened without_object later_layer (context_of making) ≡ Ok saved_object
+  pub gone : object_at without_object.objects first_transient ≡ None
+  pub free : next_handle without_object.objects ≡ Some first_transient
+  pub full_is_record : IsRecord full
+  pub full_valid : StaysValid with_object full first_layer later_layer saved_object
+  pub none_free : next_handle full.objects ≡ None
