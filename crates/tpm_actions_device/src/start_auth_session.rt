@@ -15,11 +15,11 @@ use tpm_record::rows::answer::Answer;
 use tpm_record::rows::call::Call;
 use tpm_record::rows::reading::{end, parameter};
 use tpm_record::rows::refusals::{action_refusal, memory_refusal, parameter_refusal};
-use tpm_record::{Keep, copied_auth_value, name_of, protection_of};
+use tpm_record::{Keep, resolve};
 use tpm_session::{Binding, Nonce, Start, StartFault, is_nonce_size};
 use tpm_types::{
-    ActionCheck, DIGEST_LIMIT, Handle, Rc, Refused, ResponseCode, SessionType, SymmetricDefinition,
-    hash_number, read_buffer, read_hash,
+    ActionCheck, AuthValue, DIGEST_LIMIT, Handle, Rc, Refused, ResponseCode, SessionType,
+    SymmetricDefinition, hash_number, read_buffer, read_hash,
 };
 
 /// The parameters of TPM2_StartAuthSession.
@@ -82,17 +82,19 @@ fn check_parameters(asked: &SessionParameters) -> Result<(), Refused>
     Ok(())
 }
 
-#[tactic(auto, unfolding(crate::specs::StartAuthSession::binding_of))]
+/// The binding of a session to the entity of this handle; None for TPM_RH_NULL.
+#[tactic(auto, unfolding(crate::specs::StartAuthSession::binding_of, tpm_record::specs::Entity::name_of, tpm_record::specs::Entity::auth_value_of, tpm_record::specs::Entity::protection_of))]
 fn binding_of<K: Keep>(keep: &K, bind: Handle) -> Option<Binding>
     ensures { result ≡ binding_of (K.record_of keep.now) bind }
 {
     if bind == Handle::NULL {
         return None;
     }
+    let entity = resolve(keep, bind);
     Some(Binding {
-        name: name_of(keep, bind),
-        auth_value: copied_auth_value(keep, bind),
-        protection: protection_of(keep, bind),
+        name: entity.name(),
+        auth_value: AuthValue::of(entity.auth_value(keep)),
+        protection: entity.protection(),
     })
 }
 
@@ -128,7 +130,12 @@ pub fn start_auth_session<K: Keep>(
             answer.handle = Some(handle);
             Ok(())
         }
+        Err(StartFault::SessionMemory) => {
+            let rc = ResponseCode::SessionMemory.anywhere();
+            Err(action_refusal(ActionCheck::Fourth, rc))
+        }
         Err(StartFault::Memory) => Err(memory_refusal()),
-        Err(_) => Err(action_refusal(ActionCheck::Fourth, ResponseCode::SessionMemory.anywhere())),
+        // The size of the caller's nonce was checked above.
+        Err(StartFault::Size) => unreachable!(),
     }
 }

@@ -1,8 +1,8 @@
 -- At each position the code found the entity of the handle there. It computes the Names from these
 -- entities.
-use Rattle.std.proofs.Common.{◌≡◌, ℕ, zero, suc, ◌<◌, ◌≤◌, List, [], ◌∷◌, ◌++◌, length, map, take, slice_get, slice_index_or, get_or, Option, Some, None, option_map, refl, sym, subst, ap, ◌∙◌, arith, Bor}
-use Rattle.std.proofs.lemmas.Option.{slice_get_read}
-use Rattle.std.specs.Option.{ForSome, IfSome, MatchOption}
+use Rattle.std.proofs.Common.{◌≡◌, ℕ, zero, suc, ◌<◌, ◌≤◌, List, [], ◌∷◌, ◌++◌, length, map, take, slice_get, slice_index_or, Some, None, option_map, refl, sym, subst, ap, ◌∙◌, arith}
+use Rattle.std.specs.Option.{ForSome}
+use Rattle.tpm_session.specs.declared.session.Session.{Session}
 use Rattle.tpm_types.specs.declared.handle.Handle.{Handle}
 use Rattle.tpm_types_command.specs.AuthEntry.{entry_of}
 use Rattle.tpm_types_command.specs.declared.auth_entry.AuthEntry.{AuthEntry}
@@ -10,10 +10,9 @@ use Rattle.tpm_record.specs.Entity.{entity_at, entity_name, entity_seen, name_of
 use Rattle.tpm_record.specs.Record.{Record}
 use Rattle.tpm_record.specs.Resolved.{AreFound, Found, IsFound, found_at, found_by}
 use Rattle.tpm_record.specs.declared.entity.Resolved.{Resolved}
-use Rattle.tpm_policy.specs.declared.state.Demand.{Demand}
-use Rattle.tpm_auth.specs.Used.{AreNamesOf, IsToGrant, IsUsed, IsUsedFor, used_handle}
+use Rattle.tpm_auth.specs.SessionGrant.{takes_value}
+use Rattle.tpm_auth.specs.Used.{IsToGrant, IsUsed, IsUsedFor, grant_by}
 use Rattle.tpm_auth.specs.declared.used.Granted.{Granted}
-use Rattle.tpm_auth.specs.declared.used.Used.{Used}
 
 -- The first entity found is that of the first handle, and the rest are those of the other handles.
 first_found : (r : Record) (x : Resolved) (xs : List Resolved) (h : Handle) (hs : List Handle) → AreFound r (x ∷ xs) (h ∷ hs) → (found_by x ≡ found_at r h) × AreFound r xs hs
@@ -37,14 +36,7 @@ found_in r (y ∷ ys) (h ∷ hs) zero x are is =
     (ap Some (sym handle), ap (λ (f : Found). f.entity) here ∙ ap (entity_at r) (sym handle))
 found_in r (y ∷ ys) (h ∷ hs) (suc place) x are is = found_in r ys hs place x (first_found r y ys h hs are).1 is
 
--- If a list is cut to a prefix, the elements of the prefix keep their positions.
-taken : {X : Type 0} (xs : List X) (n place : ℕ) (x : X) → slice_get (take n xs) place ≡ Some x → slice_get xs place ≡ Some x
-taken [] zero place x is = is
-taken [] (suc n) place x is = is
-taken (y ∷ ys) zero place x is = absurd cc
-taken (y ∷ ys) (suc n) zero x is = is
-taken (y ∷ ys) (suc n) (suc place) x is = taken ys n place x is
-
+-- If both lists are cut to prefixes of the same length, the entities are those of the handles.
 taken_found : (r : Record) (n : ℕ) (resolved : List Resolved) (handles : List Handle) → AreFound r resolved handles → AreFound r (take n resolved) (take n handles)
 taken_found r zero [] [] are = refl
 taken_found r (suc n) [] [] are = refl
@@ -58,22 +50,9 @@ taken_found r (suc n) (x ∷ xs) (h ∷ hs) are =
     ap (λ f. f ∷ map found_by (take n xs)) here ∙ ap (λ l. found_at r h ∷ l) others
 
 -- The entry at a position within the first handles has to authorize the handle at that position.
-pub used_in : (r : Record) (handles : List Handle) (names : List (List ℕ)) (resolved : List Resolved) (n place : ℕ) (used : Used) → AreFound r resolved handles → AreNamesOf r names handles → slice_get (take n resolved) place ≡ Some used.resolved → ForSome used.name (λ name. slice_get names place ≡ Some name.now) → IsUsedFor r (slice_get (take n handles) place) (Some used)
-used_in r handles names resolved n place used are named is name_is =
-    let both = found_in r (take n resolved) (take n handles) place used.resolved (taken_found r n resolved handles are) is in (
-      both.0,
-      record {
-        found = both.1;
-        named = λ name made. named place name.now (used_handle used) (name_is name made) (taken handles n place (used_handle used) both.0);
-      },
-    )
-
--- The Name read at a position is the Name of the handle there.
-pub name_read : {X : Type 0} (Nothing : Type 0) (More : Bor X → Type 0) (names : List X) (place : ℕ) (read : Option (Bor X)) → IfSome read (λ name. name.now ≡ get_or names place name.now) → MatchOption read Nothing (λ name. (place < length names) × More name) → ForSome read (λ name. slice_get names place ≡ Some name.now)
-name_read Nothing More names place None is within name made = absurd cc
-name_read {X = X} Nothing More names place (Some x) is within name made =
-    let same : x ≡ name = cc in
-    subst (λ (n : Bor X). slice_get names place ≡ Some n.now) same (slice_get_read names (length names) place x.now refl within.0 is)
+pub used_in : (r : Record) (handles : List Handle) (resolved : List Resolved) (n place : ℕ) (used : Resolved) → AreFound r resolved handles → slice_get (take n resolved) place ≡ Some used → IsUsedFor r (slice_get (take n handles) place) (Some used)
+used_in r handles resolved n place used are is =
+    let both = found_in r (take n resolved) (take n handles) place used (taken_found r n resolved handles are) is in (both.0, record { found = both.1 })
 
 -- At a position without a handle, nothing is found.
 none_in : (r : Record) (resolved : List Resolved) (handles : List Handle) (place : ℕ) → AreFound r resolved handles → slice_get resolved place ≡ None → slice_get handles place ≡ None
@@ -125,22 +104,12 @@ one_more f (x ∷ xs) (suc n) m y next is = rw next (ap (λ l. f x ∷ l) (one_m
 pub one_more_named : (r : Record) (handles : List Handle) (names : List (List ℕ)) (n m : ℕ) (name : List ℕ) → n ≡ length names → m ≡ suc n → names ≡ map (name_of r) (take n handles) → Some name ≡ option_map (name_of r) (slice_get handles n) → names ++ name ∷ [] ≡ map (name_of r) (take m handles)
 one_more_named r handles names n m name size next are is = ap (λ l. l ++ name ∷ []) are ∙ one_more (name_of r) handles n m name next is
 
--- The list of the Names of all handles has each handle's Name at its position.
-pub all_named : (r : Record) (handles : List Handle) → AreNamesOf r (map (name_of r) handles) handles
-all_named r [] place name handle is at = absurd cc
-all_named r (h ∷ hs) zero name handle is at = cc
-all_named r (h ∷ hs) (suc place) name handle is at = all_named r hs place name handle is at
-
 -- ---- what an entry has to authorize
 
-pub one_to_grant : (r : Record) (used : Used) (demand : Demand) → IsUsed r used → ForSome (Some (record { used = used; demand = demand })) (IsToGrant r)
-one_to_grant r used demand is granted same =
-    let those : granted ≡ record { used = used; demand = demand } = cc in
-    record { used = subst (λ (g : Granted). IsUsed r g.used) (sym those) is }
-
--- As long as no Name is computed, every computed Name is right.
-pub none_named : (r : Record) (handles : List Handle) → AreNamesOf r [] handles
-none_named r handles place name handle at is = absurd cc
+pub one_to_grant : (r : Record) (session : Session) (granted : Granted) → IsUsed r granted.used → granted.takes_value ≡ takes_value r session (grant_by granted) → ForSome (Some granted) (IsToGrant r session)
+one_to_grant r session granted used takes other same =
+    let those : granted ≡ other = cc in
+    subst (IsToGrant r session) those (record { used = used; takes = takes })
 
 -- ---- entries
 

@@ -51,32 +51,37 @@ used_protection r used = option_map_or (protection_of r) used protection.None
 -- value, and must not be locked out
 unfoldable pub password_grant : Record
     → CommandCode → (n : ℕ) → Option Handle → Entry → Result (Option Grant) Refused
-password_grant r c n used e = do
+password_grant state command number used entry = do
   let grant : Option Grant = option_map undemanding used
-  available ← refused_if (is_unavailable r c n used)
+  available ← refused_if (is_unavailable state command number used)
       (refusal check.Authorization (plain code.AuthUnavailable))
-  tried ← may_be_tried r.fixed.lockout grant (used_protection r used)
-  compared ← refused_if (not (is_password_of (granted_value r grant) e.hmac))
-      (failure (check_of grant) n (used_protection r used))
+  tried ← may_be_tried state.fixed.lockout grant (used_protection state used)
+  compared ← refused_if (not (is_password_of (granted_value state grant) entry.hmac))
+      (failure (check_of grant) number (used_protection state used))
   Ok grant
 
 abbrev pub session_grant_if : Record → Whole
     → (locality n : ℕ) → Option Handle → Entry → Option Session → Result (Option Grant) Refused
-session_grant_if r c locality n used e None = Err (refusal check.Entries (reference_of n))
-session_grant_if r c locality n used e (Some s) = session_grant r c locality n used e s
+session_grant_if state command locality number used entry None =
+    Err (refusal check.Entries (reference_of number))
+session_grant_if state command locality number used entry (Some session) =
+    session_grant state command locality number used entry session
 
 abbrev pub grant_by : SessionKind → Record
     → Whole → (locality n : ℕ) → Option Handle → Entry → Result (Option Grant) Refused
-grant_by kind.Password r c locality n used e = password_grant r c.code n used e
-grant_by kind.Session r c locality n used e =
-    session_grant_if r c locality n used e (session_of r e)
-grant_by kind.Other r c locality n used e = Err (refusal check.Entries (entry_fault n code.Value))
+grant_by kind.Password state command locality number used entry =
+    password_grant state command.code number used entry
+grant_by kind.Session state command locality number used entry =
+    session_grant_if state command locality number used entry (session_of state entry)
+grant_by kind.Other state command locality number used entry =
+    Err (refusal check.Entries (entry_fault number code.Value))
 
 -- the grant of entry n, in a command from this locality; the entry has to authorize this handle
 -- or none
 unfoldable pub grant : Record
     → Whole → (locality n : ℕ) → Option Handle → Entry → Result (Option Grant) Refused
-grant r c locality n used e = grant_by (session_kind e.session) r c locality n used e
+grant state command locality number used entry =
+    grant_by (session_kind entry.session) state command locality number used entry
 
 -- the handles of a command that need authorization, which are the first ones
 abbrev pub authorized : Whole → List Handle
@@ -87,10 +92,11 @@ authorized c = take (authorized_handles c.code) c.handles
 -- authorize
 abbrev pub grants_pass : Record → Whole → (locality : ℕ)
     → (before : List (Option Grant)) → List Entry → Result (List (Option Grant)) Refused
-grants_pass r c locality before [] = Ok before
-grants_pass r c locality before (e ∷ es) = do
-  this ← grant r c locality (length before + 1) (slice_get (authorized c) (length before)) e
-  grants_pass r c locality (before ++ this ∷ []) es
+grants_pass state command locality before [] = Ok before
+grants_pass state command locality before (entry ∷ entries) = do
+  this ← grant state command locality (length before + 1)
+      (slice_get (authorized command) (length before)) entry
+  grants_pass state command locality (before ++ this ∷ []) entries
 
 -- the whole authorization of a command, after the check of the area's size. G8: each entry's own
 -- checks, then whether there is an entry for each handle that needs authorization. G9: each of

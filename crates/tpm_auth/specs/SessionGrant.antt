@@ -93,21 +93,22 @@ hashed_command r c = OfCommand (code_number c.code) (map (name_of r) c.handles) 
 
 -- the data that entry n of a command authenticates, with its session's hash: the command as sent
 unfoldable pub entry_parts : Record → Whole → ℕ → Entry → Session → EntryParts
-entry_parts r c n e s = record {
-  hash = parameter_hash_of s.hash (hashed_command r c);
-  nonce_caller = e.nonce;
-  decrypt_nonce = nonce_where r decrypts (other_entries c n);
-  encrypt_nonce = nonce_where r only_encrypts (other_entries c n);
-  attributes = e.attributes;
+entry_parts state command number entry session = record {
+  hash = parameter_hash_of session.hash (hashed_command state command);
+  nonce_caller = entry.nonce;
+  decrypt_nonce = nonce_where state decrypts (other_entries command number);
+  encrypt_nonce = nonce_where state only_encrypts (other_entries command number);
+  attributes = entry.attributes;
 }
 
 -- whether the HMAC of an entry is right: it is computed from the key and the text, or both key
 -- and HMAC are empty
 unfoldable pub is_authentic : Record → Whole → ℕ → Option Grant → Entry → Session → Bool
-is_authentic r c n grant e s =
-    let value = used_auth_value r s grant in
-    length (entry_key s value) == 0 && length e.hmac == 0
-    || bytes_eq e.hmac (command_mac_of s value (entry_parts r c n e s))
+is_authentic state command number grant entry session =
+    let value = used_auth_value state session grant in
+    length (entry_key session value) == 0 && length entry.hmac == 0
+    || bytes_eq entry.hmac
+    (command_mac_of session value (entry_parts state command number entry session))
 
 -- whether the policy of an entry's session demands a password
 abbrev pub demands_password : Option Grant → Bool
@@ -122,9 +123,9 @@ granted_value r (Some grant) = auth_value_of r grant.handle
 -- whether the comparison for entry n succeeds: if the policy demands a password, the HMAC field
 -- must contain the authorization value
 unfoldable pub comparison_holds : Record → Whole → ℕ → Option Grant → Entry → Session → Bool
-comparison_holds r c n grant e s =
-    if demands_password grant then is_password_of (granted_value r grant) e.hmac
-    else is_authentic r c n grant e s
+comparison_holds state command number grant entry session =
+    if demands_password grant then is_password_of (granted_value state grant) entry.hmac
+    else is_authentic state command number grant entry session
 
 -- the protection that the bound entity had when the session started
 abbrev pub binding_protection : Session → Protection
@@ -147,18 +148,18 @@ entry_protection r s (Some grant) =
 
 -- the use that entry n of a policy session has to authorize
 unfoldable pub use_of : Record → Whole → (locality n : ℕ) → Handle → Session → UseParts
-use_of r c locality n handle s = record {
-  entry = n;
-  kind = s.kind;
-  hash = s.hash;
-  available = is_available r handle means.Policy (nv_use_at c.code (n - 1));
-  update_count = r.fixed.banks.update_count;
-  command = code_number c.code;
-  role = role_at c.code (n - 1);
-  cp_hash = parameter_hash_of s.hash (hashed_command r c);
-  written = written_of r handle;
+use_of state command locality number handle session = record {
+  entry = number;
+  kind = session.kind;
+  hash = session.hash;
+  available = is_available state handle means.Policy (nv_use_at command.code (number - 1));
+  update_count = state.fixed.banks.update_count;
+  command = code_number command.code;
+  role = role_at command.code (number - 1);
+  cp_hash = parameter_hash_of session.hash (hashed_command state command);
+  written = written_of state handle;
   locality = locality;
-  entity = policy_of r handle;
+  entity = policy_of state handle;
 }
 
 -- the demand of an HMAC session on an entry, in addition to its comparison: none. But the entry's
@@ -172,26 +173,31 @@ by_value r c n handle = do
 -- the demand of a policy session on the entry that authorizes a handle, if the policy allows the
 -- use; a trial session authorizes nothing
 abbrev pub by_policy : Record → Whole → (locality n : ℕ) → Handle → Session → Result Demand Refused
-by_policy r c locality n handle s =
-    checked check.Authorization (use_passes s.policy (use_of r c locality n handle s))
+by_policy state command locality number handle session =
+    checked check.Authorization
+    (use_passes session.policy (use_of state command locality number handle session))
 
 abbrev pub demand_by : SessionType
     → Record → Whole → (locality n : ℕ) → Handle → Session → Result Demand Refused
-demand_by type.Hmac r c locality n handle s = by_value r c n handle
-demand_by type.Policy r c locality n handle s = by_policy r c locality n handle s
-demand_by type.Trial r c locality n handle s = by_policy r c locality n handle s
+demand_by type.Hmac state command locality number handle session =
+    by_value state command number handle
+demand_by type.Policy state command locality number handle session =
+    by_policy state command locality number handle session
+demand_by type.Trial state command locality number handle session =
+    by_policy state command locality number handle session
 
 unfoldable pub demanded : Record
     → Whole → (locality n : ℕ) → Handle → Session → Result Demand Refused
-demanded r c locality n handle s = demand_by s.kind r c locality n handle s
+demanded state command locality number handle session =
+    demand_by session.kind state command locality number handle session
 
 -- the comparison for entry n, which is skipped if the entity whose value it uses is locked out
 abbrev pub comparison : Record
     → Whole → ℕ → Option Grant → Entry → Session → Result (Option Grant) Refused
-comparison r c n grant e s = do
-  tried ← may_be_tried r.fixed.lockout grant (entry_protection r s grant)
-  compared ← refused_if (not (comparison_holds r c n grant e s))
-      (failure (check_of grant) n (entry_protection r s grant))
+comparison state command number grant entry session = do
+  tried ← may_be_tried state.fixed.lockout grant (entry_protection state session grant)
+  compared ← refused_if (not (comparison_holds state command number grant entry session))
+      (failure (check_of grant) number (entry_protection state session grant))
   Ok grant
 
 -- the grant of entry n, whose handle names a session; the entry has to authorize this handle or
@@ -199,7 +205,9 @@ comparison r c n grant e s = do
 -- (this device's own choice)
 unfoldable pub session_grant : Record
     → Whole → (locality n : ℕ) → Option Handle → Entry → Session → Result (Option Grant) Refused
-session_grant r c locality n None e s = comparison r c n None e s
-session_grant r c locality n (Some handle) e s = do
-  demand ← demanded r c locality n handle s
-  comparison r c n (Some (record { handle = handle; demand = demand })) e s
+session_grant state command locality number None entry session =
+    comparison state command number None entry session
+session_grant state command locality number (Some handle) entry session = do
+  demand ← demanded state command locality number handle session
+  comparison state command number (Some (record { handle = handle; demand = demand })) entry
+      session

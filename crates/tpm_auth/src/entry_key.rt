@@ -5,61 +5,81 @@ ghost use Rattle.std.specs.Prelude.{◌≡◌, ◌≤◌, length, map, option_ma
 ghost use Rattle.std.specs.Option.{ForSome};
 ghost use Rattle.tpm_types_command.specs.AuthEntry.{entry_of};
 ghost use Rattle.tpm_types_command.specs.Command.{whole_of};
+ghost use Rattle.tpm_record.specs.Resolved.{IsFound};
 ghost use Rattle.tpm_auth.specs.Entries.{decrypts};
 ghost use Rattle.tpm_auth.specs.SessionGrant.{entry_nonce, hashed_command, is_authentic, is_bound_to, nonce_where, only_encrypts, other_entries, takes_value, used_auth_value};
-ghost use Rattle.tpm_auth.specs.Used.{IsToGrant, IsUsed, grant_by, used_handle};
+ghost use Rattle.tpm_auth.specs.Used.{IsToGrant, grant_by};
 
+use crate::cache::LatestName;
 use crate::entries::{decrypts, encrypts};
 use crate::session_grant::Grant;
-use crate::used::{Granted, Used};
+use crate::used::{Granted, SessionEntry};
 use tpm_bytes::is_equal;
 use tpm_mac::KeyedMac;
 use tpm_policy::Demand;
-use tpm_record::{Keep, resolve};
+use tpm_record::{Keep, Resolved, resolve};
 use tpm_session::{CommandText, ParameterHashes, Session};
 use tpm_types::SessionType;
 use tpm_types_command::{AuthEntry, Command};
 
 /// Whether a session is bound to an entity in the entity's current state. If the authorization
 /// value has changed, the Name is not looked up.
-#[tactic(auto, unfolding(crate::specs::SessionGrant::is_bound_to, tpm_record::specs::Entity::auth_value_of))]
-fn is_bound_to<K: Keep>(keep: &K, session: &Session, used: &Used) -> bool
-    requires { IsUsed (K.record_of keep.now) used.now }
-    ensures { result ≡ is_bound_to (K.record_of keep.now) session.now (used_handle used.now) }
+#[tactic(auto, unfolding(crate::specs::SessionGrant::is_bound_to, tpm_record::specs::Entity::auth_value_of, tpm_record::specs::Entity::name_of))]
+fn is_bound_to<K: Keep>(
+    keep: &K,
+    session: &Session,
+    used: &Resolved,
+    latest: &mut LatestName,
+) -> bool
+    requires { IsFound (K.record_of keep.now) used.now }
+    ensures { result ≡ is_bound_to (K.record_of keep.now) session.now used.now.handle }
 {
     match session.binding() {
         Some(binding) => {
-            binding.auth_value.is_same(used.resolved.auth_value(keep))
-                && used.is_named(&binding.name)
+            binding.auth_value.is_same(used.auth_value(keep))
+                && latest.is_name_of(&binding.name, used)
         }
         None => false,
     }
 }
 
 /// Whether the HMAC key of an entry includes the authorization value of the entity that the entry
-/// authorizes.
+/// authorizes, under a policy with this demand.
 #[tactic(auto, unfolding(crate::specs::SessionGrant::takes_value))]
-pub fn takes_value<K: Keep>(keep: &K, session: &Session, granted: &Granted) -> bool
-    requires { IsToGrant (K.record_of keep.now) granted.now }
-    ensures { result ≡ takes_value (K.record_of keep.now) session.now (grant_by granted.now) }
+pub fn takes_value<K: Keep>(
+    keep: &K,
+    session: &Session,
+    used: &Resolved,
+    demand: Demand,
+    latest: &mut LatestName,
+) -> bool
+    requires { IsFound (K.record_of keep.now) used.now }
+    ensures { result ≡ takes_value (K.record_of keep.now) session.now
+        (record { handle = used.now.handle; demand = demand }) }
 {
     match session.kind() {
-        SessionType::Hmac => !is_bound_to(keep, session, &granted.used),
-        SessionType::Policy | SessionType::Trial => granted.demand == Demand::AuthValue,
+        SessionType::Hmac => !is_bound_to(keep, session, used, latest),
+        SessionType::Policy | SessionType::Trial => demand == Demand::AuthValue,
     }
 }
 
 /// The authorization value in the HMAC key of an entry that authorizes this handle. An empty
 /// value leaves the key unchanged.
 #[tactic(auto, unfolding(crate::specs::SessionGrant::used_auth_value, tpm_record::specs::Entity::auth_value_of))]
-fn key_value<'a, K: Keep>(keep: &'a K, session: &Session, granted: &Granted<'a>) -> &'a [u8]
-    requires { IsToGrant (K.record_of keep.now) granted.now }
-    ensures value { result.now
-        ≡ used_auth_value (K.record_of keep.now) session.now (Some (grant_by granted.now)) }
+fn key_value<'a, K: Keep>(
+    keep: &'a K,
+    session: &Session,
+    used: &Resolved<'a>,
+    demand: Demand,
+    latest: &mut LatestName,
+) -> &'a [u8]
+    requires { IsFound (K.record_of keep.now) used.now }
+    ensures value { result.now ≡ used_auth_value (K.record_of keep.now) session.now
+        (Some (record { handle = used.now.handle; demand = demand })) }
     ensures fits { length result.now ≤ 32 }
 {
-    let value = granted.used.resolved.auth_value(keep);
-    if value.is_empty() || takes_value(keep, session, granted) {
+    let value = used.auth_value(keep);
+    if value.is_empty() || takes_value(keep, session, used, demand, latest) {
         value
     } else {
         &[]
@@ -72,20 +92,15 @@ pub fn used_auth_value<'a, K: Keep>(
     keep: &'a K,
     session: &Session,
     grant: Option<Grant>,
+    latest: &mut LatestName,
 ) -> &'a [u8]
     ensures value { result.now ≡ used_auth_value (K.record_of keep.now) session.now grant }
     ensures fits { length result.now ≤ 32 }
 {
     match grant {
         Some(grant) => {
-            let granted = Granted {
-                used: Used {
-                    resolved: resolve(keep, grant.handle),
-                    name: None,
-                },
-                demand: grant.demand,
-            };
-            key_value(keep, session, &granted)
+            let used = resolve(keep, grant.handle);
+            key_value(keep, session, &used, grant.demand, latest)
         }
         None => &[],
     }
@@ -141,6 +156,21 @@ fn other_entries<'a, 'b>(command: &'a Command<'b>, number: u8) -> &'a [AuthEntry
     &entries[first..]
 }
 
+/// The authorization value in the HMAC key of an entry that has to authorize this handle.
+#[tactic(auto, unfolding(crate::specs::SessionGrant::used_auth_value, tpm_record::specs::Entity::auth_value_of))]
+fn granted_key_value<'a, K: Keep>(keep: &'a K, session: &Session, granted: &Granted<'a>) -> &'a [u8]
+    requires { IsToGrant (K.record_of keep.now) session.now granted.now }
+    ensures value { result.now ≡ used_auth_value (K.record_of keep.now) session.now
+        (Some (grant_by granted.now)) }
+    ensures fits { length result.now ≤ 32 }
+{
+    if granted.takes_value {
+        granted.used.auth_value(keep)
+    } else {
+        &[]
+    }
+}
+
 /// The authorization value in the HMAC key of an entry that has to authorize this handle, or no
 /// handle.
 #[tactic(auto, unfolding(crate::specs::SessionGrant::used_auth_value))]
@@ -149,13 +179,13 @@ fn value_in_key<'a, K: Keep>(
     session: &Session,
     granted: Option<Granted<'a>>,
 ) -> &'a [u8]
-    requires { ForSome granted (IsToGrant (K.record_of keep.now)) }
+    requires { ForSome granted (IsToGrant (K.record_of keep.now) session.now) }
     ensures value { result.now ≡ used_auth_value (K.record_of keep.now) session.now
         (option_map grant_by granted.entry) }
     ensures fits { length result.now ≤ 32 }
 {
     match granted {
-        Some(granted) => key_value(keep, session, &granted),
+        Some(granted) => granted_key_value(keep, session, &granted),
         None => &[],
     }
 }
@@ -165,24 +195,24 @@ fn value_in_key<'a, K: Keep>(
 pub fn is_authentic<K: Keep>(
     keep: &K,
     command: &Command,
+    by: &SessionEntry,
+    granted: Option<Granted>,
     hashes: &mut ParameterHashes,
     keyed: &mut KeyedMac,
-    number: u8,
-    granted: Option<Granted>,
-    entry: &AuthEntry,
-    session: &Session,
 ) -> bool
     requires hashed { hashes.old ≡ hashed_command (K.record_of keep.now) (whole_of command.now) }
-    requires used { ForSome granted (IsToGrant (K.record_of keep.now)) }
-    ensures value { result ≡ is_authentic (K.record_of keep.now) (whole_of command.now) number
-        (option_map grant_by granted.entry) (entry_of entry.now) session.now }
+    requires used { ForSome granted (IsToGrant (K.record_of keep.now) by.now.session.now) }
+    ensures value { result ≡ is_authentic (K.record_of keep.now) (whole_of command.now)
+        by.now.number (option_map grant_by granted.entry) (entry_of by.now.entry.now)
+        by.now.session.now }
     ensures same { hashes.new ≡ hashes.old }
 {
+    let (entry, session) = (by.entry, by.session);
     let value = value_in_key(keep, session, granted);
     if session.key().as_slice().is_empty() && value.is_empty() && entry.hmac.is_empty() {
         return true;
     }
-    let others = other_entries(command, number);
+    let others = other_entries(command, by.number);
     let hash = hashes.by(session.hash());
     let text = CommandText {
         hash: hash.as_slice(),

@@ -17,13 +17,13 @@ ghost use Rattle.tpm_auth.specs.Grant.{AreGranted, authorize, authorized, grant,
 ghost use Rattle.tpm_auth.specs.SessionGrant.{hashed_command};
 ghost use Rattle.tpm_auth.specs.Used.{IsResolved, IsUsed, used_handle};
 
+use crate::cache::{Cache, LatestName};
 use crate::comparison::{check_of, failure, is_locked_out, is_password_of, lockout_refusal};
 use crate::entries::{any_decrypts, check_entries, reference_of};
 use crate::session_grant::{Grant, check_session};
-use crate::used::{Sent, Used, used_at};
+use crate::used::{Sent, SessionEntry, used_at};
 use arrayvec::ArrayVec;
 use tpm_commands::CommandCode;
-use tpm_mac::KeyedMac;
 use tpm_policy::Demand;
 use tpm_record::{Keep, Means, Resolved, resolve};
 use tpm_session::{HashedParameters, ParameterHashes, Protection, first_size};
@@ -78,7 +78,7 @@ fn check_password<K: Keep>(
     keep: &K,
     code: CommandCode,
     number: u8,
-    used: Option<Used>,
+    used: Option<Resolved>,
     entry: &AuthEntry,
 ) -> Result<Option<Grant>, Refused>
     requires number { 1 ≤ number }
@@ -87,7 +87,7 @@ fn check_password<K: Keep>(
         (option_map used_handle used.entry) (entry_of entry.now) }
 {
     match used {
-        Some(used) => check_value(keep, code, number, &used.resolved, entry),
+        Some(used) => check_value(keep, code, number, &used, entry),
         None if is_password_of(&[], entry.hmac) => Ok(None),
         None => Err(failure(Check::Others, number, Protection::None)),
     }
@@ -99,11 +99,11 @@ fn check_password<K: Keep>(
 fn check_grant<K: Keep>(
     keep: &K,
     sent: &Sent,
-    hashes: &mut ParameterHashes,
-    keyed: &mut KeyedMac,
     number: u8,
-    used: Option<Used>,
+    used: Option<Resolved>,
     entry: &AuthEntry,
+    hashes: &mut ParameterHashes,
+    cache: &mut Cache,
 ) -> Result<Option<Grant>, Refused>
     requires number { 1 ≤ number }
     requires hashed { hashes.old
@@ -117,7 +117,14 @@ fn check_grant<K: Keep>(
     match entry.session.session_kind() {
         SessionKind::Password => check_password(keep, sent.command.code, number, used, entry),
         SessionKind::Session => match keep.sessions().get(entry.session) {
-            Some(session) => check_session(keep, sent, hashes, keyed, number, used, entry, session),
+            Some(session) => {
+                let by = &SessionEntry {
+                    number,
+                    entry,
+                    session,
+                };
+                check_session(keep, sent, by, used, hashes, cache)
+            }
             None => Err(Refused::by(Check::Entries, reference_of(number))),
         },
         SessionKind::Other => {
@@ -132,9 +139,9 @@ fn check_grant<K: Keep>(
 fn check_grants<K: Keep>(
     keep: &K,
     sent: &Sent,
-    hashes: &mut ParameterHashes,
-    keyed: &mut KeyedMac,
     entries: &[AuthEntry],
+    hashes: &mut ParameterHashes,
+    cache: &mut Cache,
     grants: &mut ArrayVec<Option<Grant>, 3>,
 ) -> Result<(), Refused>
     requires hashed { hashes.old
@@ -150,9 +157,9 @@ fn check_grants<K: Keep>(
     };
     let before = grants.len();
     let used = used_at(sent, before);
-    let grant = check_grant(keep, sent, hashes, keyed, before as u8 + 1, used, entry)?;
+    let grant = check_grant(keep, sent, before as u8 + 1, used, entry, hashes, cache)?;
     grants.push(grant);
-    check_grants(keep, sent, hashes, keyed, entries, grants)
+    check_grants(keep, sent, entries, hashes, cache, grants)
 }
 
 /// Whether the first parameter, a sized buffer, is incomplete.
@@ -173,7 +180,7 @@ fn resolved_at<'a>(resolved: &[Resolved<'a>], place: usize) -> Resolved<'a>
 
 /// The Name of the next handle, after those with these Names. If the command names the same
 /// handle twice, the first Name is copied.
-fn next_name<K: Keep>(keep: &K, sent: &Sent, names: &[Name]) -> Name
+fn next_name<K: Keep>(keep: &K, sent: &Sent, names: &[Name], latest: &mut LatestName) -> Name
     requires resolved { IsResolved (K.record_of keep.now) sent.now }
     requires named { names.now ≡ map (name_of (K.record_of keep.now))
         (take (length names.now) (whole_of sent.now.command.now).handles) }
@@ -185,51 +192,46 @@ fn next_name<K: Keep>(keep: &K, sent: &Sent, names: &[Name]) -> Name
     let first = resolved_at(sent.resolved, 0);
     match names.first() {
         Some(name) if first.handle == resolved.handle => name.copy(),
-        _ => resolved.name(),
+        _ => latest.name_of(&resolved),
     }
 }
 
 /// Computes the Names of a command's handles.
 #[tactic(auto, using(crate::proofs::Resolving::one_more_named, crate::proofs::Resolving::as_many))]
-fn make_names<K: Keep>(keep: &K, sent: &Sent, names: &mut ArrayVec<Name, 3>)
+fn make_names<K: Keep>(
+    keep: &K,
+    sent: &Sent,
+    latest: &mut LatestName,
+    names: &mut ArrayVec<Name, 3>,
+)
     requires resolved { IsResolved (K.record_of keep.now) sent.now }
     requires empty { names.old.items ≡ [] }
     ensures { names.new.items
         ≡ map (name_of (K.record_of keep.now)) (whole_of sent.now.command.now).handles }
 {
     for _ in sent.command.handles.as_slice() {
-        let name = next_name(keep, sent, names.as_slice());
+        let name = next_name(keep, sent, names.as_slice(), latest);
         names.push(name);
     }
 }
 
 /// Checks each handle against the entry at its position, then the remaining entries; returns what
 /// each authorizes.
-fn check_resolved<K: Keep>(keep: &K, sent: &Sent, keyed: &mut KeyedMac) -> Result<Grants, Refused>
+fn check_resolved<K: Keep>(keep: &K, sent: &Sent, cache: &mut Cache) -> Result<Grants, Refused>
     requires { IsResolved (K.record_of keep.now) sent.now }
     ensures { Gives granted_by (grants_pass (K.record_of keep.now) (whole_of sent.now.command.now)
         (locality_number sent.now.locality) [] (whole_of sent.now.command.now).entries) result }
 {
     let command = sent.command;
     let mut names = ArrayVec::new();
-    make_names(keep, sent, &mut names);
+    make_names(keep, sent, &mut cache.name, &mut names);
     let code = command.code.number();
     let hashed = HashedParameters::Command(code, names.as_slice(), command.parameters);
     let mut hashes = ParameterHashes::new(hashed);
-    let named = &Sent {
-        names: names.as_slice(),
-        ..*sent
-    };
-    let mut entries = ArrayVec::new();
-    check_grants(
-        keep,
-        named,
-        &mut hashes,
-        keyed,
-        command.entries.as_slice(),
-        &mut entries,
-    )?;
-    Ok(Grants { grants: entries })
+    let mut grants = ArrayVec::new();
+    let entries = command.entries.as_slice();
+    check_grants(keep, sent, entries, &mut hashes, cache, &mut grants)?;
+    Ok(Grants { grants })
 }
 
 /// Looks up the entities of a command's handles.
@@ -244,12 +246,11 @@ fn resolve_all<'a, K: Keep>(keep: &'a K, handles: &[Handle], all: &mut ArrayVec<
 }
 
 /// Looks up the entity of each handle of a command, and checks the command's entries.
-#[tactic(auto, using(crate::proofs::Resolving::none_named))]
 fn check_sessions<K: Keep>(
     keep: &K,
     command: &Command,
     locality: Locality,
-    keyed: &mut KeyedMac,
+    cache: &mut Cache,
 ) -> Result<Grants, Refused>
     ensures { Gives granted_by (grants_pass (K.record_of keep.now) (whole_of command.now)
         (locality_number locality) [] (whole_of command.now).entries) result }
@@ -259,24 +260,20 @@ fn check_sessions<K: Keep>(
     let sent = &Sent {
         command,
         resolved: resolved.as_slice(),
-        names: &[],
         locality,
     };
-    check_resolved(keep, sent, keyed)
+    check_resolved(keep, sent, cache)
 }
 
 /// The handle that the first entry of a command has to authorize, if there is one.
-fn first_used<'a, K: Keep>(keep: &'a K, command: &Command) -> Option<Used<'a>>
+fn first_used<'a, K: Keep>(keep: &'a K, command: &Command) -> Option<Resolved<'a>>
     ensures handle { option_map used_handle result
         ≡ slice_get (authorized (whole_of command.now)) 0 }
     ensures used { ForSome result (IsUsed (K.record_of keep.now)) }
 {
     let handles = &command.handles.as_slice()[..command.code.authorized_handles()];
     match handles.first() {
-        Some(handle) => Some(Used {
-            resolved: resolve(keep, *handle),
-            name: None,
-        }),
+        Some(handle) => Some(resolve(keep, *handle)),
         None => None,
     }
 }
@@ -305,7 +302,7 @@ fn check_all<K: Keep>(
     keep: &K,
     command: &Command,
     locality: Locality,
-    keyed: &mut KeyedMac,
+    cache: &mut Cache,
 ) -> Result<Grants, Refused>
     ensures { Gives granted_by (grants_pass (K.record_of keep.now) (whole_of command.now)
         (locality_number locality) [] (whole_of command.now).entries) result }
@@ -317,7 +314,7 @@ fn check_all<K: Keep>(
         [entry] if entry.session.session_kind() == SessionKind::Password => {
             check_one_password(keep, command, entry)
         }
-        _ => check_sessions(keep, command, locality, keyed),
+        _ => check_sessions(keep, command, locality, cache),
     }
 }
 
@@ -332,17 +329,17 @@ pub fn authorize<K: Keep>(
     ensures { Gives granted_by (authorize (K.record_of keep.now) (whole_of command.now)
         (locality_number locality)) result }
 {
-    authorize_keyed(keep, command, locality, &mut KeyedMac::new())
+    authorize_with(keep, command, locality, &mut Cache::new())
 }
 
-/// Checks the entries of a command as [`authorize`] does, and keeps the key of the last HMAC for
-/// the next one.
+/// Checks the entries of a command as [`authorize`] does, and keeps in the cache what the answer
+/// and the next command may need again.
 #[tactic(auto, unfolding(crate::specs::Grant::authorize))]
-pub fn authorize_keyed<K: Keep>(
+pub fn authorize_with<K: Keep>(
     keep: &K,
     command: &Command,
     locality: Locality,
-    keyed: &mut KeyedMac,
+    cache: &mut Cache,
 ) -> Result<Grants, Refused>
     ensures { Gives granted_by (authorize (K.record_of keep.now) (whole_of command.now)
         (locality_number locality)) result }
@@ -353,7 +350,7 @@ pub fn authorize_keyed<K: Keep>(
         let rc = ResponseCode::AuthMissing.anywhere();
         return Err(Refused::by(Check::Entries, rc));
     }
-    let grants = check_all(keep, command, locality, keyed)?;
+    let grants = check_all(keep, command, locality, cache)?;
     if any_decrypts(entries) && is_cut(command.parameters) {
         let rc = ResponseCode::Insufficient.anywhere().at_parameter(1);
         return Err(Refused::by(Check::Others, rc));

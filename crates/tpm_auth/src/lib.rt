@@ -5,9 +5,11 @@
 //!
 //! [`authorize`] first checks each entry on its own. Then it checks each handle that needs
 //! authorization against the entry at the same position, and returns in [`Grants`] what each
-//! entry authorizes. The crate uses tpm_record, and meets the definitions of `specs/` for every
-//! implementation of the record.
+//! entry authorizes. A [`Cache`] stores the latest HMAC key and Name, so that neither is computed
+//! again. The crate uses tpm_record, and meets the definitions of `specs/` for every implementation
+//! of the record.
 
+mod cache;
 mod comparison;
 mod entries;
 mod entry_key;
@@ -16,7 +18,8 @@ pub mod laws;
 mod session_grant;
 mod used;
 
+pub use cache::{Cache, LatestName};
 pub use entries::{any_decrypts, decrypts, encrypts};
 pub use entry_key::used_auth_value;
-pub use grant::{Grants, authorize, authorize_keyed};
+pub use grant::{Grants, authorize, authorize_with};
 pub use session_grant::{Grant, empty_hmac_laws, granted_value};

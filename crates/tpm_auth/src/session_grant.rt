@@ -16,15 +16,16 @@ ghost use Rattle.tpm_auth.specs.SessionGrant.{binding_protection, by_policy, com
 ghost use Rattle.tpm_record.specs.Resolved.{IsFound};
 ghost use Rattle.tpm_auth.specs.Used.{IsToGrant, IsUsed, grant_by, used_handle};
 
+use crate::cache::Cache;
 use crate::comparison::{check_of, failure, is_locked_out, is_password_of, lockout_refusal};
 use crate::entry_key::{is_authentic, takes_value};
-use crate::used::{Granted, Sent, Used};
+use crate::used::{Granted, Sent, SessionEntry};
 use tpm_mac::KeyedMac;
 use tpm_policy::{Demand, EntityPolicy, Use};
 use tpm_record::{Keep, Means, Resolved, auth_value_of};
 use tpm_session::{ParameterHashes, Protection, Session};
 use tpm_types::{Check, Handle, Refused, ResponseCode, SessionType};
-use tpm_types_command::{AuthEntry, Command};
+use tpm_types_command::Command;
 
 /// The handle that an entry authorizes, with the policy's demand for it.
 #[derive(Clone, Copy, PartialEq, Eq)]
@@ -56,13 +57,13 @@ fn or_protection(protection: Protection, other: Protection) -> Protection
 /// has to authorize this handle.
 #[tactic(auto, unfolding(crate::specs::SessionGrant::entry_protection, tpm_record::specs::Entity::protection_of))]
 fn granted_protection<K: Keep>(keep: &K, session: &Session, granted: &Granted) -> Protection
-    requires { IsToGrant (K.record_of keep.now) granted.now }
+    requires { IsToGrant (K.record_of keep.now) session.now granted.now }
     ensures { result ≡ entry_protection (K.record_of keep.now) session.now
         (Some (grant_by granted.now)) }
 {
     let bound = binding_protection(session);
-    if takes_value(keep, session, granted) || granted.demand == Demand::Password {
-        or_protection(granted.used.resolved.protection(), bound)
+    if granted.takes_value || granted.demand == Demand::Password {
+        or_protection(granted.used.protection(), bound)
     } else {
         bound
     }
@@ -71,7 +72,7 @@ fn granted_protection<K: Keep>(keep: &K, session: &Session, granted: &Granted) -
 /// The protection of the entity whose authorization value a session's entry uses.
 #[tactic(auto, unfolding(crate::specs::SessionGrant::entry_protection))]
 fn entry_protection<K: Keep>(keep: &K, session: &Session, granted: Option<Granted>) -> Protection
-    requires { ForSome granted (IsToGrant (K.record_of keep.now)) }
+    requires { ForSome granted (IsToGrant (K.record_of keep.now) session.now) }
     ensures { result ≡ entry_protection (K.record_of keep.now) session.now
         (option_map grant_by granted.entry) }
 {
@@ -81,10 +82,10 @@ fn entry_protection<K: Keep>(keep: &K, session: &Session, granted: Option<Grante
     }
 }
 
-/// Whether the entity whose authorization value a session's entry uses is locked out. The entity
-/// is looked up only if something is locked out.
-fn comes_up_against_lockout<K: Keep>(keep: &K, session: &Session, granted: Option<Granted>) -> bool
-    requires { ForSome granted (IsToGrant (K.record_of keep.now)) }
+/// Whether the entity whose authorization value a session's entry uses is locked out. Its
+/// protection matters only if something is locked out.
+fn is_barred<K: Keep>(keep: &K, session: &Session, granted: Option<Granted>) -> bool
+    requires { ForSome granted (IsToGrant (K.record_of keep.now) session.now) }
     ensures { result ≡ is_locked_out (K.record_of keep.now).fixed.lockout
         (entry_protection (K.record_of keep.now) session.now (option_map grant_by granted.entry)) }
 {
@@ -110,24 +111,24 @@ fn policy_of<'a>(resolved: &'a Resolved) -> Option<EntityPolicy<'a>>
 fn use_of<'a, K: Keep>(
     keep: &K,
     sent: &Sent,
-    cp_hash: &'a [u8],
-    number: u8,
+    by: &SessionEntry,
     resolved: &'a Resolved,
-    session: &Session,
+    cp_hash: &'a [u8],
 ) -> Use<'a>
-    requires number { 1 ≤ number }
-    requires hashed { cp_hash.now ≡ parameter_hash_of session.now.hash
+    requires number { 1 ≤ by.now.number }
+    requires hashed { cp_hash.now ≡ parameter_hash_of by.now.session.now.hash
         (hashed_command (K.record_of keep.now) (whole_of sent.now.command.now)) }
     requires found { IsFound (K.record_of keep.now) resolved.now }
     ensures { parts_of result ≡ use_of (K.record_of keep.now) (whole_of sent.now.command.now)
-        (locality_number sent.now.locality) number resolved.now.handle session.now }
+        (locality_number sent.now.locality) by.now.number resolved.now.handle
+        by.now.session.now }
 {
     let code = sent.command.code;
-    let place = usize::from(number) - 1;
+    let place = usize::from(by.number) - 1;
     Use {
-        entry: number,
-        kind: session.kind(),
-        hash: session.hash(),
+        entry: by.number,
+        kind: by.session.kind(),
+        hash: by.session.hash(),
         available: resolved.is_available(Means::Policy, code.nv_use_at(place)),
         update_count: keep.fixed().banks.update_count(),
         command: code.number(),
@@ -143,22 +144,22 @@ fn use_of<'a, K: Keep>(
 fn policy_demand<K: Keep>(
     keep: &K,
     sent: &Sent,
-    hashes: &mut ParameterHashes,
-    number: u8,
+    by: &SessionEntry,
     resolved: &Resolved,
-    session: &Session,
+    hashes: &mut ParameterHashes,
 ) -> Result<Demand, Refused>
-    requires number { 1 ≤ number }
+    requires number { 1 ≤ by.now.number }
     requires hashed { hashes.old
         ≡ hashed_command (K.record_of keep.now) (whole_of sent.now.command.now) }
     requires found { IsFound (K.record_of keep.now) resolved.now }
     ensures value { result ≡ by_policy (K.record_of keep.now) (whole_of sent.now.command.now)
-        (locality_number sent.now.locality) number resolved.now.handle session.now }
+        (locality_number sent.now.locality) by.now.number resolved.now.handle
+        by.now.session.now }
     ensures same { hashes.new ≡ hashes.old }
 {
-    let cp_hash = hashes.by(session.hash());
-    let asked = use_of(keep, sent, cp_hash.as_slice(), number, resolved, session);
-    match session.policy().check_use(&asked) {
+    let cp_hash = hashes.by(by.session.hash());
+    let asked = use_of(keep, sent, by, resolved, cp_hash.as_slice());
+    match by.session.policy().check_use(&asked) {
         Ok(demand) => Ok(demand),
         Err(rc) => Err(Refused::by(Check::Authorization, rc)),
     }
@@ -170,29 +171,27 @@ fn policy_demand<K: Keep>(
 fn demand_of<K: Keep>(
     keep: &K,
     sent: &Sent,
-    hashes: &mut ParameterHashes,
-    number: u8,
+    by: &SessionEntry,
     resolved: &Resolved,
-    session: &Session,
+    hashes: &mut ParameterHashes,
 ) -> Result<Demand, Refused>
-    requires number { 1 ≤ number }
+    requires number { 1 ≤ by.now.number }
     requires hashed { hashes.old
         ≡ hashed_command (K.record_of keep.now) (whole_of sent.now.command.now) }
     requires found { IsFound (K.record_of keep.now) resolved.now }
     ensures value { result ≡ demanded (K.record_of keep.now) (whole_of sent.now.command.now)
-        (locality_number sent.now.locality) number resolved.now.handle session.now }
+        (locality_number sent.now.locality) by.now.number resolved.now.handle
+        by.now.session.now }
     ensures same { hashes.new ≡ hashes.old }
 {
-    let nv_use = sent.command.code.nv_use_at(usize::from(number) - 1);
-    match session.kind() {
+    let nv_use = sent.command.code.nv_use_at(usize::from(by.number) - 1);
+    match by.session.kind() {
         SessionType::Hmac if resolved.is_available(Means::AuthValue, nv_use) => Ok(Demand::None),
         SessionType::Hmac => {
             let rc = ResponseCode::AuthUnavailable.anywhere();
             Err(Refused::by(Check::Authorization, rc))
         }
-        SessionType::Policy | SessionType::Trial => {
-            policy_demand(keep, sent, hashes, number, resolved, session)
-        }
+        SessionType::Policy | SessionType::Trial => policy_demand(keep, sent, by, resolved, hashes),
     }
 }
 
@@ -213,26 +212,23 @@ pub fn granted_value<'a, K: Keep>(keep: &'a K, grant: Option<Grant>) -> &'a [u8]
 fn comparison_holds<K: Keep>(
     keep: &K,
     command: &Command,
+    by: &SessionEntry,
+    granted: Option<Granted>,
     hashes: &mut ParameterHashes,
     keyed: &mut KeyedMac,
-    number: u8,
-    granted: Option<Granted>,
-    entry: &AuthEntry,
-    session: &Session,
 ) -> bool
     requires hashed { hashes.old ≡ hashed_command (K.record_of keep.now) (whole_of command.now) }
-    requires used { ForSome granted (IsToGrant (K.record_of keep.now)) }
-    ensures value { result ≡ comparison_holds (K.record_of keep.now) (whole_of command.now) number
-        (option_map grant_by granted.entry) (entry_of entry.now) session.now }
+    requires used { ForSome granted (IsToGrant (K.record_of keep.now) by.now.session.now) }
+    ensures value { result ≡ comparison_holds (K.record_of keep.now) (whole_of command.now)
+        by.now.number (option_map grant_by granted.entry) (entry_of by.now.entry.now)
+        by.now.session.now }
     ensures same { hashes.new ≡ hashes.old }
 {
     match granted {
         Some(granted) if granted.demand == Demand::Password => {
-            is_password_of(granted.used.resolved.auth_value(keep), entry.hmac)
+            is_password_of(granted.used.auth_value(keep), by.entry.hmac)
         }
-        _ => is_authentic(
-            keep, command, hashes, keyed, number, granted, entry, session,
-        ),
+        _ => is_authentic(keep, command, by, granted, hashes, keyed),
     }
 }
 
@@ -252,30 +248,27 @@ fn grant_of(granted: Option<Granted>) -> Option<Grant>
 fn compare<K: Keep>(
     keep: &K,
     command: &Command,
+    by: &SessionEntry,
+    granted: Option<Granted>,
     hashes: &mut ParameterHashes,
     keyed: &mut KeyedMac,
-    number: u8,
-    granted: Option<Granted>,
-    entry: &AuthEntry,
-    session: &Session,
 ) -> Result<Option<Grant>, Refused>
     requires hashed { hashes.old ≡ hashed_command (K.record_of keep.now) (whole_of command.now) }
-    requires used { ForSome granted (IsToGrant (K.record_of keep.now)) }
-    ensures value { result ≡ comparison (K.record_of keep.now) (whole_of command.now) number
-        (option_map grant_by granted.entry) (entry_of entry.now) session.now }
+    requires used { ForSome granted (IsToGrant (K.record_of keep.now) by.now.session.now) }
+    ensures value { result ≡ comparison (K.record_of keep.now) (whole_of command.now)
+        by.now.number (option_map grant_by granted.entry) (entry_of by.now.entry.now)
+        by.now.session.now }
     ensures same { hashes.new ≡ hashes.old }
 {
     let grant = grant_of(granted);
-    if comes_up_against_lockout(keep, session, granted) {
+    if is_barred(keep, by.session, granted) {
         return Err(lockout_refusal(grant));
     }
-    if comparison_holds(
-        keep, command, hashes, keyed, number, granted, entry, session,
-    ) {
+    if comparison_holds(keep, command, by, granted, hashes, keyed) {
         return Ok(grant);
     }
-    let protection = entry_protection(keep, session, granted);
-    Err(failure(check_of(grant), number, protection))
+    let protection = entry_protection(keep, by.session, granted);
+    Err(failure(check_of(grant), by.number, protection))
 }
 
 /// The grant of a session's entry for this handle or for none, if the session can authorize it
@@ -284,46 +277,31 @@ fn compare<K: Keep>(
 pub fn check_session<K: Keep>(
     keep: &K,
     sent: &Sent,
+    by: &SessionEntry,
+    used: Option<Resolved>,
     hashes: &mut ParameterHashes,
-    keyed: &mut KeyedMac,
-    number: u8,
-    used: Option<Used>,
-    entry: &AuthEntry,
-    session: &Session,
+    cache: &mut Cache,
 ) -> Result<Option<Grant>, Refused>
-    requires number { 1 ≤ number }
+    requires number { 1 ≤ by.now.number }
     requires hashed { hashes.old
         ≡ hashed_command (K.record_of keep.now) (whole_of sent.now.command.now) }
     requires used { ForSome used (IsUsed (K.record_of keep.now)) }
     ensures value { result ≡ session_grant (K.record_of keep.now) (whole_of sent.now.command.now)
-        (locality_number sent.now.locality) number (option_map used_handle used.entry)
-        (entry_of entry.now) session.now }
+        (locality_number sent.now.locality) by.now.number (option_map used_handle used.entry)
+        (entry_of by.now.entry.now) by.now.session.now }
     ensures same { hashes.new ≡ hashes.old }
 {
     let Some(used) = used else {
-        return compare(
-            keep,
-            sent.command,
-            hashes,
-            keyed,
-            number,
-            None,
-            entry,
-            session,
-        );
+        return compare(keep, sent.command, by, None, hashes, &mut cache.keyed);
     };
-    let demand = demand_of(keep, sent, hashes, number, &used.resolved, session)?;
-    let granted = Some(Granted { used, demand });
-    compare(
-        keep,
-        sent.command,
-        hashes,
-        keyed,
-        number,
-        granted,
-        entry,
-        session,
-    )
+    let demand = demand_of(keep, sent, by, &used, hashes)?;
+    let takes_value = takes_value(keep, by.session, &used, demand, &mut cache.name);
+    let granted = Some(Granted {
+        used,
+        demand,
+        takes_value,
+    });
+    compare(keep, sent.command, by, granted, hashes, &mut cache.keyed)
 }
 
 /// If a session's entry is accepted with an empty HMAC, its key was empty, or a policy demanded a

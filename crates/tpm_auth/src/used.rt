@@ -1,44 +1,43 @@
 //! The handle that an entry has to authorize, with the handle's entity, which is looked up only
 //! once.
 
-ghost use Rattle.std.specs.Prelude.{◌≡◌, ◌≤◌, length, map, slice_get, take};
-ghost use Rattle.std.specs.Str.{bytes_eq};
+ghost use Rattle.std.specs.Prelude.{◌≡◌, length, slice_get, take};
 ghost use Rattle.tpm_types_command.specs.Command.{whole_of};
 ghost use Rattle.tpm_commands.specs.CommandCode.{authorized_handles};
-ghost use Rattle.tpm_record.specs.Entity.{name_of};
 ghost use Rattle.tpm_record.specs.Record.{Record};
 ghost use Rattle.tpm_auth.specs.Grant.{authorized};
-ghost use Rattle.tpm_auth.specs.Used.{IsResolved, IsUsed, IsUsedFor, grant_by, used_handle};
+ghost use Rattle.tpm_auth.specs.Used.{IsResolved, IsUsedFor, grant_by};
 
 use crate::session_grant::Grant;
 use tpm_policy::Demand;
 use tpm_record::Resolved;
+use tpm_session::Session;
 use tpm_types::Locality;
-use tpm_types_command::Command;
-use tpm_types_name::Name;
+use tpm_types_command::{AuthEntry, Command};
 
 /// A command with its locality and the entities of its handles.
 #[derive(Clone, Copy)]
 pub struct Sent<'a, 'b> {
     pub command: &'a Command<'b>,
     pub resolved: &'a [Resolved<'a>],
-    /// The Names of the command's handles; empty if they are not needed.
-    pub names: &'a [Name],
     pub locality: Locality,
 }
 
-/// The handle that an entry has to authorize, with its Name if the Name has been computed.
+/// An entry of a command, with its number and the session that it names.
 #[derive(Clone, Copy)]
-pub struct Used<'a> {
-    pub resolved: Resolved<'a>,
-    pub name: Option<&'a Name>,
+pub struct SessionEntry<'a, 'b> {
+    pub number: u8,
+    pub entry: &'a AuthEntry<'b>,
+    pub session: &'a Session,
 }
 
-/// The handle that an entry authorizes, with the policy's demand for it.
+/// What an entry of a session authorizes: a handle with its entity, and the policy's demand.
 #[derive(Clone, Copy)]
 pub struct Granted<'a> {
-    pub used: Used<'a>,
+    pub used: Resolved<'a>,
     pub demand: Demand,
+    /// Whether the HMAC key includes the entity's authorization value.
+    pub takes_value: bool,
 }
 
 impl Granted<'_> {
@@ -47,22 +46,8 @@ impl Granted<'_> {
         ensures { result ≡ grant_by self.now }
     {
         Grant {
-            handle: self.used.resolved.handle,
+            handle: self.used.handle,
             demand: self.demand,
-        }
-    }
-}
-
-impl Used<'_> {
-    /// Whether this is the entity's Name, which is computed now unless it was computed before.
-    #[tactic(auto, unfolding(tpm_record::specs::Entity::name_of))]
-    pub fn is_named(&self, name: &Name) -> bool
-        ensures { (r : Record) → IsUsed r self.now
-            → result ≡ bytes_eq name.now (name_of r (used_handle self.now)) }
-    {
-        match self.name {
-            Some(made) => name.is_same(made),
-            None => name.is_same(&self.resolved.name()),
         }
     }
 }
@@ -78,16 +63,13 @@ fn authorized<'a>(sent: &Sent<'a, '_>) -> &'a [Resolved<'a>]
 
 /// The handle that the entry at a position has to authorize, if there is one.
 #[tactic(auto, using(crate::proofs::Resolving::used_in, crate::proofs::Resolving::nothing_in))]
-pub fn used_at<'a>(sent: &Sent<'a, '_>, place: usize) -> Option<Used<'a>>
+pub fn used_at<'a>(sent: &Sent<'a, '_>, place: usize) -> Option<Resolved<'a>>
     requires { length sent.now.resolved.now ≡ length (whole_of sent.now.command.now).handles }
     ensures { (r : Record) → IsResolved r sent.now
         → IsUsedFor r (slice_get (authorized (whole_of sent.now.command.now)) place) result }
 {
     match authorized(sent).get(place) {
-        Some(resolved) => Some(Used {
-            resolved: *resolved,
-            name: sent.names.get(place),
-        }),
+        Some(resolved) => Some(*resolved),
         None => None,
     }
 }

@@ -8,9 +8,9 @@ ghost use Rattle.tpm_auth.specs.SessionGrant.{demands_password};
 ghost use Rattle.tpm_step.specs.Entries.{answer_mac, draw_of, entries_answer, entries_ended, entries_rolled, entry_answer, entry_ended, entry_restarted, entry_rolled, session_answer};
 
 use crate::draws::Draws;
-use tpm_auth::{Grant, used_auth_value};
+use tpm_auth::{Cache, Grant, used_auth_value};
 use tpm_bytes::Sink;
-use tpm_mac::{Digest, KeyedMac};
+use tpm_mac::Digest;
 use tpm_policy::{Demand, PolicyState};
 use tpm_record::Keep;
 use tpm_session::{ParameterHashes, Session};
@@ -76,7 +76,7 @@ fn demands_password(grant: Option<Grant>) -> bool
 fn answer_mac<K: Keep>(
     keep: &K,
     hashes: &mut ParameterHashes,
-    keyed: &mut KeyedMac,
+    cache: &mut Cache,
     grant: Option<Grant>,
     entry: &AuthEntry,
     session: &Session,
@@ -88,17 +88,23 @@ fn answer_mac<K: Keep>(
     if entry.hmac.is_empty() || demands_password(grant) {
         return Digest::new();
     }
-    let value = used_auth_value(keep, session, grant);
+    let value = used_auth_value(keep, session, grant, &mut cache.name);
     let hash = hashes.by(session.hash());
     let nonce = entry.nonce;
-    session.response_mac(value, hash.as_slice(), nonce, entry.attributes, keyed)
+    session.response_mac(
+        value,
+        hash.as_slice(),
+        nonce,
+        entry.attributes,
+        &mut cache.keyed,
+    )
 }
 
 #[tactic(auto, unfolding(tpm_step::specs::Entries::session_answer))]
 fn answer_session<K: Keep>(
     keep: &K,
     hashes: &mut ParameterHashes,
-    keyed: &mut KeyedMac,
+    cache: &mut Cache,
     grant: Option<Grant>,
     entry: &AuthEntry,
     session: &Session,
@@ -110,7 +116,7 @@ fn answer_session<K: Keep>(
     ensures grown { length area.new ≤ length area.old + 69 }
     ensures same { hashes.new ≡ hashes.old }
 {
-    let mac = answer_mac(keep, hashes, keyed, grant, entry, session);
+    let mac = answer_mac(keep, hashes, cache, grant, entry, session);
     area.append_sized(session.nonce_tpm().as_slice());
     area.append_u8(entry.attributes.octet);
     area.append_sized(mac.as_slice());
@@ -120,7 +126,7 @@ fn answer_session<K: Keep>(
 fn answer_entry<K: Keep>(
     keep: &K,
     hashes: &mut ParameterHashes,
-    keyed: &mut KeyedMac,
+    cache: &mut Cache,
     grant: Option<Grant>,
     entry: &AuthEntry,
     area: &mut Sink<ENTRY_ANSWERS_LIMIT>,
@@ -132,7 +138,7 @@ fn answer_entry<K: Keep>(
     ensures same { hashes.new ≡ hashes.old }
 {
     match keep.sessions().get(entry.session) {
-        Some(session) => answer_session(keep, hashes, keyed, grant, entry, session, area),
+        Some(session) => answer_session(keep, hashes, cache, grant, entry, session, area),
         None => area.append(&PASSWORD_ANSWER),
     }
 }
@@ -141,7 +147,7 @@ fn answer_entry<K: Keep>(
 pub fn answer_entries<K: Keep>(
     keep: &K,
     hashes: &mut ParameterHashes,
-    keyed: &mut KeyedMac,
+    cache: &mut Cache,
     entries: &[AuthEntry],
     grants: &[Option<Grant>],
     area: &mut Sink<ENTRY_ANSWERS_LIMIT>,
@@ -156,8 +162,8 @@ pub fn answer_entries<K: Keep>(
     let [grant, grants @ ..] = grants else {
         return;
     };
-    answer_entry(keep, hashes, keyed, *grant, entry, area);
-    answer_entries(keep, hashes, keyed, entries, grants, area);
+    answer_entry(keep, hashes, cache, *grant, entry, area);
+    answer_entries(keep, hashes, cache, entries, grants, area);
 }
 
 /// Sets the policy of an entry's session back to its start, if it is a policy session.

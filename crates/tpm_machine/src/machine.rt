@@ -28,10 +28,9 @@ use crate::decoding::decode;
 use crate::response::{write_refusal, write_success};
 use crate::table::accept;
 use std::alloc::Global;
-use tpm_auth::{Grants, authorize_keyed};
+use tpm_auth::{Cache, Grants, authorize_with};
 use tpm_bytes::NoMemory;
 use tpm_commands::CommandCode;
-use tpm_mac::KeyedMac;
 use tpm_record::rows::answer::Answer;
 use tpm_record::tick::tick;
 use tpm_record::{Fixed, Keep, power_cycle, read_widths};
@@ -46,8 +45,8 @@ pub struct Machine<K: Keep> {
     /// The buffer of a command's answer, which is cleared for each command. It is not part of the
     /// state.
     answer: Answer,
-    /// The key of the latest HMAC, which is not part of the state.
-    keyed: KeyedMac,
+    /// The key of the latest HMAC and the latest Name, which are not part of the state.
+    cache: Cache,
     /// The number of random bytes that the latest event drew, which is not part of the state.
     drawn: usize,
 }
@@ -82,7 +81,7 @@ impl<K: Keep> Machine<K> {
         Machine {
             keep,
             answer: Answer::empty(),
-            keyed: KeyedMac::new(),
+            cache: Cache::new(),
             drawn: 0,
         }
     }
@@ -294,7 +293,7 @@ impl<K: Keep> Machine<K> {
             Ok(command) => command,
             Err(refusal) => return refuse(&mut self.keep, refusal, text),
         };
-        match authorize_keyed(&self.keep, &command, locality, &mut self.keyed) {
+        match authorize_with(&self.keep, &command, locality, &mut self.cache) {
             Ok(grants) => self.perform(&command, &grants, locality, random, text),
             Err(refused) => refuse(
                 &mut self.keep,
@@ -343,10 +342,10 @@ impl<K: Keep> Machine<K> {
     {
         self.answer.clear();
         let (keep, answer) = (&mut self.keep, &mut self.answer);
-        let keyed = &mut self.keyed;
+        let cache = &mut self.cache;
         match accept(keep, command, grants, locality, random, answer) {
             Ok(()) => {
-                self.drawn = write_success(keep, command, grants, answer, random, keyed, text);
+                self.drawn = write_success(keep, command, grants, answer, random, cache, text);
                 settle(keep, command.code);
                 Row {
                     code: command.code.number(),

@@ -14,9 +14,8 @@ ghost use Rattle.tpm_step.specs.Parameters.{encrypted_answer};
 use crate::draws::Draws;
 use crate::entries::{ENTRY_ANSWERS_LIMIT, answer_entries, end_entries, roll_entries};
 use crate::parameters::pass_parameters;
-use tpm_auth::{Grant, Grants};
+use tpm_auth::{Cache, Grant, Grants};
 use tpm_bytes::{Sink, append};
-use tpm_mac::KeyedMac;
 use tpm_record::Keep;
 use tpm_record::rows::answer::{Answer, Parameters};
 use tpm_session::{HashedParameters, ParameterHashes};
@@ -136,7 +135,7 @@ fn write_with_sessions<K: Keep>(
     grants: &Grants,
     answer: &mut Answer,
     random: &[u8; 256],
-    keyed: &mut KeyedMac,
+    cache: &mut Cache,
     text: &mut Response,
 ) -> usize
     requires empty { text.old.items ≡ [] }
@@ -161,7 +160,7 @@ fn write_with_sessions<K: Keep>(
     let hashed = HashedParameters::Response(command.code.number(), parameters);
     let mut hashes = ParameterHashes::new(hashed);
     let mut area = Sink::new();
-    answer_entries(keep, &mut hashes, keyed, entries, grants, &mut area);
+    answer_entries(keep, &mut hashes, cache, entries, grants, &mut area);
     write_with_area(answer.handle, parameters, area.as_slice(), text);
     end_entries(keep, entries, grants);
     drawn
@@ -175,7 +174,7 @@ pub fn write_success<K: Keep>(
     grants: &Grants,
     answer: &mut Answer,
     random: &[u8; 256],
-    keyed: &mut KeyedMac,
+    cache: &mut Cache,
     text: &mut Response,
 ) -> usize
     requires empty { text.old.items ≡ [] }
@@ -194,6 +193,6 @@ pub fn write_success<K: Keep>(
         write_plain(answer.handle, answer.parameters.as_slice(), text);
         answer.drawn
     } else {
-        write_with_sessions(keep, command, grants, answer, random, keyed, text)
+        write_with_sessions(keep, command, grants, answer, random, cache, text)
     }
 }

@@ -11,4 +11,4 @@ returns-in-Some g c =
     ap Some c.copy.ensures ∙ next_again _ _ _ _ _ first resolved _ c.requires.resolved.found c.requires.named c.resolved_at-first.ensures c.resolved_at-resolved.ensures (sym c.in-Some.ensures.value) same
 
 pub returns-in_default : goal.returns-in_default
-returns-in_default g c = next_named _ _ _ _ c.resolved_at-resolved.result _ c.requires.resolved.found c.resolved_at-resolved.ensures c.name.ensures
+returns-in_default g c = next_named _ _ _ _ c.resolved_at-resolved.result _ c.requires.resolved.found c.resolved_at-resolved.ensures c.name_of.ensures
