@@ -17,9 +17,11 @@ import time
 from dataclasses import dataclass
 from pathlib import Path
 
-ROUNDS, FEW, MANY = 15, 1, 501
-COUNTED_FEW, COUNTED_MANY = 1, 101
-OPENED_AFTER = 900, 60_000
+ROUNDS = 15
+# How often a process does an act: a command, or an opening, which takes 400 times as long.
+COMMANDS, OPENINGS = 1000, 20
+# The journal is longest after 1,500 commands: a little later it begins again.
+OPENED_AFTER = 900, 1_500, 60_000
 TOOL = ["tpm2_getrandom", "-f", "--hex", "16"]
 
 
@@ -74,50 +76,53 @@ def measure_tool(transport: str, rounds: int) -> None:
     row("tpm2_getrandom 16, start to end", cost, instructions(TOOL, transport))
 
 
-def elapsed_of_one(client: str, transport: str, act: str) -> float:
-    """Returns the median time of an act, of many in one process."""
-    words = [client, transport, act, str(MANY)]
+def elapsed_of_one(client: str, transport: str, act: str, count: int) -> float:
+    """Returns the median time of an act, of so many in one process."""
+    words = [client, transport, act, str(count)]
     output = subprocess.run(words, check=True, capture_output=True, text=True).stdout
     return float(output.split()[1])
 
 
-def measure_act(label: str, client: str, transport: str, act: str, rounds: int) -> None:
-    """Measures an act by the difference between a process that does it often and one that does it
-    seldom.
+@dataclass(frozen=True)
+class Act:
+    """An act that a client does so often in one process."""
+
+    label: str
+    name: str
+    count: int
+
+
+def measure_act(act: Act, client: str, transport: str, rounds: int) -> None:
+    """Measures an act: its processor time and instructions by the difference between a process
+    that does it often and one that does it once.
     """
-    elapsed = [elapsed_of_one(client, transport, act) for _ in range(rounds)]
-    many, few = (
-        [run([client, transport, act, str(count)], transport).processor for _ in range(rounds)]
-        for count in (MANY, FEW)
-    )
-    processor = (statistics.median(many) - statistics.median(few)) / (MANY - FEW)
-    counted = [
-        instructions([client, transport, act, str(count)], transport)
-        for count in (COUNTED_FEW, COUNTED_MANY)
-    ]
-    each = (counted[1] - counted[0]) / (COUNTED_MANY - COUNTED_FEW)
-    row(label, Cost(statistics.median(elapsed), processor), each)
+    words = [[client, transport, act.name, str(count)] for count in (1, act.count + 1)]
+    elapsed = [elapsed_of_one(client, transport, act.name, act.count) for _ in range(rounds)]
+    few, many = (median([run(it, transport) for _ in range(rounds)]).processor for it in words)
+    once, often = (instructions(it, transport) for it in words)
+    cost = Cost(statistics.median(elapsed), (many - few) / act.count)
+    row(act.label, cost, (often - once) / act.count)
 
 
 def measure_opening(client: str, transport: str, commands: int, journal: Path, rounds: int) -> None:
     subprocess.run([client, transport, "getrandom", str(commands)], check=True, capture_output=True)
     label = f"opening after {commands:,} commands, {journal.stat().st_size:,} bytes"
-    measure_act(label, client, transport, "open", rounds)
+    measure_act(Act(label, "open", OPENINGS), client, transport, rounds)
 
 
 def measure(module: str, client: str, disk: str, rounds: int = ROUNDS) -> None:
-    with tempfile.TemporaryDirectory(dir=disk) as name:
-        state = Path(name) / "state"
+    with tempfile.TemporaryDirectory(dir=disk) as folder:
+        state = Path(folder) / "state"
         print("| a device in a folder | us | us of the processor | instructions |")
         print("|---|---|---|---|")
         measure_tool(f"{module}:state={state}", rounds)
         for force in "power", "always":
             transport = f"{module}:state={state},force={force}"
-            for act, label in (("getrandom", "GetRandom"), ("extend", "PCR_Extend")):
+            for command, label in (("getrandom", "GetRandom"), ("extend", "PCR_Extend")):
                 text = f"{label} in a process that stays, force={force}"
-                measure_act(text, client, transport, act, rounds)
+                measure_act(Act(text, command, COMMANDS), client, transport, rounds)
         for commands in OPENED_AFTER:
-            state = Path(name) / str(commands)
+            state = Path(folder) / str(commands)
             transport = f"{module}:state={state},force=never"
             measure_opening(client, transport, commands, state / "journal", rounds)
 

@@ -24,7 +24,7 @@ from typing import Iterator, Sequence
 
 from tests.keeping.counted import answer_of, BEGIN, COMMANDS, Counted, DEFINE, INCREMENT
 from tests.keeping.counted import INITIALIZE, NOTHING, POWER, READ, STARTUP, State, UNWRITTEN
-from tests.keeping.each_call import Act, Meeting, MOST_CALLS, Shim, Told, VARIANTS, one_line, said
+from tests.keeping.each_call import Meeting, MOST_CALLS, one_line, said, Shim, Told, VARIANTS
 from tests.keeping.hosts import Refused
 from tpmsim.device import SwtpmDevice
 from tpmsim.device.base import DeviceEnded
