@@ -69,7 +69,7 @@ class OfflineGuesses(unittest.TestCase):
         self.assertEqual(slips, ["guesses of a used value need no try"])
         told = audited(script)
         row = told[told.index(TITLE) + 1]
-        self.assertIn("by a policy that does not ask for its authValue, and encrypts", row)
+        self.assertIn("by a policy that does not require its authValue, and encrypts", row)
 
     def test_ordinary_encryption(self):
         self.assertGreater(encrypting(ORDINARY), 0)
