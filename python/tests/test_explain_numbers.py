@@ -19,7 +19,7 @@ GENERAL = (
     ("cmd 80030000000a0000017b", "G2", 0, "The tag is 8003."),
     ("cmd 80010000000b0000017b", "G3", 2, "commandSize says 11, and the buffer has 10 bytes."),
     ("cmd 80010000000a00000174", "G4", 6, "TPM2_RSA_Encrypt (00000174) is not served."),
-    ("do Startup 0", "G5", 6, "The device is started already"),
+    ("do Startup 0", "G5", 6, "The device is already started"),
     ("cmd 80010000000c000001690100", "G6/INSUFFICIENT", 10, "is cut: 2 of 4 bytes are left."),
     ("do NV_ReadPublic OWNER", "G6/VALUE", 10, "Handle 1, nvIndex, is 40000001, OWNER"),
     ("do NV_ReadPublic 01000001", "G6/HANDLE", 10, "no earlier command made it"),

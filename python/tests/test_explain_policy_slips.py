@@ -272,7 +272,7 @@ class PolicySlips(unittest.TestCase):
             with self.subTest(f"{at} {first[0]}, {second[0]}"):
                 found = case.refused(made)
                 self.assertEqual(sorted(found.slips), sorted([first[0], second[0]]))
-                self.assertEqual(found.words.count("would be"), 1, found.words)
+                self.assertEqual(found.words.count("would match"), 1, found.words)
                 self.assertRegex(found.words, r" \w.*, and [wi].*, it would match[.:]")
                 named += 1
         self.assertGreater(named, 45)

@@ -17,7 +17,7 @@ ATTACK = (TESTS / "lockout" / "offline_guesses.tpm").read_bytes()
 ORDINARY = (TESTS / "sessions" / "session_encryption.tpm").read_bytes()
 
 TITLE = "Values of which guesses need no try"
-BOUND = "is bound to LOCKOUT, and encrypts an answer to a command that needs no knowledge"
+BOUND = "is bound to LOCKOUT, and encrypts an answer to a command that does not require"
 
 
 def guessed(script):

@@ -136,7 +136,8 @@ def integrity(look: Look) -> None:
     look.found.add("Name of inPublic", name.hex())
     for handle, it in look.model.objects.items():
         if it is not held and object_rules.integrity(it, fields.data, name) == given:
-            since = f"{handle_words(handle)}, which has existed since line {look.past.begun.get(handle, 0)}"
+            begun = look.past.begun.get(handle, 0)
+            since = f"{handle_words(handle)}, which has existed since line {begun}"
             look.found.slip("another parent", f"it is right under {since}")
 
 

@@ -77,7 +77,8 @@ def from_earlier(use: Use, steps: Sequence[Step], earlier: Made, found: Reason) 
         return f"{missing.code.name} is missing."
     more = steps[len(earlier.steps) :]
     found.slips.append("assertion too many")
-    return f"It has additional assertions: {listed(f'{it.code.name} in line {it.line}' for it in more)}."
+    those = listed(f"{it.code.name} in line {it.line}" for it in more)
+    return f"It has additional assertions: {those}."
 
 
 def alone(step: Step, algorithm: int) -> bytes:

@@ -148,6 +148,7 @@ def of_tried(use: Use, place: int, step: Step) -> Iterator[Turned]:
         for at, own in enumerate(step.said.values):
             if isinstance(own, bytes):
                 values = (*step.said.values[:at], value, *step.said.values[at + 1 :])
-                words = f"With the tried value, {bytes_words(value)}, in {step.code.name} it would match."
+                tried = f"With the tried value, {bytes_words(value)}"
+                words = f"{tried}, in {step.code.name} it would match."
                 other = Step(step.line, Said(step.code, values), "")
                 yield turned(use, place, other, ("tried value", words))

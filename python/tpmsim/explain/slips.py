@@ -150,7 +150,8 @@ def another_size(use: Use) -> list[Told]:
     if size == wanted:
         return []
     by = HASH_WORDS[use.session.algorithm]
-    words = f"it has {size_words(size)}, and one by {by} has {wanted}; it is not a part of any that was tried"
+    sizes = f"it has {size_words(size)}, and one by {by} has {wanted}"
+    words = f"{sizes}; it is not a part of any that was tried"
     return [("HMAC of another size", words)]
 
 

@@ -5,7 +5,7 @@ as a failed try (docs/table/lockout.md).
 
 from tpmsim.standard import DECRYPT, ENCRYPT
 
-OFFLINE = "Whoever knows the text can test guesses of the value without the device and without a failed try"
+OFFLINE = "Whoever knows the text can test guesses of the value offline, without a failed try"
 
 
 def encrypts(attributes: int) -> str:

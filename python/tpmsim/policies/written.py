@@ -1,5 +1,5 @@
-"""Assertions as they are written, in the terms of tpm_policy_meaning (Expression, PolicyDigest):
-their words in docs/USING.md, what they add to the digest, and the parameters sent to a session.
+"""Written assertions, in the terms of tpm_policy_meaning (Expression, PolicyDigest): their words in
+docs/USING.md, the texts that they add to the digest, and the parameters that a session gets.
 """
 
 from __future__ import annotations
