@@ -71,7 +71,7 @@ do GetRandom 4
             report = Comparison(other).play(script)
         lines = (
             "line 2: CreatePrimary: code: here success, there OBJECT_MEMORY",
-            "line 3: not comparable: 80000000 is not there, behind line 2",
+            "line 3: not comparable: 80000000 is not there, because of line 2",
             "4 commands, 1 differences, 0 that follow, 1 not comparable",
         )
         self.assertEqual(told(pathlib.Path("script"), report), [f"script: {it}" for it in lines])

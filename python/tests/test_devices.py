@@ -34,7 +34,7 @@ from twenty import TwentyTests
 SEED = b"seed"
 PACKAGE = pathlib.Path(__file__).resolve().parents[1]
 HOSTS_TIME = "time passes as it does on the host"
-NO_POWER = "the power is not switched here"
+NO_POWER = "the power cannot be switched here"
 NO_SNAPSHOTS = "there are no snapshots"
 NEEDS_LIBRARY = unittest.skipUnless(tpmsim.device.library.is_there(), "there is no libtpmsim.so.0")
 
@@ -98,7 +98,7 @@ class OverSocket(TwentyTests, unittest.TestCase):
         "test_saved_pcrs": NO_POWER,
         "test_lockout": HOSTS_TIME,
         "test_snapshot": NO_SNAPSHOTS,
-        "test_policies": "the locality is not told here",
+        "test_policies": "the locality cannot be set here",
     }
 
     def device(self):

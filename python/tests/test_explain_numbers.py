@@ -19,11 +19,11 @@ GENERAL = (
     ("cmd 80030000000a0000017b", "G2", 0, "The tag is 8003."),
     ("cmd 80010000000b0000017b", "G3", 2, "commandSize says 11, and the buffer has 10 bytes."),
     ("cmd 80010000000a00000174", "G4", 6, "TPM2_RSA_Encrypt (00000174) is not served."),
-    ("do Startup 0", "G5", 6, "The device is started already"),
+    ("do Startup 0", "G5", 6, "The device is already started"),
     ("cmd 80010000000c000001690100", "G6/INSUFFICIENT", 10, "is cut: 2 of 4 bytes are left."),
     ("do NV_ReadPublic OWNER", "G6/VALUE", 10, "Handle 1, nvIndex, is 40000001, OWNER"),
-    ("do NV_ReadPublic 01000001", "G6/HANDLE", 10, "no command before has made it"),
-    ("do ReadPublic 80000000", "G6/REFERENCE", 10, "no command before has made it"),
+    ("do NV_ReadPublic 01000001", "G6/HANDLE", 10, "no earlier command made it"),
+    ("do ReadPublic 80000000", "G6/REFERENCE", 10, "no earlier command made it"),
     ("do Clear PLATFORM", "G7/AUTH_MISSING", 0, "needs an entry that authorizes PLATFORM"),
     ("do FlushContext pw:- 1", "G7/AUTH_CONTEXT", 0, "takes no entries"),
     ("do GetRandom pw:- 1", "G8/HANDLE", 14, "GetRandom has 0 handles to authorize"),
@@ -152,7 +152,7 @@ class Numbers(unittest.TestCase):
             facts = last(DEFINE, start, wrong).facts
             line = {"01000001": 2, "02000000": 3}[there]
             self.assertEqual(
-                [(it.label, it.value) for it in facts], [(there, f"is there since line {line}")]
+                [(it.label, it.value) for it in facts], [(there, f"has existed since line {line}")]
             )
 
 
@@ -223,17 +223,17 @@ class Policies(unittest.TestCase):
             found = self.reason(8, self.tpm.unsealing(handle, self.tpm.policy(words)))
             self.assertEqual(found.slips, [slip])
         found = self.reason(8, self.tpm.unsealing(handle, self.tpm.session(kind=frames.SE_POLICY)))
-        self.assertIn("It was told nothing.", found.words)
+        self.assertIn("It has no assertions.", found.words)
         use = self.tpm.policy(first + second)
         self.tpm.send(self.tpm.unsealing(handle, use))
         found = self.reason(8, self.tpm.unsealing(handle, use.session))
-        self.assertIn("with which its policy began anew", found.words)
+        self.assertIn("with which its policy restarted", found.words)
         again = self.tpm.policy(first).session
         self.tpm.send(self.tpm.restart(again))
         line = len(self.device.trace) - 1
         found = self.reason(8, self.tpm.unsealing(handle, again))
         self.assertIn(
-            f"It was told nothing since line {line} (PolicyRestart), with which", found.words
+            f"It has no assertions since line {line} (PolicyRestart), with which", found.words
         )
 
     def test_name_of_an_index(self):

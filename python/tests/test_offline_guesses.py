@@ -17,7 +17,7 @@ ATTACK = (TESTS / "lockout" / "offline_guesses.tpm").read_bytes()
 ORDINARY = (TESTS / "sessions" / "session_encryption.tpm").read_bytes()
 
 TITLE = "Values of which guesses need no try"
-BOUND = "is bound to LOCKOUT, and encrypts an answer to a command that needs no knowledge"
+BOUND = "is bound to LOCKOUT, and encrypts an answer to a command that does not require"
 
 
 def guessed(script):
@@ -69,7 +69,7 @@ class OfflineGuesses(unittest.TestCase):
         self.assertEqual(slips, ["guesses of a used value need no try"])
         told = audited(script)
         row = told[told.index(TITLE) + 1]
-        self.assertIn("by a policy that does not ask for its authValue, and encrypts", row)
+        self.assertIn("by a policy that does not require its authValue, and encrypts", row)
 
     def test_ordinary_encryption(self):
         self.assertGreater(encrypting(ORDINARY), 0)

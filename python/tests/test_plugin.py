@@ -56,7 +56,7 @@ class Plugin(unittest.TestCase):
         self.assertEqual(done.returncode, 1, done.stderr)
         for words in (
             f"{4 if library.is_there() else 3} failed, 2 passed",
-            "what the TPM was told",
+            "the commands that the TPM got",
             "# PCR_Reset L0 +0 A1 00000907",
             "why the TPM refused it",
             "PCR_Reset is refused: LOCALITY (907), by check A1",

@@ -88,7 +88,7 @@ class Heads(unittest.TestCase):
         _, events = played(before + other.text)
         self.assertEqual(codes(events)[-1], "18b")
         self.assertFalse(any(it.differences for it in events))
-        self.assertIn("no command before has made it", events[-1].reason.words)
+        self.assertIn("no earlier command made it", events[-1].reason.words)
 
     def test_heads_that_are_none(self):
         text = journal_with_index().text
@@ -97,8 +97,8 @@ class Heads(unittest.TestCase):
                 text.replace(b"54504d49", b"54504d48", 1),
                 "line 1 begins with what is no image: Magic",
             ),
-            (text[:100], "line 2: the head is not whole"),
-            (text[:77], "line 2: the head is not whole"),
+            (text[:100], "line 2: the head is incomplete"),
+            (text[:77], "line 2: the head is incomplete"),
         ):
             self.assertEqual(played(bent)[0].fault, fault)
         bent = text.replace(b"# tpmsim journal 1 00", b"# tpmsim journal 1 01", 1)
@@ -204,7 +204,7 @@ class Answers(unittest.TestCase):
     def test_what_was_cut_is_told(self):
         text = journal_with_index().text[:-9]
         output, _, status = told(text)
-        words = "line 13: 309 bytes of a record that is not whole are left out"
+        words = "line 13: 309 bytes of an incomplete record are left out"
         self.assertIn(words, output)
         value = json.loads(told(text, form="--json")[0])
         self.assertEqual((value["cuts"], status), ([{"line": 13, "size": 309}], 0))
@@ -217,10 +217,7 @@ class Audits(unittest.TestCase):
         journal = journal_with_index()
         for text, more in (
             (journal.text, ""),
-            (
-                journal.text[:-9],
-                "Script line 13: 309 bytes of a record that is not whole are left out.",
-            ),
+            (journal.text[:-9], "Script line 13: 309 bytes of an incomplete record are left out."),
         ):
             status, output, error = audited(text)
             self.assertEqual((status, error), (0, ""))

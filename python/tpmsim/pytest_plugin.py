@@ -22,7 +22,7 @@ NO_NAME = re.compile(r"[^A-Za-z0-9_.-]+")
 
 
 def pytest_addoption(parser: pytest.Parser) -> None:
-    words = "leaves the page of each failed test's TPM in this folder"
+    words = "writes the page of each failed test's TPM to this folder"
     parser.getgroup("tpmsim").addoption("--tpmsim-html", metavar="FOLDER", help=words)
 
 
@@ -77,7 +77,7 @@ def pytest_runtest_makereport(item: pytest.Item) -> Generator[None, Any, None]:
     folder = item.config.getoption("--tpmsim-html")
     devices: list[Transport] = item.stash.get(DEVICES, [])
     for at, device in enumerate(devices, 1):
-        report.sections.append(("what the TPM was told", "\n".join(device.trace)))
+        report.sections.append(("the commands that the TPM got", "\n".join(device.trace)))
         if report.when == "teardown":
             continue  # the devices are closed
         log = log_of(device)

@@ -1,7 +1,6 @@
-"""Writes clock.tpm. TPM2_ReadClock returns time, the milliseconds since the power cycle; clock,
-those since manufacture or the last TPM2_Clear; resetCount and restartCount; and that the clock is
-safe (01), because it never goes back. A script cannot wait long enough to reach the ends of numbers
-with eight bytes.
+"""Writes clock.tpm. TPM2_ReadClock returns time, in milliseconds since the power cycle; clock,
+since manufacture or TPM2_Clear; resetCount and restartCount; and that the clock is safe (01), as it
+never goes back. Numbers of eight bytes end far beyond what a script can wait for.
 """
 
 from tests.common.steps import Steps

@@ -1,5 +1,5 @@
-"""Writes private_area.tpm. TPM2_Load accepts a private area only exactly as the device made it. The
-generated script private_areas.tpm changes every byte, and forges private areas.
+"""Writes private_area.tpm. TPM2_Load accepts only unchanged private areas. The generated script
+private_areas.tpm changes every byte, and forges private areas.
 """
 
 from tpmsim.caller import Made

@@ -38,7 +38,8 @@ def wanted_of(error):
     error.
     """
     line = error.removeprefix("tpmsim: script line ")
-    return f"script line {line} is no line of a script; up to it the log agrees" if error else None
+    words = f"script line {line} is not a line of a script; the log agrees up to it"
+    return words if error else None
 
 
 def from_image(script, output):

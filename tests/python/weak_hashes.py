@@ -69,7 +69,7 @@ def by_either(first, second, *branches):
 # policy.
 WEAK = (
     (
-        "two texts have one hash",
+        "two texts have the same hash",
         {PLATFORM: digest(SHA256, OWNER)},
         "PolicySecret OWNER -",
         script(SHA256, BY_OWNER, "PolicySecret PLATFORM 03000000 pw:- - - - 0"),

@@ -1,6 +1,6 @@
-"""Writes grounds.tpm. Everything that can authorize an entity: each ground once, and accepted. A
-ground is a password, the HMAC of an HMAC session, or a policy session whose policy holds.
-tests/sessions/lost_grounds.tpm shows how the same grounds are lost.
+"""Writes grounds.tpm. All that can authorize an entity, each ground once and accepted: a password,
+the HMAC of an HMAC session, or a policy session whose policy holds. The same grounds are lost in
+tests/sessions/lost_grounds.tpm.
 """
 
 from functools import partial

@@ -262,9 +262,9 @@ const seconds = number(4, (value) => `${grouped(value)} s`);
  * @type {Record<string, Read>}
  */
 const OF_NAME = {
-  startupType: named(2, () => facts.starts, "no type of a start"),
-  shutdownType: named(2, () => facts.starts, "no type of a shutdown"),
-  sessionType: named(1, () => facts.sessions, "no type of a session"),
+  startupType: named(2, () => facts.starts, "not a type of startup"),
+  shutdownType: named(2, () => facts.starts, "not a type of shutdown"),
+  sessionType: named(1, () => facts.sessions, "not a type of session"),
   operation: named(2, () => facts.operations, "no operation"),
   code: number(4, commandWords),
   locality: number(1, (value) => `localities ${localitiesWords(value)}`),

@@ -141,14 +141,16 @@ class Auditor:
         seen.explained.compare_all(step)
         for it in seen.explained.differences:
             more = (
-                f": the log says {it.log}, and a device of this start {it.model}" if it.log else ""
+                f": the log says {it.log}, but a device with this start {it.model}"
+                if it.log
+                else ""
             )
             raise Disagreement(f"{it.words}{more}")
 
     def follow(self) -> None:
         told = ", ".join(self.history.differences(self.device))
         if told:
-            raise Disagreement(f"the device is not what its history tells: {told}")
+            raise Disagreement(f"the device differs from its history: {told}")
 
     def refuse(self, seen: Seen) -> None:
         self.guesses.refuse(seen, self.grounds)
@@ -193,17 +195,17 @@ class Auditor:
 
 def bad_words(step: records.Bad) -> str:
     if isinstance(step, records.BadHead):
-        return f"script line {step.line}: the head is not whole"
+        return f"script line {step.line}: the head is incomplete"
     if step.line > LINES:
-        return f"the script has more than {LINES} lines; up to there the log agrees"
-    return f"script line {step.line} is no line of a script; up to it the log agrees"
+        return f"the script has more than {LINES} lines; the log agrees up to there"
+    return f"script line {step.line} is not a line of a script; the log agrees up to it"
 
 
 def report(auditor: Auditor) -> Iterator[str]:
     yield f"Start: {auditor.start.words}."
     yield events_words(auditor.counts)
     if auditor.cut is not None:
-        words = f"{counted(auditor.cut.size, 'byte')} of a record that is not whole are left out"
+        words = f"{counted(auditor.cut.size, 'byte')} of an incomplete record are left out"
         yield f"Script line {auditor.cut.line}: {words}."
     given = [auditor.policies.report()] if auditor.policies.all else []
     offline = [auditor.offline.report()] if auditor.offline.told else []

@@ -17,7 +17,7 @@ def explanation(algorithm: int, policy: Policy, told: Told) -> str:
         found = find(algorithm, policy, told)
         if found:
             return found
-    return "nothing tells how the session came to the digest of the policy"
+    return "nothing shows how the session got the digest of the policy"
 
 
 def wrong_or(algorithm: int, policy: Policy, told: Told) -> str | None:
@@ -41,7 +41,7 @@ def collision(algorithm: int, policy: Policy, told: Told) -> str | None:
         for other, wanted in written:
             if found == wanted and text != other:
                 both = f"{other.hex()} of the policy, and {text.hex()} of line {line}"
-                return f"two texts have one hash: {both}"
+                return f"two texts have the same hash: {both}"
     return None
 
 

@@ -212,7 +212,7 @@ def told_conditions(use: Use) -> Iterator[Finding]:
         words = f"its command code is that of {command_words(told.code)}"
         yield Finding(told.code == use.code, words)
     elif use.code.has(Fact.ADMIN):
-        yield Finding(False, "it has no command code, which the role ADMIN asks for")
+        yield Finding(False, "it has no command code, which the role ADMIN requires")
     if told.cp_hash is not None:
         cp_hash, of = told.cp_hash.hex(), "that of the command"
         other = f"its cpHash is not {of}: {cp_hash}"
@@ -229,7 +229,7 @@ def told_conditions(use: Use) -> Iterator[Finding]:
 def of_written(told: bool, use: Use) -> Finding:
     wanted = "written" if told else "not written"
     if use.view.index is None:
-        return Finding(False, f"it is to be an NV index that is {wanted}, and is none")
+        return Finding(False, f"it must be an NV index that is {wanted}, but is not an NV index")
     is_written = use.view.index.has(nv.Attribute.WRITTEN)
-    other = f"it is to be {wanted}, and is {'' if is_written else 'not '}written"
-    return either(is_written == told, f"it is {wanted}, as its session was told", other)
+    other = f"it must be {wanted}, but is {'' if is_written else 'not '}written"
+    return either(is_written == told, f"it is {wanted}, as its session asserted", other)

@@ -215,7 +215,7 @@ class Repeats:
         if digest in accepted:
             line, nonce_then = accepted[digest]
             is_same = nonce == nonce_then
-            why = "its nonceTPM is that of then" if is_same else "two texts have one hmac"
+            why = "its nonceTPM is the same as then" if is_same else "two texts have the same hmac"
             session = f"HMAC session {handle_word(handle)} of {self.sessions.words(handle)}"
             again = f"line {use.seen.line}: {command_words(use.code)} of line {line} again"
             self.told.append(f"  {again}, by {session}: {why}")

@@ -23,7 +23,7 @@ def both(given: str, wanted: str) -> str:
     pairs = zip(given, wanted)
     first = next((at for at, (a, b) in enumerate(pairs) if a != b), min(len(given), len(wanted)))
     said, due = shown(given, first), shown(wanted, first)
-    return f"the log says {said}, and a device of this start answers {due}"
+    return f"the log says {said}, but a device with this start answers {due}"
 
 
 def section(title: str, told: Iterable[str], none: str) -> Iterator[str]:
@@ -53,19 +53,19 @@ class Log:
         """Compares the next lines with the expected ones; raises Disagreement if they differ."""
         for wanted in printed:
             if not self.left:
-                raise Disagreement("the log is cut: what is printed of this line is not there")
+                raise Disagreement("the log is cut: the output of this line is missing")
             given = self.lines[self.at]
             self.at += 1
             if given != wanted:
                 if not self.left and not self.is_whole and wanted.startswith(given):
-                    raise Disagreement("the log is cut: what is printed of this line is not whole")
+                    raise Disagreement("the log is cut: the output of this line is incomplete")
                 raise Disagreement(both(given, wanted))
 
     def end(self) -> None:
         """Raises Disagreement if any line is left after the end of the script."""
         if self.left:
             lines = "a line" if self.left == 1 else f"{self.left} lines"
-            raise Disagreement(f"the log has {lines} more than is printed of the script")
+            raise Disagreement(f"the log has {lines} more than the output of the script")
 
 
 class NoLog(Log):
@@ -76,4 +76,4 @@ class NoLog(Log):
 
     def check(self, printed: list[str], has_answer: bool) -> None:
         if not has_answer:
-            raise Disagreement("nothing says what it was answered")
+            raise Disagreement("nothing says what the response was")

@@ -186,14 +186,14 @@ def of_pcr_values(wanted: PcrValues, grounds: Grounds) -> Finding:
     """Compares the PCRs with the expected values, which have the asserted digest."""
     values = grounds.pcrs.values(Parameters(wanted.selection).next().selection())
     if values != wanted.word:
-        words = f"two texts have one hash: the PCRs have {values} in place of {wanted.word}"
+        words = f"two texts have the same hash: the PCRs have {values} in place of {wanted.word}"
         return Finding(False, words)
     return Finding(True, f"the PCRs have these values, and none was written since then: {values}")
 
 
 def of_value(use: Use, grounds: Grounds) -> Finding:
     if use.demand is None:
-        return Finding(False, "the session asks for no authorization value")
+        return Finding(False, "the session requires no authorization value")
     asks_password = use.demand == policy.PASSWORD
     found = grounds.password(use) if asks_password else grounds.hmac(use)
     if use.value or asks_password:
@@ -203,7 +203,7 @@ def of_value(use: Use, grounds: Grounds) -> Finding:
 
 def of_written(wanted: bool, use: Use) -> Finding:
     if use.view.index is None:
-        return Finding(False, "what is used is no NV index")
+        return Finding(False, "the used entity is not an NV index")
     is_written = use.view.index.has(nv.Attribute.WRITTEN)
     words = f"the index is {'' if is_written else 'not '}written before the command"
     return Finding(is_written == wanted, words)

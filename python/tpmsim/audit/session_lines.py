@@ -135,9 +135,9 @@ class SessionLines:
             self.start(seen)
         elif event.code == CC.PolicyRestart:
             self.live[event.handles[0]].restart()
-            self.live[event.handles[0]].tell(line, "PolicyRestart takes all assertions back")
+            self.live[event.handles[0]].tell(line, "PolicyRestart discards all assertions")
         elif event.code == CC.PolicyGetDigest:
-            self.live[event.handles[0]].tell(line, "PolicyGetDigest tells its digest")
+            self.live[event.handles[0]].tell(line, "PolicyGetDigest returns its digest")
         elif event.code == CC.FlushContext:
             self.end(line, event.given["flushHandle"], "FlushContext ends it")
         for use in event.uses:

@@ -210,7 +210,7 @@ class Knowledge:
             parameters = fields.take(fields.number(4))
             for place in range(1, len(prepared.entries) + 1):
                 self.check_answer(prepared, place, parameters, fields)
-            expect(not fields.data, "bytes are left behind the response")
+            expect(not fields.data, "bytes are left after the response")
             parameters = self.plain_answer(prepared, parameters)
         self.note_answer(prepared, request, handle, parameters)
         return handle, parameters

@@ -40,7 +40,7 @@ class Difference:
     def __str__(self) -> str:
         both = f"here {self.here}, there {self.there}"
         words = f"line {self.line}: {self.command}: {self.what}: {both}"
-        return words if self.follows is None else f"{words}, behind line {self.follows}"
+        return words if self.follows is None else f"{words}, which follows from line {self.follows}"
 
 
 def code_word(code: int) -> str:

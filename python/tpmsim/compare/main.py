@@ -49,8 +49,8 @@ def compared(script: pathlib.Path, words: str) -> Report:
 def told(script: pathlib.Path, report: Report) -> list[str]:
     lines = [f"{script}: {it}" for it in report.differences]
     for line, words, cause in report.not_comparable:
-        behind = "" if cause == line else f", behind line {cause}"
-        lines.append(f"{script}: line {line}: not comparable: {words}{behind}")
+        because = "" if cause == line else f", because of line {cause}"
+        lines.append(f"{script}: line {line}: not comparable: {words}{because}")
     own = sum(it.follows is None for it in report.differences)
     counts = f"{report.commands} commands, {own} differences"
     more = len(report.differences) - own, len(report.not_comparable)

@@ -148,15 +148,15 @@ class Transport(ABC):
     @property
     def locality(self) -> int:
         """The locality of the next commands, 0 to 4; another number raises ValueError."""
-        raise Unsupported("the locality is not told here")
+        raise Unsupported("the locality cannot be set here")
 
     @locality.setter
     def locality(self, number: int) -> None:
-        raise Unsupported("the locality is not told here")
+        raise Unsupported("the locality cannot be set here")
 
     def power_cycle(self) -> None:
         """Power-cycles the device, which then expects TPM2_Startup."""
-        raise Unsupported("the power is not switched here")
+        raise Unsupported("the power cannot be switched here")
 
     def save(self) -> bytes:
         """Returns the image, which is what the device keeps without power.

@@ -139,7 +139,7 @@ class ChildDevice(InStep, Device):
     def save(self) -> bytes:
         """Returns the bytes of the image file, whose clock is that of the last change."""
         if self.image is None:
-            raise Unsupported("a device is saved that was given an image")
+            raise Unsupported("only a device with an image can be saved")
         return self.image.read_bytes()
 
     def check_folder(self) -> None:

@@ -110,7 +110,9 @@ def after(scene: Scene) -> Iterator[Reason]:
     """
     if scene.code in DRAWS and not any(scene.random) and "random" not in scene.past.told_once:
         scene.past.told_once.add("random")
-        words = "The random bytes are zeros, as no entropy line has told others. It is told once."
+        words = (
+            "The random bytes are zeros, because no entropy line set others. This is reported once."
+        )
         yield note("random bytes", "random bytes are zeros", words)
     for place, entry, _ in scene.command.places:
         begun = scene.past.sessions.get(entry.handle)
@@ -132,5 +134,5 @@ def of_refusal(scene: Scene) -> list[Reason]:
     if not is_try or not lockout.recovery_time or lockout.failed_tries != lockout.max_tries - 1:
         return []
     tries = f"{lockout.failed_tries} of {lockout.max_tries} have failed"
-    words = f"One more wrong try locks out all that is protected: {tries}."
+    words = f"One more failed try locks out all protected entities: {tries}."
     return [note("tries", "one more try locks", words)]

@@ -269,9 +269,9 @@ OF_KIND: dict[Kind, Reader] = {
 
 # Parameters about which more is known than their kind.
 NAMED: dict[str, Reader] = {
-    "startupType": named(2, STARTS, "no type of a start"),
-    "shutdownType": named(2, STARTS, "no type of a shutdown"),
-    "sessionType": named(1, words.SESSIONS, "no type of a session"),
+    "startupType": named(2, STARTS, "not a type of startup"),
+    "shutdownType": named(2, STARTS, "not a type of shutdown"),
+    "sessionType": named(1, words.SESSIONS, "not a type of session"),
     "operation": named(2, dict(enumerate(OPERATIONS)), "no operation"),
     "code": number(4, command_words),
     "locality": number(1, lambda it: "localities " + words.localities_words(it)),

@@ -48,10 +48,10 @@ def locked(scene: Scene, place: int, entry: Entry, handle: int | None) -> Reason
     found = Reason("tries", "", at=scene.entry_at(place))
     if model.touched(entry, handle) == LOCKOUT_AUTH:
         left = MILLISECONDS * lockout.lockout_recovery - lockout.closed_time
-        opens = f"it opens in {seconds_words(left)}"
-        until = opens if lockout.lockout_recovery else "a TPM Reset opens it"
+        opens = f"it is enabled again in {seconds_words(left)}"
+        until = opens if lockout.lockout_recovery else "a TPM Reset enables it again"
         found.rule = "lockoutAuth"
-        found.words = f"A wrong try has closed lockoutAuth; {until}."
+        found.words = f"A failed try has disabled lockoutAuth; {until}."
     else:
         left = MILLISECONDS * lockout.recovery_time - lockout.forgiving_time
         reset = "DictionaryAttackLockReset resets them at once"
@@ -59,7 +59,7 @@ def locked(scene: Scene, place: int, entry: Entry, handle: int | None) -> Reason
         if not lockout.max_tries:
             opens = "With a maxTries of 0 that is always so."
         tries = f"{lockout.failed_tries} failed tries >= maxTries {lockout.max_tries}"
-        found.words = f"Something protected is locked out: {tries}. {opens}"
+        found.words = f"Protected entities are locked out: {tries}. {opens}"
         recent = scene.past.tries[-lockout.failed_tries :] if lockout.failed_tries else []
         found.add("failed tries", ", ".join(f"line {it}" for it in recent) or "before the log")
     is_right = model.accepts(scene.command, place, entry, handle)
@@ -139,7 +139,7 @@ def passwords(scene: Scene, handle: int) -> Iterator[tuple[tuple[Told, ...], byt
         words = f'{said} has {bytes_words(value)}, which was mistyped as "{typed.decode("ascii")}"'
         yield (("password mistyped", words),), typed
     for past in scene.past.values.get(handle, [])[:-1]:
-        words = f"that is the value that {said} had since line {past.line}, which is past"
+        words = f"that is the value that {said} had since line {past.line}, which is outdated"
         yield (("old password", words),), past.value
     for other in scene.past.values:
         its = scene.model.auth_value(other)
@@ -160,7 +160,7 @@ def formed(value: bytes, begin: str) -> Iterator[tuple[tuple[Told, ...], bytes]]
 
 
 def as_hmac(use: Use, found: Reason) -> None:
-    found.words += " The policy was told PolicyPassword, so that the value is wanted in plain."
+    found.words += " The policy asserts PolicyPassword, so the value must be sent as a password."
     use.entry.demand = policy.AUTH_VALUE
     is_hmac = use.entry.hmac == use.right().hmac
     use.entry.demand = policy.PASSWORD
@@ -173,15 +173,15 @@ def counted_words(scene: Scene, entry: Entry, handle: int | None) -> str:
     model, lockout = scene.model, scene.model.lockout
     touched = model.touched(entry, handle)
     if touched == LOCKOUT_AUTH:
-        return "It closed lockoutAuth."
+        return "It disabled lockoutAuth."
     if touched != TRIES:
-        return "It was no try at something protected, and counts nothing."
+        return "It was no attempt on a protected value, and counts as no failed try."
     if not lockout.recovery_time:
-        return "It counts no try, as recoveryTime is 0."
+        return "It counts as no failed try, because recoveryTime is 0."
     left = max(0, lockout.max_tries - lockout.failed_tries)
     closes = f"{left} more {'locks' if left == 1 else 'lock'} it out"
     if not left:
-        closes = "which locks out what is protected"
+        closes = "which locks out all protected entities"
     return f"It counted as failed try {lockout.failed_tries} of {lockout.max_tries}; {closes}."
 
 

@@ -40,9 +40,9 @@ def command(scene: Scene) -> Reason:
 
 
 def startup(scene: Scene) -> Reason:
-    words = "The device is started already; a power cycle comes before the next Startup."
+    words = "The device is already started; it needs a power cycle before the next Startup."
     if not scene.model.started:
-        first = "nothing else comes first after power on"
+        first = "no other command may come first after power-on"
         words = f"{command_words(scene.number)} came before Startup; {first}."
     return Reason("G5", words, at=6)
 
@@ -61,7 +61,7 @@ def handles(scene: Scene) -> Reason:
         found.compare(HANDLES[wanted.kind].words, f"{handle:08x}")
         return found
     rule = "G6/REFERENCE" if scene.name.startswith("REFERENCE") else "G6/HANDLE"
-    words = f"{said}. It is not there: {missing_words(scene, handle)}."
+    words = f"{said}. It does not exist: {missing_words(scene, handle)}."
     return with_others(scene, handle, Reason(rule, words, at=at))
 
 
@@ -76,7 +76,7 @@ def with_others(scene: Scene, handle: int, found: Reason) -> Reason:
     kind = [it for it in held if first_byte(it) == first_byte(handle)]
     for it in kind[:MOST_OTHERS]:
         line = past.begun.get(it, 0)
-        found.add(f"{it:08x}", f"is there since line {line}" if line else "is there")
+        found.add(f"{it:08x}", f"has existed since line {line}" if line else "exists")
     return found
 
 

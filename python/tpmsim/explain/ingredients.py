@@ -149,8 +149,8 @@ class Use:
         said = handle_words(self.handle)
         if self.is_policy:
             if self.entry.demand == policy.AUTH_VALUE:
-                return f"in the key: the policy was told PolicyAuthValue; that of {said}"
-            return "not in the key: the policy was not told PolicyAuthValue"
+                return f"in the key: the policy asserts PolicyAuthValue; that of {said}"
+            return "not in the key: the policy does not assert PolicyAuthValue"
         if not self.takes_value:
             return f"not in the key: the session is bound to {said}"
         if self.was_bound:
@@ -259,10 +259,10 @@ def mistakes(use: Use, sent: bytes) -> Iterator[Otherwise]:
     words = "the nonces were swapped in the key of the encryption"
     yield by("mask with nonces swapped", words, newer=session.nonce_tpm, older=nonce)
     for past in use.begun.nonces[-4:-1] if use.begun else []:
-        words = f"it was encrypted with the nonceTPM of line {past.line}, which is past"
+        words = f"it was encrypted with the nonceTPM of line {past.line}, which is outdated"
         yield by("mask with an old nonceTPM", words, older=past.value)
     for since in use.past_values:
-        words = f"it was encrypted with the authValue of line {since.line}, which is past"
+        words = f"it was encrypted with the authValue of line {since.line}, which is outdated"
         yield by("mask with an old authValue", words, session.key + since.value)
     other = frames.XOR if session.cipher == frames.AES else frames.AES
     words = "it was encrypted by the other cipher, XOR for AES or AES for XOR"

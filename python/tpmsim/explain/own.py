@@ -14,7 +14,7 @@ from tpmsim.standard import CC, digest_bytes, policy
 
 def reason(scene: Scene) -> Reason:
     if scene.check == "M":
-        return Reason("M", "Memory was refused that the command wants.")
+        return Reason("M", "The command needs memory, and there is none.")
     found = Reason(f"{scene.code.name}/{scene.check}", "")
     CHECKS[found.rule](Look(scene, found))
     return found
@@ -61,7 +61,7 @@ def mask_hash(look: Look) -> None:
 
 def no_session(look: Look) -> None:
     held = sorted(look.model.sessions)
-    look.say(f"{len(held)} sessions are there, and there is place for {SESSIONS}.")
+    look.say(f"{len(held)} sessions exist, and the limit is {SESSIONS}.")
     for it in held:
         begun = look.past.sessions.get(it)
         look.found.add(f"{it:08x}", f"since line {begun.line}" if begun else "from before the log")
@@ -160,13 +160,13 @@ def other_cp_hash(look: Look) -> None:
     told = look.session.policy.cp_hash
     assert told is not None
     where = recorded_at(look, CC.PolicyCpHash, CC.PolicySecret)
-    look.say(f"The session has another cpHash already{where}.", "cpHashA")
+    look.say(f"The session already has another cpHash{where}.", "cpHashA")
     look.found.compare(told.hex(), look["cpHashA"].hex(), "cpHash")
 
 
 def other_written(look: Look) -> None:
     where = recorded_at(look, CC.PolicyNvWritten)
-    look.say(f"The session has the other value already{where}.", "writtenSet")
+    look.say(f"The session already has the other value{where}.", "writtenSet")
     told = int(bool(look.session.policy.nv_written))
     look.found.compare(str(told), str(look["writtenSet"]), "writtenSet")
 
@@ -198,7 +198,7 @@ def secret_nonce(look: Look) -> None:
     begun = look.past.sessions.get(look.handles[-1])
     for since in begun.nonces[:-1] if begun else []:
         if since.value == given:
-            words = f"it is that of line {since.line}, which is past"
+            words = f"it is that of line {since.line}, which is outdated"
             look.found.slip("old nonceTPM", words)
 
 

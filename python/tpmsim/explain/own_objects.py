@@ -110,7 +110,7 @@ def misread(look: Look) -> None:
 
 def no_place(look: Look) -> None:
     held = [it for it in look.model.objects if not is_persistent(it)]
-    look.say(f"{len(held)} transient objects are there, and there is place for {OBJECTS}.")
+    look.say(f"{len(held)} transient objects exist, and the limit is {OBJECTS}.")
     for it in sorted(held):
         look.found.add(handle_words(it), f"since line {look.past.begun.get(it, 0)}")
 
@@ -136,7 +136,8 @@ def integrity(look: Look) -> None:
     look.found.add("Name of inPublic", name.hex())
     for handle, it in look.model.objects.items():
         if it is not held and object_rules.integrity(it, fields.data, name) == given:
-            since = f"{handle_words(handle)}, which is there since line {look.past.begun.get(handle, 0)}"
+            begun = look.past.begun.get(handle, 0)
+            since = f"{handle_words(handle)}, which has existed since line {begun}"
             look.found.slip("another parent", f"it is right under {since}")
 
 
@@ -198,7 +199,7 @@ def evict_taken(look: Look) -> None:
 
 def evict_space(look: Look) -> None:
     held = sum(map(is_persistent, look.model.objects))
-    look.say(f"{held} persistent objects are there, and there is place for {PERSISTENT_OBJECTS}.")
+    look.say(f"{held} persistent objects exist, and the limit is {PERSISTENT_OBJECTS}.")
 
 
 evict_clear = said(lambda it: f"{it.said(1)} has stClear, so that it does not outlive a start.")

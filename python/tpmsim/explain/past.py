@@ -86,7 +86,7 @@ def said_words(code: CC, handles: list[int], plain: bytes) -> str:
 
 
 # Why a policy starts over after a use.
-USED = "which it authorized: each use is told its policy anew"
+USED = "which it authorized: each use needs new assertions"
 
 WRITES_PCR = CC.PCR_Extend, CC.PCR_Event, CC.PCR_Reset
 # The largest number of PCR states that are stored.
@@ -277,6 +277,6 @@ class Past:
 
     def gone_words(self, handle: int) -> str:
         if handle not in self.ended:
-            return "no command before has made it"
+            return "no earlier command made it"
         line, words = self.ended[handle]
         return f"it ended with line {line} ({words})"

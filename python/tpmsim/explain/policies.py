@@ -44,12 +44,12 @@ def policy_lacks(use: Use) -> str:
 def difference(use: Use, wanted: bytes, found: Reason) -> str:
     """Returns the difference as text, with facts, as far as it can be seen."""
     if use.begun is None:
-        return "Its session began before the log, which may not have all that it was told."
+        return "Its session began before the log, which may lack some of its assertions."
     steps = use.begun.told
     if not steps:
         line, by = use.begun.restarted, use.begun.restarted_by
-        since = f" since line {line} ({by}), with which its policy began anew" if line else ""
-        return f"It was told nothing{since}."
+        since = f" since line {line} ({by}), with which its policy restarted" if line else ""
+        return f"It has no assertions{since}."
     earlier = use.scene.past.made.get(wanted)
     if earlier is not None:
         return from_earlier(use, steps, earlier, found)
@@ -71,13 +71,14 @@ def from_earlier(use: Use, steps: Sequence[Step], earlier: Made, found: Reason) 
             return step_words(use, own, its, earlier, found)
     if len(steps) < len(earlier.steps):
         missing = earlier.steps[len(steps)]
-        found.add(f"told in line {missing.line}", missing.words, WANTED)
-        found.add("told after that", "nothing", HAD)
+        found.add(f"asserted in line {missing.line}", missing.words, WANTED)
+        found.add("asserted after that", "nothing", HAD)
         found.slips.append("assertion missing")
         return f"{missing.code.name} is missing."
     more = steps[len(earlier.steps) :]
     found.slips.append("assertion too many")
-    return f"It was told more: {listed(f'{it.code.name} in line {it.line}' for it in more)}."
+    those = listed(f"{it.code.name} in line {it.line}" for it in more)
+    return f"It has additional assertions: {those}."
 
 
 def alone(step: Step, algorithm: int) -> bytes:
@@ -110,9 +111,9 @@ def step_words(use: Use, own: Step, its: Step, earlier: Made, found: Reason) -> 
         change = use.scene.past.last_change.get(own.handle, "")
         since = f" since {change}" if change else ""
         return f"The Name of {handle_words(own.handle)} is another one{since}."
-    found.add(f"told in line {its.line}", its.words, WANTED)
-    found.add(f"told in line {own.line}", own.words, HAD)
-    return "Which assertion differs stands below."
+    found.add(f"asserted in line {its.line}", its.words, WANTED)
+    found.add(f"asserted in line {own.line}", own.words, HAD)
+    return "The assertion that differs is shown below."
 
 
 def when_words(use: Use, own: Step, its: Step) -> str:
@@ -151,7 +152,7 @@ def from_outside(use: Use, steps: Sequence[Step], wanted: bytes, found: Reason) 
         tried = (
             f"{search.tried:,} digests, of other assertions, orders, values and PCRs, were tried"
         )
-        return f"No slip that is known makes it: {tried}."
+        return f"No known slip makes it: {tried}."
     found.slips += [name for name, _ in told]
     words, turned = together([it for _, it in told]), search.turned
     if turned is None or turned.banks is None:
@@ -160,7 +161,7 @@ def from_outside(use: Use, steps: Sequence[Step], wanted: bytes, found: Reason) 
     return words + joined + moved(use, steps[turned.place], turned.banks, found)
 
 
-MAKES_IT = " it would be"
+MAKES_IT = " it would match"
 
 
 def together(told: Sequence[str]) -> str:

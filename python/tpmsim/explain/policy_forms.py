@@ -151,7 +151,7 @@ def of_texts(use: Use, place: int, step: Step) -> Iterator[Turned]:
         def link(old: bytes, row: Text = row) -> bytes:
             return row.link(step, update, algorithm, old) or b""
 
-        told = row.name, f"With {row.words} in {step.code.name} of line {step.line} it would be."
+        told = row.name, f"With {row.words} in {step.code.name} of line {step.line} it would match."
         yield Turned(place, link, told)
     if step.selected is not None:
         yield from of_pcr_digests(use, place, step)
@@ -173,5 +173,5 @@ def of_pcr_digests(use: Use, place: int, step: Step) -> Iterator[Turned]:
             ),
             ("PCR values not hashed", "the values of the PCRs instead of their hash", plain),
         ):
-            told = name, f"With {words} in PolicyPCR of line {step.line} it would be."
+            told = name, f"With {words} in PolicyPCR of line {step.line} it would match."
             yield turned(use, place, step.but(given), told)

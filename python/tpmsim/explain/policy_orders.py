@@ -59,7 +59,7 @@ def others(items: Items, missing: Sequence[Item]) -> Iterator[Arranged]:
 
 def without(items: Items) -> Iterator[Arranged]:
     for at, it in enumerate(items):
-        words = f"Without {it.words} it would be."
+        words = f"Without {it.words} it would match."
         yield (*items[:at], *items[at + 1 :]), ("assertion too many", words)
 
 
@@ -68,9 +68,9 @@ def twice(items: Items) -> Iterator[Arranged]:
     zeros.
     """
     for at, it in enumerate(items):
-        words = f"With {it.words} twice it would be."
+        words = f"With {it.words} twice it would match."
         yield (*items[:at], it, *items[at:]), ("assertion twice", words)
-    words = "If it began with nothing instead of zeros, as many as a digest has, it would be."
+    words = "If it began with nothing instead of zeros, as many as a digest has, it would match."
     yield (NOTHING, *items), ("policy digest without its zeros", words)
 
 
@@ -100,14 +100,14 @@ def moves(items: Items) -> Iterator[Arranged]:
 
 def order_told(order: Items) -> Told:
     those = listed(it.words for it in order)
-    return "order of assertions", f"In another order it would be: {those}."
+    return "order of assertions", f"In another order it would match: {those}."
 
 
 def with_another(items: Items, missing: Sequence[Item]) -> Iterator[Arranged]:
     for it in missing:
         for at in range(len(items), -1, -1):
             where = "after these" if at == len(items) else f"before {items[at].words}"
-            words = f"With {it.words} {where} it would be."
+            words = f"With {it.words} {where} it would match."
             yield (*items[:at], it, *items[at:]), ("assertion missing", words)
 
 

@@ -52,7 +52,7 @@ def of_values(use: Use, place: int, step: Step) -> Iterator[Turned]:
         yield from of_names(use, place, step, step.handle)
     for values, words in other_values(step):
         other = Step(step.line, Said(step.code, values), "")
-        told = "other value in a policy", f"With {words} in {step.code.name} it would be."
+        told = "other value in a policy", f"With {words} in {step.code.name} it would match."
         yield turned(use, place, other, told)
 
 
@@ -86,19 +86,19 @@ def of_pcrs(use: Use, place: int, step: Step) -> Iterator[Turned]:
     pairs = list(zip(past.pcr_states, [*past.pcr_states[1:], None]))
     for (_, banks), later in reversed(pairs):
         if later is not None:
-            words = f"With the PCRs as they were before line {later[0]} it would be"
+            words = f"With the PCRs as they were before line {later[0]} it would match"
             other = pcr_step(step, selected, algorithm, banks)
             yield turned(use, place, other, ("PCRs moved", words), banks)
     for others in other_banks(selected):
         said = " and ".join(dict.fromkeys(algorithm_words(bank) for bank, _ in others))
         for when, banks in [("", now), *((it, at[1]) for at, it in before_words(pairs))]:
-            words = f"With the PCRs of the bank {said}{when} it would be."
+            words = f"With the PCRs of the bank {said}{when} it would match."
             other = pcr_step(step, others, algorithm, banks)
             yield turned(use, place, other, ("other bank", words))
     for pcr in range(len(now[frames.SHA256])) if len(selected) == 1 else ():
         bank, pcrs = selected[0]
         if len(pcrs) == 1 and pcrs[0] != pcr:
-            words = f"With PCR {pcr} instead of PCR {pcrs[0]} it would be."
+            words = f"With PCR {pcr} instead of PCR {pcrs[0]} it would match."
             other = pcr_step(step, [(bank, (pcr,))], algorithm, now)
             yield turned(use, place, other, ("another PCR", words))
 
@@ -127,7 +127,7 @@ def of_names(use: Use, place: int, step: Step, handle: int) -> Iterator[Turned]:
     for since in use.scene.past.names.get(handle, []):
         if since.value != name:
             words = f"the Name that {said} had since line {since.line}"
-            told = "old Name in a policy", f"With {words} in {step.code.name} it would be."
+            told = "old Name in a policy", f"With {words} in {step.code.name} it would match."
             yield turned(use, place, step.but(since.value), told)
     others = [(it.name, f"the Name of {said} {it.words}", it.turn(name)) for it in NAME_FORMS]
     held = use.scene.model.held(handle)
@@ -138,7 +138,7 @@ def of_names(use: Use, place: int, step: Step, handle: int) -> Iterator[Turned]:
         others += [(slip, f"the Name of {said} {words}", value) for slip, words, value in made]
     for slip, words, value in others:
         if value and value != name:
-            told = slip, f"With {words} in {step.code.name} it would be."
+            told = slip, f"With {words} in {step.code.name} it would match."
             yield turned(use, place, step.but(value), told)
 
 
@@ -148,8 +148,7 @@ def of_tried(use: Use, place: int, step: Step) -> Iterator[Turned]:
         for at, own in enumerate(step.said.values):
             if isinstance(own, bytes):
                 values = (*step.said.values[:at], value, *step.said.values[at + 1 :])
-                words = (
-                    f"With the tried value, {bytes_words(value)}, in {step.code.name} it would be."
-                )
+                tried = f"With the tried value, {bytes_words(value)}"
+                words = f"{tried}, in {step.code.name} it would match."
                 other = Step(step.line, Said(step.code, values), "")
                 yield turned(use, place, other, ("tried value", words))

@@ -28,11 +28,11 @@ def auth_values(use: Use) -> Iterator[Slip]:
         yield left_out(use)
     if not use.takes_value and value:
         why = use.value_words().removeprefix("not in the key: ")
-        words = f"the authValue of {said} was put into the key, where it is not wanted: {why}"
+        words = f"the authValue of {said} was put into the key, where it does not belong: {why}"
         yield value_slip("authValue put in", words, value)
     for past in use.past_values:
         if past.value:
-            since = f"{said} had since line {past.line}, which is past"
+            since = f"{said} had since line {past.line}, which is outdated"
             yield value_slip("old authValue", f"the key has the authValue that {since}", past.value)
     new = new_value(use)
     if new:

@@ -59,7 +59,9 @@ def found(use: Use) -> Found:
     line = use.scene.past.accepted_buffers.get(use.scene.buffer)
     is_past = any(name == "old nonceTPM" for name, _ in explained.told)
     if line is not None and (is_past or not explained.told):
-        words = f"the same command was accepted in line {line}, and its nonceTPM is past since then"
+        words = (
+            f"the same command was accepted in line {line}, and its nonceTPM has changed since then"
+        )
         explained.told = [("sent again", words)]
     return explained
 
@@ -137,7 +139,7 @@ def slips(use: Use) -> Iterator[Slip]:
 def plain_value(use: Use) -> list[Told]:
     if not use.auth_value or trimmed(use.entry.hmac) != use.auth_value:
         return []
-    words = "the authValue was sent in plain, where its HMAC is wanted"
+    words = "the authValue was sent in plain, where its HMAC is expected"
     if use.is_policy:
         words += "; after PolicyPassword it would be right"
     return [("authValue in plain", words)]
@@ -148,7 +150,8 @@ def another_size(use: Use) -> list[Told]:
     if size == wanted:
         return []
     by = HASH_WORDS[use.session.algorithm]
-    words = f"it has {size_words(size)}, and one by {by} has {wanted}; it is no part of one that was tried"
+    sizes = f"it has {size_words(size)}, and one by {by} has {wanted}"
+    words = f"{sizes}; it is not a part of any that was tried"
     return [("HMAC of another size", words)]
 
 

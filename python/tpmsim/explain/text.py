@@ -83,7 +83,7 @@ def of_log(events: list[Event], play: Play) -> Iterator[str]:
 
 
 def cut_words(play: Play) -> list[str]:
-    left_out = "of a record that is not whole are left out"
+    left_out = "of an incomplete record are left out"
     return [f"line {it.line}: {plural(it.size, 'byte')} {left_out}" for it in play.cuts]
 
 

@@ -5,7 +5,7 @@ as a failed try (docs/table/lockout.md).
 
 from tpmsim.standard import DECRYPT, ENCRYPT
 
-OFFLINE = "Whoever knows the text tests guesses of it without the device, and no try fails"
+OFFLINE = "Whoever knows the text can test guesses of the value offline, without a failed try"
 
 
 def encrypts(attributes: int) -> str:
@@ -17,12 +17,12 @@ def encrypts(attributes: int) -> str:
 
 def of_binding(place: int, attributes: int, bound: str) -> str:
     """Returns the sentence about the authorization value of a session's bind entity."""
-    does = f"{encrypts(attributes)} a command that needs no knowledge of its authValue"
+    does = f"{encrypts(attributes)} a command that does not require its authValue"
     return f"The session of entry {place} is bound to {bound}, and {does}. {OFFLINE}."
 
 
 def of_used(place: int, attributes: int, used: str) -> str:
     """Returns the sentence about the authorization value of the entity that an entry authorizes."""
     does = f"{encrypts(attributes)} this command by that value"
-    asks = f"authorizes {used} by a policy that does not ask for its authValue"
+    asks = f"authorizes {used} by a policy that does not require its authValue"
     return f"Entry {place} {asks}, and {does}. {OFFLINE}."

@@ -1,6 +1,6 @@
 """NV indices, and the commands that define and use them (TPM 2.0 Library, Part 1, section 37; Part
-2, section 13; Part 3, section 31). docs/table says what the standard leaves to each TPM, and what
-is narrower here.
+2, section 13; Part 3, section 31). docs/table lists the choices that the standard leaves to each TPM, and
+the narrower limits of this device.
 """
 
 from dataclasses import dataclass

@@ -1,5 +1,5 @@
 """PCRs: their first values, who may change them, and their commands (TPM 2.0 Library, Part 1,
-section 17; Part 3, section 22). docs/table says what these sections leave to each TPM.
+section 17; Part 3, section 22). docs/table lists the choices that these sections leave to each TPM.
 """
 
 from typing import Sequence

@@ -15,7 +15,7 @@ ALGORITHMS = SHA256, SHA1
 
 EITHER, OR, NOTHING = b"either", b"or", b"nothing"
 
-NO_DEMAND = "one that asks for nothing is the word nothing"
+NO_DEMAND = "a policy without conditions is the word nothing"
 
 # The indentation of a branch, in spaces.
 STEP = 4
@@ -42,12 +42,12 @@ def row_of(number: int, line: bytes) -> Row:
     text = line.lstrip(b" ")
     spaces = len(line) - len(text)
     if spaces % STEP:
-        raise Fault(number, f"{spaces} spaces stand before it, which is no multiple of {STEP}")
+        raise Fault(number, f"it is indented by {spaces} spaces, which is not a multiple of {STEP}")
     if b"" in text.split(b" "):
-        raise Fault(number, "between two words stands one space, and none stands at the end")
+        raise Fault(number, "words are separated by one space, and there is none at the end")
     first, space, _ = text.partition(b" ")
     if first in (EITHER, OR, NOTHING) and space:
-        raise Fault(number, f"{first.decode('ascii')} stands alone in its line")
+        raise Fault(number, f"{first.decode('ascii')} must be alone in its line")
     return Row(number, spaces // STEP, text)
 
 
@@ -63,9 +63,9 @@ def rows_of(text: bytes) -> list[Row]:
 # The largest indentation, in steps, and why a line that opens or fills a block is misplaced.
 MOST_STEPS = 16
 OUT_OF_PLACE = {
-    EITHER: "either stands first in its block",
-    OR: "or stands behind the branches of an either alone",
-    NOTHING: "nothing stands alone in its block",
+    EITHER: "either must come first in its block",
+    OR: "or may only follow a branch of an either",
+    NOTHING: "nothing must be alone in its block",
 }
 
 
@@ -97,13 +97,13 @@ class Reader:
     def goes_on(self, depth: int) -> bool:
         """Whether the next row belongs to a block at this depth; raises Fault if it is deeper."""
         if self.next and self.next.depth > depth:
-            raise Fault(self.next.number, "it stands further in than its block")
+            raise Fault(self.next.number, "it is indented more than its block")
         return self.next is not None and self.next.depth == depth
 
     def policy(self, depth: int, opener: int) -> Policy:
         """Reads the policy of a block; `opener` is the number of the line that opens the block."""
         if self.next is None or self.next.depth < depth:
-            words = f"no branch stands below it, {STEP} spaces further in; {NO_DEMAND}"
+            words = f"there is no branch below it, indented by {STEP} more spaces; {NO_DEMAND}"
             raise Fault(opener, words)
         self.goes_on(depth)
         if self.text == NOTHING:
@@ -121,7 +121,9 @@ class Reader:
         """Reads an `either` with its branches; returns its line and the branches."""
         opener = self.take().number
         if depth == MOST_STEPS:
-            raise Fault(opener, f"its branches stand more than {MOST_STEPS * STEP} spaces in")
+            raise Fault(
+                opener, f"its branches are indented by more than {MOST_STEPS * STEP} spaces"
+            )
         found = [self.policy(depth + 1, opener)]
         while self.goes_on(depth) and self.text == OR:
             row = self.take()
@@ -129,7 +131,7 @@ class Reader:
                 raise Fault(row.number, f"there are more than {MOST_BRANCHES} branches")
             found.append(self.policy(depth + 1, row.number))
         if len(found) < LEAST_BRANCHES:
-            raise Fault(opener, "it has one branch alone, and no or")
+            raise Fault(opener, "it has only one branch, and no or")
         return opener, tuple(found)
 
     def assertion(self, row: Row) -> Written:

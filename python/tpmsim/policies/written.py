@@ -1,5 +1,5 @@
-"""Assertions as they are written, in the terms of tpm_policy_meaning (Expression, PolicyDigest):
-their words in docs/USING.md, what they add to the digest, and the parameters sent to a session.
+"""Written assertions, in the terms of tpm_policy_meaning (Expression, PolicyDigest): their words in
+docs/USING.md, the texts that they add to the digest, and the parameters that a session gets.
 """
 
 from __future__ import annotations
@@ -277,13 +277,13 @@ def read_assertion(text: bytes) -> Said:
     name, *given = text.split(b" ")
     code = CC.__members__.get(name.decode("latin-1"))
     if code not in FORMS:
-        raise Unsaid(f"{shown(name)} is no assertion")
+        raise Unsaid(f"{shown(name)} is not an assertion")
     has_values = code in BY_VALUES and b"=" in text
     words = BY_VALUES[code] if has_values else FORMS[code]
     if len(given) != len(words):
         wanted = ", then ".join(it.name for it in FORMS[code]) or "nothing"
         wanted += "".join(f", or {it.name}" for it in BY_VALUES.get(code, ()))
-        raise Unsaid(f"behind {code.name} stands {wanted}")
+        raise Unsaid(f"{code.name} must be followed by {wanted}")
     said = Said(code, tuple(map(read_word, words, given)))
     if said.words.encode("ascii") != text:
         raise Unsaid(f'this is written "{said.words}"')

@@ -148,7 +148,7 @@ class Layer:
         elif isinstance(self.device, OwnDevice):
             self.device.said = words.random
         else:
-            raise Unsupported("the random bytes of this device are not told")
+            raise Unsupported("the random bytes of this device cannot be set")
         return f"{word} {given.text}"
 
     def wait(self, milliseconds: int, column: int) -> None:

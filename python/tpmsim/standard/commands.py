@@ -95,7 +95,7 @@ def read_fields(text: str) -> tuple[tuple[Handle, ...], tuple[Parameter, ...]]:
         if kind in KINDS:
             parameters.append(Parameter(name, Kind(kind)))
         else:
-            assert not parameters, f"a handle behind a parameter: {word}"
+            assert not parameters, f"a handle after a parameter: {word}"
             handles.append(Handle(name.lstrip("@"), HandleKind(kind), name.startswith("@")))
     return tuple(handles), tuple(parameters)
 

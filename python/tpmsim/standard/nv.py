@@ -127,7 +127,7 @@ class Public:
         head = fields.number(4), fields.number(2), fields.number(4)
         public = cls(*head, fields.sized(), fields.number(2))
         if fields.data:
-            raise ValueError("bytes are left behind a public area")
+            raise ValueError("bytes are left after a public area")
         return public
 
     def but(self, added: int = 0, cleared: int = 0) -> Public:

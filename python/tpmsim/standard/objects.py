@@ -102,7 +102,7 @@ class Public:
             scheme = fields.number(2)
         public = cls(kind, name_algorithm, attributes, auth_policy, scheme, fields.sized())
         if fields.data:
-            raise ValueError("bytes are left behind a public area")
+            raise ValueError("bytes are left after a public area")
         return public
 
     @property

@@ -64,7 +64,7 @@ class Capability:
         fields = Fields(self.data)
         found = [read(fields) for _ in range(fields.number(4))]
         if fields.data:
-            raise ValueError(f"{len(fields.data)} bytes are left behind the elements")
+            raise ValueError(f"{len(fields.data)} bytes are left after the elements")
         return found
 
     @property
@@ -192,5 +192,5 @@ def read_all(parameters: tuple[Parameter, ...], text: bytes) -> dict[str, Any]:
     fields = Fields(text)
     found = {it.name: VALUES[it.kind].read(fields) for it in parameters}
     if fields.data:
-        raise ValueError(f"{len(fields.data)} bytes are left behind the parameters")
+        raise ValueError(f"{len(fields.data)} bytes are left after the parameters")
     return found
