@@ -1,4 +1,4 @@
--- The word that is expected at the position of a fault, in words that are not a command.
+-- The word that is expected at the first error in words that are not a command.
 use Rattle.std.specs.Prelude.{ℕ, ◌+◌, ◌-◌, ◌==◌, List, [], ◌++◌, length, map, take, drop, replicate, codes, get_or}
 use Rattle.std.specs.Prelude.{Option, Some, None}
 use Rattle.std.specs.List.{count_by, take_while}

@@ -2,7 +2,7 @@
 
 use tpm_commands::CommandCode;
 
-/// An example of a command in words: the part of its line after the name and a space. It assumes
+/// An example of a command in words, without the command's name and the space after it. It assumes
 /// a device on which the first objects, sessions and indices exist.
 pub fn example_of(code: CommandCode) -> &'static str {
     match code {

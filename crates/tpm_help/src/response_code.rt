@@ -33,7 +33,7 @@ impl fmt::Display for CodeMeaning {
     }
 }
 
-/// The name of an error that identifies no place.
+/// The name of an error code that names no handle, parameter or session.
 #[tactic(auto, unfolding(crate::specs::ResponseCode::errors))]
 fn error_name(number: u32) -> Option<&'static str>
     ensures { option_map (λ name. name.now) result ≡ name_in errors number }
@@ -117,7 +117,8 @@ fn warning_name(number: u32) -> Option<&'static str>
     }
 }
 
-/// The name of a code that identifies a place, from its number without the place.
+/// The name of a code that can name a handle, a parameter or a session, from its number without the
+/// bits for it.
 #[tactic(auto, unfolding(crate::specs::ResponseCode::located))]
 fn located_name(number: u32) -> Option<&'static str>
     ensures { option_map (λ name. name.now) result ≡ name_in located number }
@@ -160,7 +161,7 @@ fn located_name(number: u32) -> Option<&'static str>
     }
 }
 
-/// The place of the fault, from bits 6 and 8 to 11 of a code.
+/// The handle, parameter or session that a code names, from its bits 6 and 8 to 11.
 #[tactic(auto, unfolding(crate::specs::ResponseCode::place_in))]
 fn place_in(code: u32) -> Place
     requires { code < 0x1000 }

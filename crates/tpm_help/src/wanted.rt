@@ -1,4 +1,4 @@
-//! The word that is expected at the position of a fault, in words that are not a command.
+//! The word that is expected at the first error in words that are not a command.
 
 ghost use Rattle.std.specs.Prelude.{◌≡◌, ◌-◌, [], codes, get_or, take};
 ghost use Rattle.tpm_text.specs.Entry.{begins_entry};
@@ -82,7 +82,7 @@ fn begins_entry(token: &[u8]) -> bool
     token.starts_with(b"pw:") || token.starts_with(b"s:")
 }
 
-/// The word at a position after the name of a command that has this many entries.
+/// The word for the part at this position, after the name of a command with this many entries.
 fn word_in(code: CommandCode, entries: usize, place: usize) -> &'static str
     ensures { result.now ≡ get_or (words_behind code entries) place (codes "end of line") }
 {

@@ -59,7 +59,7 @@ padded drawn = drawn ++ replicate (256 - length drawn) 0
 abbrev pub event_of : PlainEntry → PlainEvent
 event_of e = Given e.buffer e.locality e.elapsed (padded e.drawn)
 
--- An entry was performed on this record, with this effect: its command was executed again, with
--- the layer if the entry says so.
+-- The command of an entry was executed again on this record, with this effect, and with the layer
+-- if the entry says so.
 abbrev pub IsPerformed : (can : Bool) → Completion → Record → PlainEntry → Seen → Type 0
 IsPerformed can layer old e seen = CompletesIf can e.completes layer old (event_of e) seen

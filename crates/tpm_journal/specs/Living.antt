@@ -15,8 +15,8 @@ Lives layer old (e ∷ entries) after new =
     (c : Command) × (seen : Seen) × Executed false layer old c seen × IsEntry e
     × (e ≡ entry_of c seen) × Lives seen.layer seen.step.after entries after new
 
--- The entries, performed one after another, lead from one layer and record to another, and the
--- answers match the entries.
+-- The commands of the entries, executed again one after another, lead from one layer and record to
+-- another, and the answers match the entries.
 abbrev pub Answers : Completion → Record → List PlainEntry → Completion → Record → Type 0
 Answers layer old [] after new = (after ≡ layer) × (new ≡ old)
 Answers layer old (e ∷ entries) after new =

@@ -18,7 +18,7 @@ use Rattle.tpm_journal.specs.declared.following.Followed.{Followed}
 use Rattle.tpm_journal.specs.declared.following.FollowFault.{FollowFault}
 use Rattle.tpm_journal.specs.declared.following.FollowFault.TheVariants.{Damaged, Otherwise}
 
--- an entry that was performed, and its effect
+-- an entry whose command was executed again, and the effect of the command
 pub record Performance : Type 0 where
   pub entry : PlainEntry
   pub seen : Seen
@@ -26,15 +26,16 @@ pub record Performance : Type 0 where
 abbrev pub entry_in : Performance → PlainEntry
 entry_in one = one.entry
 
--- the sum of the response, and the sum recorded in the entry
+-- the sum of the response to the entry's command; and the sum that the entry records
 abbrev pub response_sum : Performance → ℕ
 response_sum one = sum_of one.seen.step.response
 
 abbrev pub answer_said : Performance → ℕ
 answer_said one = one.entry.answered
 
--- These entries were performed one after another, with the layer if they say so, and led from one
--- journal and record to another. `can` says whether an allocation can fail.
+-- The commands of these entries were executed again one after another, with the layer if the
+-- entries say so, and led from one journal and record to another. `can` says whether an allocation
+-- can fail.
 abbrev pub LeadsBy : (can : Bool) → Journal → Record → List Performance → Journal → Record → Type 0
 LeadsBy can before old [] after new = (after ≡ before) × (new ≡ old)
 LeadsBy can before old (one ∷ performances) after new =
@@ -42,7 +43,7 @@ LeadsBy can before old (one ∷ performances) after new =
     × LeadsBy can (journal_after before one.entry one.seen.layer) one.seen.step.after performances
     after new
 
--- all executions on the device that these performances caused
+-- all executions on the device that these entries caused
 abbrev pub run_of_all : (can : Bool) (before : Journal) (old : Record)
     (performances : List Performance) (after : Journal) (new : Record)
     → LeadsBy can before old performances after new → List Execution
@@ -89,7 +90,7 @@ pub record Replays (can : Bool) (before : Journal) (old : Record) (text : List �
 
 -- ---- one entry
 
--- A performance of the entry at the beginning of a text. `Holds` relates the sum of its response
+-- The entry at the beginning of a text was executed again. `Holds` relates the sum of its response
 -- to the sum in the entry.
 pub record Performs (can : Bool) (before : Journal) (old : Record) (text : List ℕ) (size : ℕ)
     (one : Performance) (after : Journal) (Holds : ℕ → ℕ → Type 0) : Type 0

@@ -1,4 +1,5 @@
--- How a journal is retold: each entry that is executed again maps to its lines.
+-- How a journal is converted to a script, or to the answers of its device, by executing each entry
+-- again.
 use Rattle.std.specs.Prelude.{◌≡◌, ℕ, ◌+◌, false, true, Bool, List, [], ◌∷◌, ◌++◌, codes, drop, flat_map, length}
 use Rattle.std.specs.Prelude.{Option, Some, None, Result, Ok, Err}
 use Rattle.std.specs.Io.KnownBytes.{Appends, Keeps}
@@ -20,48 +21,50 @@ use Rattle.tpm_journal.specs.declared.retelling.RetellFault.TheVariants.{Open, F
 use Rattle.tpm_journal.specs.declared.retelling.Telling.{Telling}
 use Rattle.tpm_journal.specs.declared.retelling.Telling.TheVariants.{Script, Answers}
 
--- the words that say how an event was answered: `completed` if the completing layer was on,
+-- the text that says how an event was answered: `completed` if the completing layer was on,
 -- otherwise the trace
 abbrev pub words_of : (completes : Bool) → PlainEvent → Row → (response : List ℕ) → List ℕ
 words_of true event row response = codes "completed"
 words_of false event row response = trace_text event row response
 
--- The words for how this event was answered can be written.
+-- There is a text that says how this event was answered: a trace requires that the row is in the
+-- table, and that the response contains a header.
 abbrev pub CanBeTold : (completes : Bool) → PlainEvent → Row → (response : List ℕ) → Type 0
 CanBeTold true event row response = Unit {0}
 CanBeTold false event row response = IsRow row × IsAnswered event response
 
--- the words for an entry that was performed
+-- the comment text for a journal entry that was executed again
 abbrev pub comment_of : Performance → List ℕ
 comment_of one =
     words_of one.entry.completes (event_of one.entry) one.seen.step.row one.seen.step.response
 
--- the script lines that retell an entry: a comment of these words, and the lines that execute its
+-- the script lines for an entry: a comment with this text, and the lines that execute the entry's
 -- command
 abbrev pub lines_with : (words : List ℕ) → PlainEntry → List ℕ
 lines_with words e = codes "# " ++ words ++ 10 ∷ [] ++ (setting_lines e ++ executing_lines e)
 
--- the lines that retell an answer: these words, and the response in hex
+-- the lines for an answer: this text, and the response in hex
 abbrev pub answer_lines : (words response : List ℕ) → List ℕ
 answer_lines words response = words ++ 10 ∷ [] ++ encode_lower response ++ 10 ∷ []
 
--- a performed entry, retold: the script that executes it again, or its answer
+-- the text for an entry that was executed again: the script lines that execute its command, or its
+-- answer
 abbrev pub retold : Telling → Performance → List ℕ
 retold Script one = lines_with (comment_of one) one.entry
 retold Answers one = answer_lines (comment_of one) one.seen.step.response
 
--- an entry, retold with these words, this response and the entry's own text
+-- the text for an entry, given its comment, its response and its own text in the journal
 abbrev pub retold_by : Telling → (words response own : List ℕ) → List ℕ
 retold_by Script words response own = codes "# " ++ words ++ 10 ∷ [] ++ drop mark_line_size own
 retold_by Answers words response own = answer_lines words response
 
--- a head, retold: in full in a script, not at all among answers
+-- the text for a head: the head itself in a script, nothing among answers
 abbrev pub retold_head : Telling → (head : List ℕ) → List ℕ
 retold_head Script head = head
 retold_head Answers head = []
 
--- Exactly the entries at the beginning of a text were executed again, one after another, and
--- retold.
+-- Exactly the entries at the beginning of a text were executed again, one after another, and the
+-- text for each of them was written.
 pub record Retells (form : Telling) (can : Bool) (before : Journal) (old : Record) (text : List ℕ)
     (held : Option (List ℕ)) (holds : Option (List ℕ)) (taken : ℕ) (fault : Option FollowFault)
     (after : Journal) (new : Record) : Type 0
@@ -69,7 +72,8 @@ pub record Retells (form : Telling) (can : Bool) (before : Journal) (old : Recor
     pub repeats : Repeats can before old text taken fault after new
     pub told : Appends held holds (flat_map (retold form) repeats.performances)
 
--- The entries of a text were executed and retold, with this result.
+-- The entries of a text were executed again, with this result, and the text for each of them was
+-- written.
 pub record RetellsEntries (form : Telling) (can : Bool) (before : Journal) (old : Record) (text : List ℕ)
     (held : Option (List ℕ)) (holds : Option (List ℕ)) (followed : Followed) (after : Journal)
     (new : Record) : Type 0
@@ -77,8 +81,8 @@ pub record RetellsEntries (form : Telling) (can : Bool) (before : Journal) (old 
     pub replays : Replays can before old text followed after new
     pub told : Appends held holds (flat_map (retold form) replays.repeats.performances)
 
--- A text begins with a head that starts a journal. The head and then each executed entry were
--- retold, with this result.
+-- A text begins with a head that starts a journal. The texts for the head and for each executed
+-- entry were written, with this result.
 pub record RetellsText (form : Telling) (text : List ℕ) (held : Option (List ℕ)) (holds : Option (List ℕ))
     (fault : Option FollowFault) : Type 0
   where
@@ -99,8 +103,8 @@ abbrev pub retold_size : {form : Telling} {text : List ℕ} {held holds : Option
     {fault : Option FollowFault} → RetellsText form text held holds fault → ℕ
 retold_size told = length (starting_head told.starts) + told.followed.taken
 
--- A text was retold to its end; or it was retold up to a fault; or it starts no journal, and
--- nothing was retold; or the writer failed.
+-- A journal was converted to its end; or it was converted up to a fault; or the text starts no
+-- journal, and nothing was written; or the writer failed.
 abbrev pub RetellsJournal : Telling → List ℕ → (held : Option (List ℕ)) → (holds : Option (List ℕ))
     → Marks → Result (Unit {0}) RetellFault → Type 0
 RetellsJournal form text held holds marks (Ok done) = RetellsText form text held holds None

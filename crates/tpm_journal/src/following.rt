@@ -47,8 +47,8 @@ pub(crate) enum Deed<'a> {
     Damaged,
 }
 
-/// Performs an entry: executes its command again, with the completing layer if the entry says so.
-/// Only this function executes entries.
+/// Executes the command of an entry again, with the completing layer if the entry says so. Only
+/// this function executes entries.
 pub fn perform<K: Keep>(
     machine: &mut Machine<K>,
     layer: &mut Completion,

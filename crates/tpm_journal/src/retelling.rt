@@ -1,9 +1,9 @@
-//! What happened to a device, retold from its journal, as a script or as its answers. The script
+//! Converts the journal of a device to a script, or to the answers that the device gave. The script
 //! consists of the journal's head and, for each entry, a comment that traces the answer and the
 //! lines that execute the command. The answers consist of that trace and the response, for each
 //! entry.
 //!
-//! [`retell`] executes the entries of a journal again, as opening does, and retells exactly the
+//! [`retell`] executes the entries of a journal again, as opening does, and converts exactly the
 //! executed entries, one by one. It does no input or output except through the writer that it
 //! takes.
 
@@ -27,30 +27,30 @@ use tpm_machine::Machine;
 use tpm_record::Keep;
 use tpm_step::Outcome;
 
-/// How a journal is retold.
+/// The form to which a journal is converted.
 #[derive(Clone, Copy, PartialEq, Eq)]
 pub enum Telling {
-    /// As the script that executes it again.
+    /// A script that executes the journal's commands again.
     Script,
-    /// As the trace and the response of each entry.
+    /// The trace and the response of each entry.
     Answers,
 }
 
-/// The reasons why a journal was not retold to its end.
+/// The reasons why a journal was not converted to its end.
 #[derive(Clone, Copy, PartialEq, Eq)]
 pub enum RetellFault {
-    /// The journal has no head, or its head contains no device. Nothing was retold.
+    /// The journal has no head, or its head contains no device. Nothing was written.
     Open(OpenFault),
-    /// The entries were retold up to this fault. The head and these entries are `taken` bytes
+    /// The entries were converted up to this fault. The head and these entries are `taken` bytes
     /// long.
     Follow { fault: FollowFault, taken: usize },
     /// The output could not be written.
     Write,
 }
 
-/// Retells a journal: opens the device from its head in a machine just manufactured with zeros,
-/// and executes its entries again. Text after the last whole entry was never answered, and is not
-/// retold.
+/// Converts a journal: opens the device from its head in a machine just manufactured with zeros,
+/// and executes its entries again. Text after the last complete entry was never answered, and is
+/// not converted.
 pub fn retell<K: Keep, W: Write>(
     form: Telling,
     machine: &mut Machine<K>,
@@ -84,7 +84,7 @@ pub fn retell<K: Keep, W: Write>(
     }
 }
 
-/// Executes the entries of a text that continues a journal, and retells each.
+/// Executes the entries of a text that continues a journal, and converts each.
 fn retell_entries<K: Keep, W: Write>(
     form: Telling,
     journal: &mut Journal,

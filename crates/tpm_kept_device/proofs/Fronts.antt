@@ -1,4 +1,4 @@
--- The size of the entries at the front of a text.
+-- The size of the entries at the start of a text.
 use Rattle.std.proofs.Common.{◌≡◌, ◌≤◌, ◌<◌, ◌+◌, ℕ, List, [], ◌∷◌, ◌++◌, ◌⊎◌, inl, inr, length, drop, take, Option, Some, None, ap, sym, ◌∙◌, append-nil, arith, length-append}
 use Rattle.std.proofs.lemmas.List.{drop-drop, length-take-le, take-append-drop}
 use Rattle.tpm_journal_text.specs.Entry.{IsEntry, PlainEntry, entry_text, sum_after}
@@ -16,11 +16,10 @@ use Rattle.tpm_kept_journal.proofs.texts.EntriesAt.{entries_again, entries_joine
 use Rattle.tpm_kept_journal.proofs.texts.HeadAt.{head_at_front}
 use Rattle.tpm_kept_journal.proofs.texts.NextAt.{damage_tells, torn_tells}
 
--- a text that does not begin with an entry has none
 pub none_more : (sum : ℕ) (text : List ℕ) → entry_at sum text ≡ None → entries_size sum text ≡ 0
 none_more sum text none = ap (λ (es : List PlainEntry). length (entries_text sum es)) (entries_again sum [] text tt none)
 
--- a text that begins with an entry has this one, and those after it
+-- If a text begins with an entry, its entries are this one and the entries after it.
 pub one_more : (sum size : ℕ) (text : List ℕ) (e : PlainEntry) → IsEntry e → size ≤ length text → take size text ≡ entry_text sum e
     → entries_size sum text ≡ size + entries_size (sum_after sum e) (drop size text)
 one_more sum size text e is within front =
@@ -41,7 +40,7 @@ entry_some sum size text e within front =
 
 -- ---- a text that is read an entry at a time
 
--- so many bytes are taken, and the rest has the entries after these
+-- The entries in the first `taken` bytes are read; the remaining text contains the later entries.
 abbrev pub Takes : (sum after taken : ℕ) → (text : List ℕ) → Type 0
 Takes sum after taken text = entries_size sum text ≡ taken + entries_size after (drop taken text)
 

@@ -1,4 +1,5 @@
--- What the code has done is what the journal's functions say.
+-- The device's own results, when it follows a text or writes a head, equal those of the journal's
+-- definitions.
 use Rattle.std.proofs.Common.{◌≡◌, ◌≤◌, ◌+◌, ℕ, false, List, length, Option, Some, None, subst, ap, ◌∙◌, arith}
 use Rattle.tpm_bytes.specs.Reading.{AreBytes}
 use Rattle.tpm_journal.specs.Replay.{Replays}

@@ -1,4 +1,4 @@
--- The text of a command, or of a seed, is read as that one.
+-- The text that is written for a command, or for a seed, is read as this command or this seed.
 use Rattle.std.proofs.Common.{◌≡◌, ◌≤◌, ◌<◌, ◌^◌, ℕ, suc, zero, Bool, true, false, List, [], ◌∷◌, ◌++◌, length, Result, Ok, refl, subst, ap, ◌∙◌, arith, le-leb, append-nil}
 use Rattle.std.specs.Int.{w8, w32, w64, to_be_bytes}
 use Rattle.tpm_bytes.specs.Reading.{AreBytes, or_fault}
@@ -59,7 +59,7 @@ locality_read locality rest few = rw (byte_read locality rest (omega (arith, few
 bytes_read : (random buffer : List ℕ) → length random ≡ 256 → bytes_in 256 (random ++ buffer) ≡ Ok (random, buffer)
 bytes_read random buffer many = ap (λ (r : Result (List ℕ × List ℕ) _). or_fault r malformed) (bytes_again random buffer 256 many)
 
--- a text of bytes is read as the command that it has
+-- If a command is decoded from a text of bytes, the text is that of this command.
 read_by : (text : List ℕ) (c : KeptCommand) → AreBytes text → command_in text ≡ Ok c → command_of text ≡ Ok c
 unfolding command_of
 read_by text c are is = rw ((are_bytes-Decides text).1 are) is

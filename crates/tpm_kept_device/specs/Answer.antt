@@ -7,21 +7,21 @@ use Rattle.tpm_image_text.specs.declared.fault.Malformed.{Malformed}
 use Rattle.tpm_types.specs.Limits.{buffer_limit}
 use Rattle.tpm_kept_device.specs.declared.answer.Answer.{Answer}
 
--- an answer: the command's code, the number of the check that refused it, the number of random
--- bytes that it drew, and the device's response
+-- an answer: the command's code, the number of the check that refused the command, the number of
+-- random bytes that the command drew, and the device's response
 pub record PlainAnswer : Type 0 where
   pub code : ℕ
   pub check : ℕ
   pub drawn : ℕ
   pub response : List ℕ
 
--- an answer, wherever its bytes are in memory
+-- the contents of an answer, independent of its place in memory
 abbrev pub plain_answer : Answer → PlainAnswer
 plain_answer a =
     record { code = a.code; check = a.check; drawn = a.drawn; response = a.response.now }
 
--- the text of an answer: four bytes for the code, one for the check, two for the drawn bytes, and
--- the response, which fits in a buffer
+-- the answer that a text encodes: four bytes for the code, one for the check, two for the number of
+-- drawn bytes, and the response, which fits in a buffer
 unfoldable pub answer_of : List ℕ → Result PlainAnswer Malformed
 answer_of text = do
   code ← number_in w32 text

@@ -1,15 +1,16 @@
--- The texts of commands to a kept device, and of what one begins with.
+-- The texts of commands to a kept device, and of the seeds with which a device begins.
 use Rattle.std.specs.Prelude.{ℕ, Bool, List, ◌++◌, ◌∷◌}
 use Rattle.std.specs.Int.{w32, w64, to_be_bytes}
 use Rattle.tpm_image_text.specs.Fields.{yes_no_text}
 
--- what a command of the standard has after its moment: its locality, whether the completing layer
--- is on, 256 random bytes, and its buffer
+-- the part of a command's text after its moment: its locality, whether the completing layer is on,
+-- 256 random bytes, and its buffer
 abbrev pub given_text : (locality : ℕ) → (completes : Bool) → (random buffer : List ℕ) → List ℕ
 given_text locality completes random buffer =
     locality ∷ (yes_no_text completes ++ (random ++ buffer))
 
--- the text of a command of the standard at a time of the clock, or so long after the one before it
+-- the text of a command of the standard: at a time of the host's clock; and at a number of
+-- milliseconds after the command before it
 abbrev pub text_at : (now locality : ℕ) → (completes : Bool) → (random buffer : List ℕ) → List ℕ
 text_at now locality completes random buffer =
     0 ∷ (to_be_bytes w64 now ++ given_text locality completes random buffer)

@@ -1,4 +1,4 @@
--- The types of the code, as the definitions see them.
+-- The values of the code's types, in the terms of the definitions.
 use Rattle.std.specs.Prelude.{◌≡◌, ℕ, List, Option, Some, None}
 use Rattle.tpm_completion.specs.Execution.{Seen, seen_of}
 use Rattle.tpm_keeping.specs.Journal.{Spot}
@@ -19,14 +19,14 @@ abbrev pub plain_moment : declared_moment.Moment → Moment
 plain_moment (moment.At now) = At now
 plain_moment (moment.After elapsed) = After elapsed
 
--- a command, wherever its bytes lie in memory
+-- the contents of a command, independent of its place in memory
 abbrev pub plain_command : Command → KeptCommand
 plain_command (command.Execute moment locality completes random buffer) =
     Executes (plain_moment moment) (locality_number locality) completes random.now buffer.now
 plain_command (command.Cycle now start) = Cycles now start
 plain_command (command.Begin seed) = Begins seed.now
 
--- a seed, wherever its bytes lie in memory
+-- the contents of a seed, independent of its place in memory
 abbrev pub plain_seed : declared.Seed → Seed
 plain_seed seed = record {
   kind = seed.kind;
@@ -35,7 +35,7 @@ plain_seed seed = record {
   content = seed.content.now;
 }
 
--- the state of a device, and its spot
+-- the state of a device; and its spot, which also contains its journal's chain
 abbrev pub state_of : Parts → DeviceState
 state_of parts = state_in parts.journal (slot_record parts.machine.keep)
 
@@ -49,7 +49,7 @@ seen_in parts = seen_of slot_record parts.machine parts.journal.layer parts.outc
 abbrev pub answer_in : Parts → List ℕ
 answer_in parts = reported (seen_in parts)
 
--- A device began in this state, or there is none.
+-- A device began in this state; or there is no such state, and no device.
 abbrev pub BeginsAs : {B : Type 0} → (B → Parts) → Option DeviceState → Option B → Type 0
 BeginsAs parts_in state (Some b) = state ≡ Some (state_of (parts_in b))
 BeginsAs parts_in state None = state ≡ None

@@ -14,9 +14,9 @@ use tpm_types::BUFFER_LIMIT;
 /// The answer to a command of the standard.
 #[derive(Clone, Copy)]
 pub struct Answer<'a> {
-    /// The command's code, 0 if none was found.
+    /// The command code; 0 if none was found.
     pub code: u32,
-    /// The number of the check that refused the command, 0 if none did.
+    /// The number of the check that refused the command; 0 if the command was accepted.
     pub check: u8,
     /// The number of random bytes that the command drew.
     pub drawn: u16,

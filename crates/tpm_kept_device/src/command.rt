@@ -14,17 +14,18 @@ use tpm_bytes::Cursor;
 use tpm_image_text::{Malformed, read_bool, read_u8, read_u32, read_u64};
 use tpm_types::Locality;
 
-/// When a command of the standard comes, in milliseconds.
+/// When a command of the standard arrives, in milliseconds.
 #[derive(Clone, Copy)]
 pub(crate) enum Moment {
     /// At this time of the host's clock.
     At(u64),
-    /// So long after the command before it.
+    /// This many milliseconds after the command before it.
     After(u32),
 }
 
 impl Moment {
-    /// The host's clock, if the command before came at this time.
+    /// The time of the host's clock when the command arrives, if the command before it arrived at
+    /// `time`.
     pub(crate) fn clock(self, time: u64) -> u64
         ensures { result ≡ clock_at (plain_moment self) time }
     {
@@ -42,19 +43,19 @@ pub(crate) enum Command<'a> {
     Execute {
         moment: Moment,
         locality: Locality,
-        /// Whether the layer completes what the device does.
+        /// Whether the completing layer is used.
         completes: bool,
         /// 256 random bytes.
         random: &'a [u8],
         buffer: &'a [u8],
     },
-    /// A power cycle at this time of the host's clock. The number `start` has no effect; the
-    /// completing layer keeps its start.
+    /// A power cycle at this time of the host's clock. The number `start` has no effect, because
+    /// the completing layer keeps its start.
     Cycle {
         now_ms: u64,
         start: u64,
     },
-    /// A new beginning, as the restoring of a snapshot.
+    /// Replaces the device by one that begins with a seed, for example to restore a snapshot.
     Begin {
         seed: &'a [u8],
     },
@@ -68,7 +69,7 @@ pub(crate) fn read_command<'a>(text: &'a [u8]) -> Result<Command<'a>, Malformed>
     read_any(text)
 }
 
-/// Reads a command from a text of bytes.
+/// Reads a command from a text whose elements are bytes.
 #[tactic(auto, unfolding(tpm_kept_journal::specs::Command::command_in))]
 fn read_any<'a>(text: &'a [u8]) -> Result<Command<'a>, Malformed>
     ensures value { Gives plain_command (command_in text.now) result }
@@ -84,7 +85,8 @@ fn read_any<'a>(text: &'a [u8]) -> Result<Command<'a>, Malformed>
     }
 }
 
-/// Reads a command of the standard that comes at a time of the clock, after its kind.
+/// Reads a command of the standard that arrives at a time of the clock, after the byte for its
+/// kind.
 #[tactic(auto, unfolding(tpm_kept_journal::specs::Command::executed_at_in))]
 fn read_executed_at<'a>(text: &mut Cursor<'a>) -> Result<Command<'a>, Malformed>
     ensures { Gives plain_command (executed_at_in text.old) result }
@@ -93,7 +95,8 @@ fn read_executed_at<'a>(text: &mut Cursor<'a>) -> Result<Command<'a>, Malformed>
     read_executed(Moment::At(now_ms), text)
 }
 
-/// Reads a command of the standard that comes so long after the one before it, after its kind.
+/// Reads a command of the standard that arrives a number of milliseconds after the one before it,
+/// after the byte for its kind.
 #[tactic(auto, unfolding(tpm_kept_journal::specs::Command::executed_after_in))]
 fn read_executed_after<'a>(text: &mut Cursor<'a>) -> Result<Command<'a>, Malformed>
     ensures { Gives plain_command (executed_after_in text.old) result }
@@ -102,7 +105,7 @@ fn read_executed_after<'a>(text: &mut Cursor<'a>) -> Result<Command<'a>, Malform
     read_executed(Moment::After(elapsed_ms), text)
 }
 
-/// Reads a command of the standard that comes at this moment, after the moment.
+/// Reads the rest of a command of the standard that arrives at this moment.
 #[tactic(auto, unfolding(tpm_kept_journal::specs::Command::executed_in))]
 fn read_executed<'a>(moment: Moment, text: &mut Cursor<'a>) -> Result<Command<'a>, Malformed>
     ensures { Gives plain_command (executed_in (plain_moment moment) text.old) result }
@@ -143,7 +146,7 @@ fn read_random<'a>(text: &mut Cursor<'a>) -> Result<&'a [u8], Malformed>
     }
 }
 
-/// Reads a power cycle, after its kind.
+/// Reads a power cycle, after the byte for its kind.
 #[tactic(auto, unfolding(tpm_kept_journal::specs::Command::cycled_in))]
 fn read_cycled<'a>(text: &mut Cursor<'a>) -> Result<Command<'a>, Malformed>
     ensures { Gives plain_command (cycled_in text.old) result }

@@ -1,4 +1,4 @@
-//! A device, as tpm_keeping asks for one.
+//! A device with the interface that tpm_keeping requires.
 
 ghost use Rattle.std.specs.Prelude.{◌≡◌, ◌++◌, OnOk, is_some};
 
@@ -7,7 +7,7 @@ use crate::parts::Parts;
 use std::alloc::Global;
 use tpm_keeping::device::{Device, Exhausted};
 
-/// A device that a keeper keeps.
+/// A device that a keeper stores in a journal.
 #[derive(Drop)]
 pub struct KeptDevice {
     alloc: Global,
@@ -97,7 +97,8 @@ impl KeptDevice {
     ghost use Rattle.tpm_kept_journal.specs.Seed.{begun_in};
     ghost use Rattle.tpm_kept_device.specs.View.{state_of};
 
-    /// Begins again with a seed, if it is one, and appends whether it did, as a byte.
+    /// If the text is a seed, replaces the device by one that begins with it. Appends a byte that
+    /// says whether it did.
     fn begin_anew(&mut self, seed: &[u8], response: &mut Vec<u8>) -> Result<(), Exhausted>
         ensures state { OnOk result (state_of self.new.parts.value
             ≡ begun_or (begun_in seed.now) (state_of self.old.parts.value)) }

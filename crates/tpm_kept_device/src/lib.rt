@@ -1,11 +1,11 @@
 #![tactic(auto)]
 
-//! A device as a keeper keeps it: [`KeptDevice`], which tpm_keeping drives.
+//! A device that a keeper stores in a journal: [`KeptDevice`], which tpm_keeping controls.
 //!
-//! tpm_kept_journal says what its journal is: functions of texts, which meet what a keeper needs.
+//! tpm_kept_journal defines its journal: functions of texts, which satisfy what a keeper requires.
 //! This crate computes them with the real device: each method's contract is that of
 //! `tpm_keeping::device::Device` over that journal. So what tpm_keeping proves of a kept device,
-//! through kills, failures and crashes, holds of this one. [`writing`] writes the commands and
+//! through kills, failures and crashes, holds for this one. [`writing`] writes the commands and
 //! seeds that a keeper takes, and [`answer`] reads its response to a command of the standard.
 
 pub mod answer;

@@ -1,4 +1,4 @@
-//! What a kept device is made of, and what it does.
+//! The parts of a kept device, and what it does.
 
 ghost use Rattle.std.specs.Prelude.{◌≡◌, ◌≤◌, ◌++◌, IfOk, OnOk, false, length, option_copied, replicate, take, true};
 ghost use Rattle.std.specs.Option.{MatchOption};
@@ -39,8 +39,8 @@ use tpm_slots::SlotKeep;
 use tpm_snapshot::{Layer, completion_of, layer_of, restore_new, snapshot_into};
 use tpm_step::{Event, Outcome};
 
-/// A device, its journal with the completing layer, the outcome of its latest event, over which the
-/// next outcome is written, and buffers for random bytes and for an entry.
+/// A device; its journal with the completing layer; the outcome of its last event, which the next
+/// event overwrites; and buffers for random bytes and for an entry.
 #[derive(Drop)]
 pub struct Parts {
     machine: Machine<SlotKeep>,
@@ -51,7 +51,7 @@ pub struct Parts {
 }
 
 impl Parts {
-    /// A device as it is manufactured with these random bytes.
+    /// A new device; these random bytes become its secrets.
     fn manufacture(alloc: Global, random: &[u8; 256]) -> Result<Box<Parts>, Exhausted>
         ensures { IfOk result (λ b. slot_record b.value.machine.keep ≡ manufactured random.now) }
     {
@@ -71,7 +71,7 @@ impl Parts {
         }
     }
 
-    /// The journal of a device begins again at this time, with this layer.
+    /// Restarts the device's journal at this time, with this completing layer.
     fn begin_journal(&mut self, now_ms: u64, layer: Completion)
         ensures { state_of self.new ≡ record (state_of self.old) { time = now_ms; layer = layer } }
     {
@@ -98,7 +98,7 @@ impl Parts {
         }
     }
 
-    /// A device as it is manufactured with a seed's 256 random bytes.
+    /// A new device; the 256 random bytes of a seed become its secrets.
     fn make(alloc: Global, seed: &Seed) -> Result<Option<Box<Parts>>, Exhausted>
         ensures { IfOk result (BeginsAs (λ b. b.value) (state_made (plain_seed seed.now))) }
     {
@@ -112,7 +112,7 @@ impl Parts {
         Ok(Some(parts))
     }
 
-    /// The device of a seed's image, as power comes on.
+    /// The device of a seed's image, as after a power cycle.
     fn power_on(alloc: Global, seed: &Seed) -> Result<Option<Box<Parts>>, Exhausted>
         ensures { IfOk result (BeginsAs (λ b. b.value)
             (state_opened (plain_seed seed.now) (image_of seed.now.content.now))) }
@@ -125,7 +125,7 @@ impl Parts {
         Ok(Some(parts))
     }
 
-    /// The device of a seed's state text, with its layer, if it has one, under a new start.
+    /// The device of a seed's state text. Its completing layer, if it has one, gets a new start.
     fn restore(alloc: Global, seed: &Seed) -> Result<Option<Box<Parts>>, Exhausted>
         ensures { IfOk result (BeginsAs (λ b. b.value)
             (state_restored (plain_seed seed.now) (state_of_text seed.now.content.now))) }
@@ -138,7 +138,7 @@ impl Parts {
         Ok(Some(parts))
     }
 
-    /// What a device is, by the widths of its fields. The call only reads.
+    /// The fields of the device's state fit their integer types. The call changes nothing.
     pub fn read_widths(&self)
         ensures { IsDeviceState (state_of self.now) }
     {
@@ -159,8 +159,8 @@ impl Parts {
         }
     }
 
-    /// Opens the device of the head and the entries at the front of a journal, whatever is after
-    /// them; None if they are none.
+    /// Opens the device of the head and the complete entries at the start of a journal, and ignores
+    /// all bytes after them; None without a head.
     #[tactic(auto, unfolding(tpm_kept_journal::specs::Salvage::salvaged_text))]
     pub fn salvage(alloc: Global, text: &[u8]) -> Result<Option<(Box<Parts>, usize)>, Exhausted>
         ensures { IfOk result (λ opened. MatchOption opened (salvaged_text text.now ≡ None)
@@ -170,8 +170,8 @@ impl Parts {
         Parts::open(alloc, front)
     }
 
-    /// Opens the device of a journal instead of a new device of zeros. At None the device is
-    /// unspecified.
+    /// Turns a new device of zeros into the device of a journal. If the result is None, the device
+    /// is unspecified.
     fn open_in_place(&mut self, text: &[u8]) -> Option<usize>
         requires { slot_record self.old.machine.keep ≡ manufactured (replicate 256 0) }
         ensures { MatchOption result (opened_text text.now ≡ None)
@@ -184,7 +184,7 @@ impl Parts {
         Some(opened.taken)
     }
 
-    /// Executes the entries of a text; None if they do not follow.
+    /// Executes the entries of a text; None if they do not continue the device's journal.
     pub fn follow(&mut self, text: &[u8]) -> Option<usize>
         ensures { MatchOption result (walked (spot_in self.old) 0 text.now ≡ None)
             (λ taken. walked (spot_in self.old) 0 text.now ≡ Some (spot_in self.new, taken)) }
@@ -199,7 +199,8 @@ impl Parts {
         }
     }
 
-    /// Executes a command that has an entry, and appends the entry and the response.
+    /// Executes a command that gets an entry in the journal, and appends the entry and the
+    /// response.
     pub fn execute(
         &mut self,
         command: &[u8],
@@ -240,8 +241,9 @@ impl Parts {
         }
     }
 
-    /// Executes a command that has an entry. The entry, of as many bytes as is returned, is in the
-    /// buffer, the response in the outcome, and the report in that and in the machine.
+    /// Executes a command that gets an entry in the journal. Returns the size of the entry, which
+    /// is in the buffer. The response is in the outcome, and the report is in the outcome and the
+    /// machine.
     fn perform(&mut self, command: &[u8]) -> usize
         requires { device_journal.is_entered command.now ≡ true }
         ensures spot { spot_in self.new ≡ stepped device_journal (spot_in self.old) command.now }
@@ -290,7 +292,7 @@ impl Parts {
         self.begin_journal(now_ms, layer);
     }
 
-    /// Appends the head of the state, and returns its sum.
+    /// Appends the head with the device's state, and returns its sum.
     pub fn put_head(&self, alloc: Global, out: &mut Vec<u8>) -> Result<u64, Exhausted>
         ensures head { OnOk result (out.new.items
             ≡ out.old.items ++ head_of (bytes_of (state_of self.now))) }
@@ -316,7 +318,7 @@ impl Parts {
         Ok(text)
     }
 
-    /// The next entry follows a head with this sum.
+    /// The next entry will follow a head with this sum.
     pub fn chain_to(&mut self, sum: u64)
         ensures { spot_in self.new ≡ record (spot_in self.old) { chain = sum } }
     {
@@ -324,7 +326,7 @@ impl Parts {
     }
 }
 
-/// Appends the head of this clock and this state text, and returns its sum.
+/// Appends the head with this clock and this state text, and returns its sum.
 fn put_head_of(
     alloc: Global,
     clock_ms: u64,
@@ -347,7 +349,8 @@ fn put_head_of(
     }
 }
 
-/// The layer of a device that is restored: that of the text with a new start, or a new one.
+/// The completing layer of a restored device: the stored one with this start, or a new one if none
+/// is stored.
 fn layer_restored(start: u64, layer: Option<&Layer>) -> Completion
     ensures { result ≡ layer_restored start (option_copied layer.entry) }
 {

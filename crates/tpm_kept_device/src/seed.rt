@@ -1,4 +1,4 @@
-//! What a device begins of, read from its text.
+//! The seed with which a device begins, read from its text.
 
 ghost use Rattle.tpm_bytes.specs.Reading.{Gives};
 ghost use Rattle.tpm_kept_journal.specs.Seed.{seed_in};
@@ -7,14 +7,14 @@ ghost use Rattle.tpm_kept_device.specs.View.{plain_seed};
 use tpm_bytes::Cursor;
 use tpm_image_text::{Malformed, read_u8, read_u64};
 
-/// What a device begins of.
+/// The seed with which a device begins.
 #[derive(Clone, Copy)]
 pub(crate) struct Seed<'a> {
-    /// 0: the content is random bytes. 1: an image. 2: a state text.
+    /// The kind of the content: 0 for random bytes, 1 for an image, 2 for a state text.
     pub(crate) kind: u8,
     /// The host's clock in milliseconds.
     pub(crate) now_ms: u64,
-    /// The number of the completing layer's start, which no start had before.
+    /// The number of the completing layer's start; no earlier start had this number.
     pub(crate) start: u64,
     pub(crate) content: &'a [u8],
 }

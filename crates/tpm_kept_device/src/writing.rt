@@ -1,4 +1,4 @@
-//! Writes the texts of commands to a kept device, and of seeds, with which one begins.
+//! Writes the texts of commands to a kept device, and of the seeds with which a device begins.
 
 ghost use Rattle.std.specs.Prelude.{◌≡◌, ◌++◌, ◌∷◌, IfOk, Ok, OnOk};
 ghost use Rattle.tpm_kept_journal.specs.Command.{After, At, Begins, Cycles, Executes, command_of};
@@ -31,7 +31,7 @@ pub fn command_at(
     Ok(text)
 }
 
-/// A command of the standard so many milliseconds after the one before it.
+/// A command of the standard, this many milliseconds after the one before it.
 #[tactic(auto, using(crate::proofs::Texts::after_read))]
 pub fn command_after(
     alloc: Global,
@@ -53,7 +53,7 @@ pub fn command_after(
     Ok(text)
 }
 
-/// Appends what each command of the standard has after its moment.
+/// Appends the part of a command's text after its moment.
 fn put_given(
     text: &mut Vec<u8>,
     locality: Locality,
@@ -69,7 +69,7 @@ fn put_given(
     text.extend_from_slice(buffer)
 }
 
-/// A power cycle at this time. The number has no effect.
+/// A power cycle at this time of the host's clock. The number `start` has no effect.
 #[tactic(auto, using(crate::proofs::Texts::cycle_read))]
 pub fn power_cycle(alloc: Global, now_ms: u64, start: u64) -> Result<Vec<u8>, AllocError>
     ensures text { IfOk result (λ text. text.items ≡ cycle_text now_ms start) }

@@ -1,4 +1,4 @@
--- The journal of a kept device, as its keeper knows it.
+-- The journal of a kept device, in the form that a keeper requires.
 use Rattle.std.specs.Prelude.{true}
 use Rattle.std.specs.Option.{option_map}
 use Rattle.tpm_keeping.specs.Journal.{Journal}

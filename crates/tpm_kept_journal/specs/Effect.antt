@@ -1,4 +1,4 @@
--- What a command does to a kept device.
+-- The effect of a command on a kept device.
 use Rattle.std.specs.Prelude.{ℕ, Bool, true, List, [], ◌∷◌, ◌++◌, is_some, Option, Some, None, Result, Ok, Err}
 use Rattle.std.specs.Int.{w16, w32, to_be_bytes}
 use Rattle.tpm_completion.specs.Completed.{completed}
@@ -16,40 +16,42 @@ use Rattle.tpm_kept_journal.specs.State.{DeviceState, bytes_of, state_of_bytes}
 
 -- ---- on a state
 
--- the host's clock at a moment, if the command before it came at this time; at most 2^64 - 1
+-- the time of the host's clock at a moment, given the time of the command before it; at most 2^64 -
+-- 1
 abbrev pub clock_at : Moment → (time : ℕ) → ℕ
 clock_at (At now) time = now
 clock_at (After elapsed) time = time_after time elapsed
 
--- the command of a buffer that a device in this state is given at this moment
+-- the command that a device in this state gets in this buffer, at this moment
 abbrev pub command_on : DeviceState → Moment → (locality : ℕ) → (completes : Bool)
     → (random buffer : List ℕ) → Command
 command_on s moment locality completes random buffer =
     command_at buffer locality (elapsed_of (clock_at moment s.time) s.time) completes random
 
--- the effect of a command of the standard, with the layer or without it; no memory is refused
+-- the effect of a command of the standard, with or without the completing layer; no allocation
+-- fails
 abbrev pub effect : DeviceState → Command → Seen
 effect s c = completed c.completes s.layer s.device (given c)
 
--- the state after an effect, so much time later
+-- the state after an effect, this many milliseconds later
 abbrev pub left_by : DeviceState → (elapsed : ℕ) → Seen → DeviceState
 left_by s elapsed seen =
     record { time = time_after s.time elapsed; layer = seen.layer; device = seen.step.after }
 
--- the state after a power cycle: the completing layer keeps its start and its count, and forgets the
--- contexts of the sessions, which end. The contexts of objects end with a TPM Reset
+-- the state after a power cycle. The completing layer keeps its start number and its count. It
+-- forgets the contexts of the sessions, which end; the contexts of objects end with a TPM Reset
 abbrev pub cycled_at : DeviceState → (now : ℕ) → DeviceState
 cycled_at s now =
     let seen : Seen = completed true s.layer s.device Cycled in
     record { time = now; layer = seen.layer; device = seen.step.after }
 
--- the state that began, or the one that was
+-- the new state of a device, or the old state if there is no new one
 abbrev pub begun_or : Option DeviceState → DeviceState → DeviceState
 begun_or (Some begun) s = begun
 begun_or None s = s
 
--- the state after a command: one of the standard, a power cycle, or a new beginning, which may be
--- refused
+-- the state after a command of the standard, a power cycle, or a command that replaces the device;
+-- the last one may be refused
 abbrev pub moved : DeviceState → KeptCommand → DeviceState
 moved s (Executes moment locality completes random buffer) =
     let c = command_on s moment locality completes random buffer in
@@ -57,8 +59,8 @@ moved s (Executes moment locality completes random buffer) =
 moved s (Cycles now start) = cycled_at s now
 moved s (Begins seed) = begun_or (begun_in seed) s
 
--- the report of an effect: the command's code in four bytes, the number of the check that refused
--- it in one, and how many random bytes it drew in two
+-- the report of an effect: the command code in four bytes, the number of the check that refused the
+-- command in one, and the number of random bytes that it drew in two
 abbrev pub report_of : Seen → List ℕ
 report_of seen =
     to_be_bytes w32 seen.step.row.code ++ (seen.step.row.check ∷ to_be_bytes w16 seen.drawn)
@@ -66,15 +68,15 @@ report_of seen =
 abbrev pub reported : Seen → List ℕ
 reported seen = report_of seen ++ seen.step.response
 
--- the response: to a command of the standard its report and what the device answers, to a power
--- cycle none, and to a new beginning a byte, 1 if it began
+-- the response: for a command of the standard, its report and the device's response; for a power
+-- cycle, nothing; for a command that replaces the device, a byte, which is 1 if it was replaced
 abbrev pub answer : DeviceState → KeptCommand → List ℕ
 answer s (Executes moment locality completes random buffer) =
     reported (effect s (command_on s moment locality completes random buffer))
 answer s (Cycles now start) = []
 answer s (Begins seed) = yes_no_text (is_some (begun_in seed))
 
--- the entry, if the command has one
+-- the entry of a command; None if the command gets no entry
 abbrev pub entered : DeviceState → KeptCommand → Option PlainEntry
 entered s (Executes moment locality completes random buffer) =
     let c = command_on s moment locality completes random buffer in
@@ -83,7 +85,8 @@ entered s c = None
 
 -- ---- on texts
 
--- what is said of a state and a command; `other` if a text is not of one
+-- the result of a function of a state and a command; `other` if one of the texts is not that of a
+-- state or a command
 abbrev pub with_both : {X : Type 0} → Option DeviceState → Result KeptCommand Malformed → (other : X)
     → (DeviceState → KeptCommand → X) → X
 with_both (Some s) (Ok c) other said = said s c
@@ -100,7 +103,7 @@ response_to state command = with_both (state_of_bytes state) (command_of command
 abbrev pub entry_at_spot : Spot → (command : List ℕ) → Option PlainEntry
 entry_at_spot p command = with_both (state_of_bytes p.state) (command_of command) None entered
 
--- the text of an entry, if there is one, and the sum after it
+-- the text of an entry, and the sum after it, if there is an entry
 abbrev pub text_if : (sum : ℕ) → Option PlainEntry → List ℕ
 text_if sum (Some e) = entry_text sum e
 text_if sum None = []

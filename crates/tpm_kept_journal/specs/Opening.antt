@@ -1,4 +1,4 @@
--- Which device a text of a journal leads to: entries are executed again.
+-- The device to which the text of a journal leads, when its entries are executed again.
 use Rattle.std.specs.Prelude.{ℕ, zero, suc, ◌+◌, ◌==◌, ◌&&◌, nat_le, Bool, cond, List, [], ◌∷◌, drop, is_some, length, take, Option, Some, None, Result, Ok, Err}
 use Rattle.tpm_completion.specs.Completed.{completed}
 use Rattle.tpm_completion.specs.Execution.{Seen}
@@ -18,11 +18,11 @@ use Rattle.tpm_kept_journal.specs.texts.Parts.{are_bytes, where_so}
 
 -- ---- entries
 
--- the effect of an entry that is performed: its command is executed again
+-- the effect of an entry whose command is executed again
 abbrev pub performance : DeviceState → PlainEntry → Seen
 performance s e = completed e.completes s.layer s.device (event_of e)
 
--- the spot after an entry, if the device answers as the entry says
+-- the spot after an entry, if the device's response matches the entry
 abbrev pub performed_on : (chain : ℕ) → PlainEntry → Option DeviceState → Option Spot
 performed_on chain e (Some s) =
     where_so (sum_of (performance s e).step.response == e.answered) (record {
@@ -31,8 +31,8 @@ performed_on chain e (Some s) =
     })
 performed_on chain e None = None
 
--- what is found at the front of a text, from a spot: an entry of so many bytes, after which the
--- device is at another spot; or the text has no further entry; or it does not follow
+-- what a text begins with, when it is read at a spot: an entry of this size, after which the device
+-- is at another spot; or no further entry; or something that does not continue the journal
 pub data Found : Type 0 where
   Goes : Spot → (size : ℕ) → Found
   Ends : Found
@@ -51,8 +51,8 @@ found_next p Damaged = Fails
 unfoldable pub found_at : Spot → List ℕ → Found
 found_at p text = found_next p (next_at p.chain text)
 
--- The spot to which a text leads, and how many of its bytes, where `taken` bytes were executed
--- before it. A text has fewer entries than `bound`.
+-- the spot to which a text leads, and the size of the executed text, of which `taken` bytes were
+-- executed before; `bound` exceeds the number of entries in the text
 unfoldable pub walk : (bound : ℕ) → Spot → (taken : ℕ) → List ℕ → Option (Spot × ℕ)
 walk zero p taken text = None
 walk (suc bound) p taken text = elim (found_at p text) [
@@ -66,18 +66,18 @@ walked p taken text = walk (suc (length text)) p taken text
 
 -- ---- heads
 
--- whether a text is one of a state, and can be written in a head
+-- whether a text is that of a state, and fits in a head
 unfoldable pub is_state_text : List ℕ → Bool
 is_state_text text =
     are_bytes text
     && (is_some (state_of_bytes text) && nat_le (length (content_in text)) (content_limit State))
 
--- What is no text of a state has a head too, which is no text of bytes, so that no file begins with
--- it. So what is said of heads holds of all lists of numbers.
+-- the head for a text that is not that of a state. It contains a number that is not a byte, so no
+-- file begins with it. Because of it, laws about heads hold for all lists of numbers.
 abbrev pub no_head : List ℕ → List ℕ
 no_head text = 256 ∷ length text ∷ text
 
--- the head of a state, and its sum
+-- the head for the text of a state; and its sum
 unfoldable pub head_of : List ℕ → List ℕ
 head_of text =
     cond (is_state_text text) (head_text State (time_in text) (content_in text)) (no_head text)
@@ -85,7 +85,7 @@ head_of text =
 unfoldable pub head_sum_of : List ℕ → ℕ
 head_sum_of text = cond (is_state_text text) (head_sum (time_in text) (content_in text)) 0
 
--- the spot after a head by which a device starts, and the size of the head
+-- the spot after a head that starts a device, and the size of the head
 abbrev pub spot_by : (size : ℕ) → Result Start OpenFault → Option (Spot × ℕ)
 spot_by size (Ok start) = Some (spot_of start.journal start.device, size)
 spot_by size (Err why) = None
@@ -98,14 +98,14 @@ abbrev pub started_no_head : (count : ℕ) → List ℕ → Option (Spot × ℕ)
 started_no_head count text =
     where_so (nat_le count (length text)) (record { state = take count text; chain = 0 }, 2 + count)
 
--- the spot after the head at the front of a text, and the size of the head
+-- the spot after the head at the start of a text, and the size of the head
 abbrev pub started_at : List ℕ → Option (Spot × ℕ)
 started_at [] = None
 started_at (first ∷ []) = None
 started_at (first ∷ second ∷ text) =
     cond (first == 256) (started_no_head second text) (started_by (head_at (first ∷ second ∷ text)))
 
--- the spot after a text that is a head, and no more
+-- the spot after a text that consists of exactly one head
 abbrev pub whole_head : (size : ℕ) → Option (Spot × ℕ) → Option Spot
 whole_head size (Some found) = where_so (found.1 == size) found.0
 whole_head size None = None

@@ -1,4 +1,4 @@
--- Which device is salvaged of a damaged text of a journal.
+-- The device that is salvaged from the text of a damaged journal.
 use Rattle.std.specs.Prelude.{ℕ, ◌+◌, List, drop, length, take, Option, Some, None}
 use Rattle.tpm_journal_text.specs.Head.{head_sum}
 use Rattle.tpm_journal_text.specs.Journal.{entries_text}
@@ -7,22 +7,22 @@ use Rattle.tpm_kept_journal.specs.Opening.{opened_text}
 use Rattle.tpm_kept_journal.specs.texts.EntriesAt.{entries_at}
 use Rattle.tpm_kept_journal.specs.texts.HeadAt.{PlainHead, head_at, text_of_head}
 
--- the size of the entries at the front of a text; `sum` is the sum of the marks before
+-- the size of the entries at the start of a text; `sum` is the sum of the marks before them
 abbrev pub entries_size : (sum : ℕ) → List ℕ → ℕ
 entries_size sum text = length (entries_text sum (entries_at sum text))
 
--- the size of a head with the entries after it; 0 without a head
+-- the size of a head and of the entries after it; 0 without a head
 abbrev pub size_with : Option PlainHead → List ℕ → ℕ
 size_with (Some h) text =
     let size = length (text_of_head h) in
     size + entries_size (head_sum h.clock h.content) (drop size text)
 size_with None text = 0
 
--- the size of what is whole at the front of a text: its head, and the entries after it
+-- the size of the intact part at the start of a text: its head, and the entries after it
 unfoldable pub whole_size : List ℕ → ℕ
 whole_size text = size_with (head_at text) text
 
--- the spot to which these lead, and their size. There is none without a head by which a device
--- starts, or if the device answers otherwise than an entry says.
+-- the spot to which the intact part leads, and the size of that part. There is no spot if the text
+-- has no head that starts a device, or if the device's response differs from an entry.
 unfoldable pub salvaged_text : List ℕ → Option (Spot × ℕ)
 salvaged_text text = opened_text (take (whole_size text) text)

@@ -1,4 +1,4 @@
--- What a device begins of, as a text: random bytes, an image, or a state text.
+-- The seed with which a device begins, as a text: random bytes, an image, or a state text.
 use Rattle.std.specs.Prelude.{ℕ, ◌==◌, List, length, if◌then◌else◌, Option, Some, None, Result, Ok, Err}
 use Rattle.std.specs.Int.{w8, w64}
 use Rattle.tpm_bytes.specs.Reading.{◌>>=◌}
@@ -18,14 +18,16 @@ use Rattle.tpm_state_text.specs.declared.layer.Layer.{Layer}
 use Rattle.tpm_kept_journal.specs.State.{DeviceState}
 
 -- a seed: its kind; the host's clock in milliseconds; a number for the start of the completing
--- layer, which no start had before; and random bytes (kind 0), an image (1) or a state text (2)
+-- layer, which no earlier start had; and its content: random bytes (kind 0), an image (1) or a
+-- state text (2)
 pub record Seed : Type 0 where
   pub kind : ℕ
   pub now : ℕ
   pub start : ℕ
   pub content : List ℕ
 
--- a seed's text: a byte for the kind, eight for the clock, eight for the start, and the content
+-- the seed in a text: a byte for the kind, eight for the clock, eight for the start, and the
+-- content
 unfoldable pub seed_in : List ℕ → Result Seed Malformed
 seed_in text = do
   kind ← number_in w8 text
@@ -33,29 +35,29 @@ seed_in text = do
   start ← number_in w64 now.1
   Ok (record { kind = kind.0; now = now.0; start = start.0; content = start.1 })
 
--- the state of a device whose completing layer begins again
+-- the state of a device whose completing layer restarts
 abbrev pub started_anew : Seed → Record → DeviceState
 started_anew seed device =
     record { time = seed.now; layer = new_completion seed.start; device = device }
 
--- a device as it is manufactured with 256 random bytes
+-- a new device; the 256 random bytes of the seed become its secrets
 abbrev pub state_made : Seed → Option DeviceState
 state_made seed =
     if length seed.content == 256 then Some (started_anew seed (manufactured seed.content)) else None
 
--- the device of an image, as power comes on
+-- the device of an image, as after a power cycle
 abbrev pub state_opened : Seed → Result NonVolatile ImageFault → Option DeviceState
 state_opened seed (Ok kept) = Some (started_anew seed (powered_on kept))
 state_opened seed (Err why) = None
 
--- the layer of a device that is restored from a state text. It has a new start, since the device
--- of the text may have made more contexts, whose sequences this device uses again. So the contexts
--- that were made before do not load
+-- the layer of a device that is restored from a state text. It gets a new start number, because the
+-- original device may have made more contexts since, with sequence numbers that this device uses
+-- again. So contexts that were made before do not load
 abbrev pub layer_restored : (start : ℕ) → Option Layer → Completion
 layer_restored start (Some layer) = record (completion_of (Some layer)) { start = start }
 layer_restored start None = new_completion start
 
--- the device of a state text, with its layer, if it has one
+-- the device of a state text, with the layer that the text contains, if any
 abbrev pub state_restored : Seed → Result WholeState StateFault → Option DeviceState
 state_restored seed (Ok whole) = Some (record {
   time = seed.now;
@@ -64,7 +66,7 @@ state_restored seed (Ok whole) = Some (record {
 })
 state_restored seed (Err why) = None
 
--- the state in which a device begins of a seed, if it does
+-- the state in which a device with this seed begins; None if the seed is not valid
 unfoldable pub begun_of : Seed → Option DeviceState
 begun_of seed =
     if seed.kind == 0 then state_made seed
@@ -75,6 +77,7 @@ abbrev pub begun_by : Result Seed Malformed → Option DeviceState
 begun_by (Ok seed) = begun_of seed
 begun_by (Err why) = None
 
--- the state in which a device begins of a seed's text, if it does
+-- the state in which a device with the seed in a text begins; None if the text is not that of a
+-- valid seed
 abbrev pub begun_in : List ℕ → Option DeviceState
 begun_in text = begun_by (seed_in text)

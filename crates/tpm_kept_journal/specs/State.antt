@@ -1,5 +1,5 @@
--- The state of a kept device as a text: the time of its journal, and all that the device and its
--- completing layer are.
+-- The state of a kept device as a text: the time of its journal, and the state text of the device
+-- and its completing layer.
 use Rattle.std.specs.Prelude.{ℕ, ◌<◌, ◌^◌, List, ◌++◌, drop, take, Option, Some, None, Result, Ok, Err}
 use Rattle.std.specs.Int.{w64, from_be_bytes, to_be_bytes}
 use Rattle.tpm_completion.specs.declared.completion.Completion.{Completion}
@@ -19,20 +19,21 @@ pub record DeviceState : Type 0 where
   pub layer : Completion
   pub device : Record
 
--- the device and its layer, as a state text has them
+-- the device and its layer, in the form that a state text encodes
 abbrev pub whole_of : DeviceState → WholeState
 whole_of s = record { device = s.device; layer = Some (layer_of s.layer) }
 
--- A state is one that a device can have, by the sizes and widths of its parts.
+-- The state is one that a device can have: its parts have the sizes and fit the integer types of a
+-- device.
 pub record IsDeviceState (s : DeviceState) : Type 0 where
   pub time : s.time < 2 ^ 64
   pub whole : IsWholeState (whole_of s)
 
--- the text of a state: the time in eight bytes, and the state text
+-- the text of a state: the time in eight bytes, then the state text
 unfoldable pub bytes_of : DeviceState → List ℕ
 bytes_of s = to_be_bytes w64 s.time ++ state_text (whole_of s)
 
--- the state of a text, if it is of one: a state text without a layer is not
+-- the state in a text; None if the state text has no layer
 abbrev pub state_with : (time : ℕ) → Record → Option Layer → Option DeviceState
 state_with time device (Some layer) =
     Some (record { time = time; layer = completion_of (Some layer); device = device })
@@ -42,7 +43,7 @@ abbrev pub state_by : (time : ℕ) → Result WholeState StateFault → Option D
 state_by time (Ok whole) = state_with time whole.device whole.layer
 state_by time (Err why) = None
 
--- the time and the state text in a text
+-- the time in the text of a state; and the state text in it
 abbrev pub time_in : List ℕ → ℕ
 time_in text = from_be_bytes w64 (take 8 text)
 
@@ -52,7 +53,7 @@ content_in text = drop 8 text
 unfoldable pub state_of_bytes : List ℕ → Option DeviceState
 state_of_bytes text = state_by (time_in text) (current_state_of_text (content_in text))
 
--- the state of a device with this journal, and its spot
+-- the state of a device with this journal; and its spot, which also contains the sum of the journal
 abbrev pub state_in : Journal → Record → DeviceState
 state_in journal device =
     record { time = journal.time; layer = journal.layer; device = device }

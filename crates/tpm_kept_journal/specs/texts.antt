@@ -1,4 +1,4 @@
--- What the text of a journal says, as functions of the text.
+-- What the text of a journal contains, as functions of the text.
 pub mod Parts
 pub mod EntryAt
 pub mod HeadAt

@@ -1,4 +1,5 @@
-//! The laws of a kept device's journal and of its states. The functions do nothing.
+//! The laws of a kept device's journal and of its states. Each function is a proof only: it has no
+//! effect at run time.
 
 ghost use Rattle.std.specs.Prelude.{◌≡◌, ◌≤◌, ℕ, List, Some, take};
 ghost use Rattle.tpm_bytes.specs.Reading.{AreBytes};
@@ -13,18 +14,18 @@ ghost use Rattle.tpm_kept_journal.specs.State.{DeviceState, IsDeviceState, bytes
 ghost use Rattle.tpm_kept_journal.specs.State.{whole_of};
 ghost use Rattle.tpm_state_text.specs.State.{state_text};
 
-/// The journal of a kept device meets what a keeper needs: whatever is executed, wherever the
-/// journal is cut, and whatever a crash leaves, it opens as the device that executed the whole
-/// entries.
+/// The journal of a kept device satisfies what a keeper requires: whatever is executed, wherever
+/// the journal is cut, and whatever a crash leaves, it opens as the device that executed the
+/// complete entries.
 #[inline(always)]
 #[tactic(auto, using(crate::proofs::JournalLaws::device_is_a_journal))]
 pub fn device_journal_laws()
     ensures { IsJournal device_journal }
 {}
 
-/// The text of a state that a device can have says just that state, and a journal in this state
-/// begins with the head that holds its state text. The other heads of device_journal are those of
-/// texts that are no states.
+/// The text of a state that a device can have determines this state. A journal in this state begins
+/// with the head that contains the state text. The other heads of `device_journal` belong to texts
+/// that are not those of a state.
 #[inline(always)]
 #[tactic(auto, using(crate::proofs::States::state_told, crate::proofs::Shown::head_shown))]
 pub fn device_state_laws()
@@ -34,7 +35,8 @@ pub fn device_state_laws()
 {}
 
 /// The completing layer of a device that begins has the start of the seed, also if the device is
-/// restored from a state text with a layer. So the contexts that were made before do not load.
+/// restored from a state text with a layer. So the contexts that were made before do not load. A
+/// proof only: it has no effect at run time.
 #[inline(always)]
 #[tactic(auto, using(crate::proofs::Beginning::begins_with))]
 pub fn start_laws()
@@ -42,7 +44,8 @@ pub fn start_laws()
         → s.layer.start ≡ seed.start }
 {}
 
-/// What is salvaged of a text of bytes is the device of the longest front that opens.
+/// The device that is salvaged from a text of bytes is that of the longest prefix that opens as a
+/// journal.
 #[inline(always)]
 #[tactic(auto, using(crate::proofs::Salvaging::salvages, crate::proofs::Longest::longest))]
 pub fn salvage_laws()

@@ -1,4 +1,5 @@
-//! The laws of what can be read from the text of a journal. Each function does nothing.
+//! Laws about what is read from the text of a journal. Each function is a proof only: it has no
+//! effect at run time.
 
 ghost use Rattle.std.specs.Prelude.{◌≡◌, ◌<◌, ◌++◌, ℕ, List, [], Option, Some, None, Ok, Err, Decides, drop, false, length, take, true};
 ghost use Rattle.std.specs.List.{AllByRecursion};
@@ -15,7 +16,8 @@ ghost use Rattle.tpm_kept_journal.specs.texts.NextAt.{IsNext, PlainNext, next_at
 ghost use Rattle.tpm_kept_journal.specs.texts.StartAt.{start_at};
 ghost use Rattle.tpm_kept_journal.specs.texts.TornText.{is_litter, is_torn_text};
 
-/// The entry at the front of a text is the one of which the text begins with its one text.
+/// A text begins with the text of an entry exactly if reading the text finds this entry at its
+/// start.
 #[inline(always)]
 pub fn entry_at_laws()
     ensures written { (sum : ℕ) (e : PlainEntry) (rest : List ℕ) → IsEntry e
@@ -27,7 +29,7 @@ pub fn entry_at_laws()
         → entry_at sum text ≡ None }
 {}
 
-/// The head at the front of a text is the one of which the text begins with its one text.
+/// A text begins with the text of a head exactly if reading the text finds this head at its start.
 #[inline(always)]
 pub fn head_at_laws()
     ensures written { (h : PlainHead) (rest : List ℕ) → HasHead h.kind h.clock h.content
@@ -41,14 +43,14 @@ pub fn head_at_laws()
         → head_at text ≡ None }
 {}
 
-/// The test of a torn text holds of exactly the texts that are torn.
+/// The test for torn texts holds for exactly the texts that are torn.
 #[inline(always)]
 pub fn torn_text_laws()
     ensures { (sum : ℕ) (text : List ℕ) → Decides (is_torn_text sum text) (IsTorn sum text) }
 {}
 
-/// What is at the front of a text is one of three, no text is two of them, and the code that reads
-/// a text finds it.
+/// Every text begins with an entry, or is torn, or is damaged; no two of these hold for one text.
+/// The code that reads a text finds which one holds.
 #[inline(always)]
 pub fn next_at_laws()
     ensures is { (sum : ℕ) (text : List ℕ) → IsNext sum text (next_at sum text) }
@@ -58,7 +60,8 @@ pub fn next_at_laws()
         → next_at sum text ≡ plain_next next }
 {}
 
-/// Where an entry is at the front the text is not torn; where a text is torn or damaged, none is.
+/// A text that begins with an entry is not torn. A text that is torn or damaged does not begin with
+/// an entry.
 #[inline(always)]
 pub fn next_laws()
     ensures whole { (sum : ℕ) (e : PlainEntry) (rest text : List ℕ) → IsEntry e
@@ -70,8 +73,8 @@ pub fn next_laws()
         → (entry_at sum text ≡ None) × (is_torn_text sum text ≡ false) }
 {}
 
-/// What a crash leaves of an entry is torn: nothing, a front of the entry, a front of what was
-/// torn before, with zeros after it.
+/// What a crash leaves of an entry is torn: nothing; a prefix of the entry; or a prefix of an
+/// earlier torn text, followed by zeros.
 #[inline(always)]
 pub fn litter_laws()
     ensures nothing { (sum : ℕ) → is_torn_text sum [] ≡ true }
@@ -83,8 +86,8 @@ pub fn litter_laws()
     ensures clean { is_litter [] ≡ true }
 {}
 
-/// The entries at the front of a text are those of which the text begins with their texts, and no
-/// entry is after them.
+/// The entries at the start of a text are exactly those whose texts the text begins with; no
+/// further entry follows them.
 #[inline(always)]
 pub fn entries_at_laws()
     ensures written { (sum : ℕ) (entries : List PlainEntry) (rest : List ℕ)
@@ -100,7 +103,8 @@ pub fn entries_at_laws()
         ≡ entries ++ entries_at (sum_after_all sum entries) rest }
 {}
 
-/// A journal starts by the head at the front of its text, or by none for the fault that is found.
+/// A journal starts with the head at the beginning of its text, or does not start because of the
+/// fault that is found.
 #[inline(always)]
 pub fn start_at_laws()
     ensures starts { (text : List ℕ) (start : Start) (rest : List ℕ)

@@ -1,4 +1,4 @@
--- Computes the example of a replay.
+-- Computes the example of a buffer that occurs twice in a history.
 use Rattle.std.proofs.Common.{◌≡◌, ◌≢◌, [], ◌∷◌, Some, None, Ok, refl, sym, ◌∙◌}
 use Rattle.tpm_commands.specs.CommandCode.{code_named, shape_of}
 use Rattle.tpm_actions_device.specs.StartAuthSession.{parameters_in}

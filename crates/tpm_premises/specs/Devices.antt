@@ -9,7 +9,8 @@ use Rattle.tpm_step.specs.FailedRun.{protected_index, tried}
 abbrev pub seeded : (byte : ℕ) → Record
 seeded byte = manufactured (replicate 256 byte)
 
--- Two devices with different seeds are alike before any command.
+-- Two devices with different seeds, before any command, follow the same history and show the same
+-- views (`AreAlike`).
 pub record AreTwoDevices : Type 0 where
   pub alike : AreAlike (seeded 0) (seeded 1) []
   pub differ : seeded 0 ≢ seeded 1

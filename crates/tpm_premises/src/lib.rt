@@ -5,8 +5,8 @@
 //! journals.
 //!
 //! A law whose premise can never be satisfied says nothing. Each example here satisfies one
-//! premise, by computation. Each law is the contract of a function that has no effect at run
-//! time. No crate depends on this one.
+//! premise, by computation. Each law is the contract of a function that has no effect at run time.
+//! No crate depends on this one.
 
 ghost use Rattle.tpm_premises.specs.Contexts.{HasSavedObject};
 ghost use Rattle.tpm_premises.specs.Devices.{AreTwoDevices, AreTwoSecrets};
@@ -39,8 +39,8 @@ pub fn replay_premise()
     ensures { HasReplay }
 {}
 
-/// Two devices with different seeds are alike, and two with different data in an index differ
-/// only in secrets.
+/// Two devices with different seeds follow the same history and show the same views (`AreAlike`).
+/// Two devices with different data in an index differ only in secrets.
 #[inline(always)]
 #[tactic(auto, using(crate::proofs::Devices::are_two_devices, crate::proofs::Devices::are_two_secrets))]
 pub fn device_premises()

@@ -7,8 +7,6 @@ use Rattle.tpm_containers.specs.Numbered.{at_number, changed_at, if_of_kind, kin
 use Rattle.tpm_containers.specs.Slots.{at_place, free, lowest_free}
 use Rattle.tpm_containers.specs.SortedMap.{Entries, at_key, changed_key, kept_entries, with_key, without_key}
 
--- Applying a function to the chosen one of two values gives the same as choosing between the
--- function's results.
 pub chosen : {A B : Type 0} (g : A → B) (b : Bool) (x y : A) → cond b (g x) (g y) ≡ g (cond b x y)
 chosen g true x y = refl
 chosen g false x y = refl

@@ -77,8 +77,8 @@ module _ (s : Secrecy) where
       ∙ ap (cond (is_nv_index handle) (bare_entity (option_map_or AnIndex (index_of r handle) Permanent))) (ap (λ (found : Option Object). option_map_or AnObject found Permanent) (object_of_bare r handle) ∙ of_object (object_of r handle))
       ∙ chosen bare_entity (is_nv_index handle) (option_map_or AnIndex (index_of r handle) Permanent) (option_map_or AnObject (object_of r handle) Permanent)
 
-  -- A property that is the same for each entity with and without its secrets is the same on both
-  -- devices.
+  -- A property of entities that does not depend on their secrets is the same on a device and on the
+  -- device with its secrets erased.
   pub seen_bare : {X : Type 0} (see : Entity → X) → ((x : Entity) → see (bare_entity x) ≡ see x) → (r : Record) (handle : Handle) → see (entity_at (without_secrets s r) handle) ≡ see (entity_at r handle)
   seen_bare see same r handle = ap see (entity_bare r handle) ∙ same (entity_at r handle)
 

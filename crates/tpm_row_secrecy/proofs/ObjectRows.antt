@@ -77,7 +77,7 @@ module _ (s : Secrecy) (r : Record) (q : Request) where
   data_shown : (o : Object) → has_secret_data s o ≡ false → bare_object s o ≡ other_value o
   data_shown o shown = rw (unless_open _ o.seed_value shown, unless_open _ o.sensitive shown) refl
 
-  -- A step: a storage parent is not a KEYEDHASH object, so it has no secret data.
+  -- A storage parent is not a KEYEDHASH object, so it has no secret data.
   parent_shown : (cipher restricted decrypt sign secret : Bool) → (cipher && restricted && decrypt && sign) ≡ true → (not cipher && secret) ≡ false
   parent_shown true restricted decrypt sign secret is = refl
   parent_shown false restricted decrypt sign secret is = absurd (false≢true is)

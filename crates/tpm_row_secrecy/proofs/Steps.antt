@@ -36,16 +36,15 @@ same_end s answer a b same = alike_end (bare_success s) _ _ (ap (λ (r : Record)
 pub same_unchanged : (s : Secrecy) (r : Record) (answer : AnswerParts) → Same s (Ok (unchanged (without_secrets s r) answer)) (Ok (unchanged r answer))
 same_unchanged s r answer = same_end s answer _ _ (record_again s r)
 
--- If a change gives the same record whether secrets are erased before or after it, both devices
--- look the same after the change.
+-- Suppose that a change gives the same record whether secrets are erased before or after it. Then a
+-- device, and the same device with its secrets erased, still look the same after the change.
 pub change_same : (s : Secrecy) (change : Record → Record) → ((r : Record) → without_secrets s (change r) ≡ change (without_secrets s r)) → (r : Record) → without_secrets s (change (without_secrets s r)) ≡ without_secrets s (change r)
 change_same s change apart r = apart (without_secrets s r) ∙ ap change (record_again s r) ∙ sym (apart r)
 
 pub same_change : (s : Secrecy) (r : Record) (answer : AnswerParts) (change : Record → Record) → ((r : Record) → without_secrets s (change r) ≡ change (without_secrets s r)) → Same s (Ok (record { answer = answer; after = change (without_secrets s r) })) (Ok (record { answer = answer; after = change r }))
 same_change s r answer change apart = same_end s answer _ _ (change_same s change apart r)
 
--- If a row ends with a change of NV indices that looks the same on both devices, the rows look the
--- same.
+-- If two rows end with changes of NV indices that look the same, the rows look the same.
 pub same_changed : {F : Type 0} (s : Secrecy) (r : Record) (refusal : F → Refused) (x y : Result NvContents F) → NvAlike s x y → Same s (or_refusal refusal x >>= λ nv. Ok (changed_nv (without_secrets s r) nv)) (or_refusal refusal y >>= λ nv. Ok (changed_nv r nv))
 same_changed s r refusal x y alike =
     alike_after (bare_nv s) (bare_success s) _ _ _ _ (alike_refusal (bare_nv s) refusal x y alike)
@@ -96,7 +95,7 @@ target_bare s r q = target_by (first_handle q.handles) (second_handle q.handles)
 pub same_target : (s : Secrecy) (r : Record) (q : Request) (f g : Target → Result Success Refused) → ((t : Target) → Same s (f t) (g t)) → Same s (target_of (without_secrets s r) q >>= f) (target_of r q >>= g)
 same_target s r q f g more = same_both s _ _ f g (target_bare s r q) more
 
--- A step: the index of a command's target is the one that the second handle names.
+-- The index of a command's target is the one that the second handle names.
 handle_of_target : (b : Handle) (x : Result NvAttributes Refused) (a : Handle) (t : Target) → (x >>= λ c. let y : Result Target Refused = Ok (record { auth_handle = a; handle = b; attributes = c }) in y) ≡ Ok t → b ≡ t.handle
 handle_of_target b (Err e) a t is = absurd cc
 handle_of_target b (Ok c) a t is = ap (λ (x : Result Target Refused). target_handle x) is

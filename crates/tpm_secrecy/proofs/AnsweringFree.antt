@@ -188,7 +188,7 @@ module _ (s : Secrecy) (r : Record) (locality : ℕ) (random : List ℕ) (a : Ac
       (first_stays s a.command.code r a.request (subst (HandlesFit r (shape_of a.command.code).handles) (sym handles_same) accepts.fits)) accepts.row
       h (ap first_handle handles_same ∙ first)
 
-  -- A step: new nonces do not change whether a handle has a secret value.
+  -- New nonces do not change whether a handle has a secret value.
   rolled_open : (h : Handle) (es : List Entry) (left : List ℕ) (t : Record) → has_secret_value s (entries_rolled t es left).after h ≡ has_secret_value s t h
   unfolding entity_at object_of entry_rolled
   rolled_open h [] left t = refl

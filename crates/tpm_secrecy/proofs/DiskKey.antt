@@ -32,7 +32,7 @@ module _ (public : Public) (selection : List BankSelection) (values name referen
   policy_text : IsPolicyExpression public.name_alg policy
   policy_text = (((tt, length-hash_of public.name_alg values), tt), ((tt, tt), tt))
 
-  -- the PCRs have the values of the policy
+  -- the selected PCRs have the values that the policy requires
   have_values : (history : History) (u : PolicyUse) → u.history ≡ history → u.session.hash ≡ public.name_alg → HasPcrsNow u selection (hash_of public.name_alg values) → HavePcrValues history public.name_alg selection values
   have_values history u now same met =
       elim (is_same_or_not (concat (flat_map (values_in history) selection)) values) [

@@ -54,8 +54,6 @@ use Rattle.tpm_secrecy.proofs.Guessing.{doubted_authorization, doubted_is}
 use Rattle.tpm_secrecy.specs.Guesses.{BindingsHold, GuessesFail, NoneUses}
 use Rattle.tpm_secrecy.specs.Tells.{Attempts, EventKeepsSecrets, EventsAlike, KeepsSecrets, RunOfWrongGuessesTellsNothing, RunsAlike, TellsNothing, WrongGuessesTellNothing, answers_to, granted_reads}
 
--- if two functions read each handle of a command in the same way, they read all handles in the same
--- way
 each_read_same : {X A E : Type 0} (f g : ℕ → X → List ℕ → Result (A × List ℕ) E) → ((n : ℕ) (x : X) (text : List ℕ) → f n x text ≡ g n x text) → (n : ℕ) (xs : List X) (text : List ℕ) → each_at f n xs text ≡ each_at g n xs text
 each_read_same f g same n [] text = refl
 each_read_same {A = A} {E = E} f g same n (x ∷ xs) text =
@@ -312,7 +310,8 @@ module _ (s : Secrecy) (covers : CoversKeys s) where
 pub wrong_guesses_tell_nothing : WrongGuessesTellNothing
 wrong_guesses_tell_nothing s covers one other refused event also differ alike keeps keeps_also = told_nothing s covers refused one other event also differ alike keeps keeps_also
 
--- A step: if one event and the events after it reveal nothing, all of them together reveal nothing.
+-- If one event reveals nothing, and the events after it reveal nothing, all of them together reveal
+-- nothing.
 pub runs_on : (s : Secrecy) (one other : Record) (e f : Bool × PlainEvent) (es fs : Attempts) → TellsNothing s (step_where e.0 one e.1) (step_where f.0 other f.1) → RunsAlike s (step_where e.0 one e.1).after (step_where f.0 other f.1).after es fs → RunsAlike s one other (e ∷ es) (f ∷ fs)
 runs_on s one other e f es fs this rest =
     let x : Stepped = step_where e.0 one e.1 in

@@ -86,7 +86,8 @@ SealedDataNeedPolicy =
 
 -- ---- until a command reads the data
 
--- No command that is accepted in these executions, after this history, has this property.
+-- Among the commands that are accepted in these executions, after this history, none has this
+-- property.
 abbrev pub NoneIs : (History → AcceptedCommand → Type 0) → History → List Execution → Type 0
 NoneIs Holds history [] = Unit {0}
 NoneIs Holds history (one ∷ executions) =

@@ -65,10 +65,10 @@ pub record TellsNothing (s : Secrecy) (x y : Stepped) : Type 0 where
   pub row : x.row ≡ y.row
   pub after : DifferInSecrets s x.after y.after
 
--- Suppose that only data is secret, and that two devices differ only in this data. An event that
--- does not read it on one device reveals nothing about it. If the event places an object, the
--- object that the other device places may differ in this data too. Allocations may fail on both
--- devices, or on neither.
+-- Suppose that only the data of objects and NV indices is secret, and that two devices differ only
+-- in this data. If an event does not read the data on one of the devices, it reveals nothing about
+-- the data. If the event places an object, the object that the other device places may differ in
+-- its data too. Allocations may fail on both devices, or on neither.
 abbrev pub EventTellsNothing : Type 0
 EventTellsNothing =
     (indices : ℕ → Bool) (objects : Public → Bool) (one other : Record) (refused : Bool)
@@ -77,7 +77,8 @@ EventTellsNothing =
     DifferInSecrets s one other → EventsAlike s event also → is_reading s one event ≡ false
     → TellsNothing s (step_where refused one event) (step_where refused other also)
 
--- An event reads secret data on both of two devices that differ only in this data, or on neither.
+-- Suppose that two devices differ only in secret data. An event reads such data on both of them, or
+-- on neither.
 abbrev pub ReadOnBoth : Type 0
 ReadOnBoth =
     (indices : ℕ → Bool) (objects : Public → Bool) (one other : Record) (event : PlainEvent)

@@ -65,7 +65,7 @@ both_hold : (b c : Bool) → (b && c) ≡ false → b ≡ true → c ≡ false
 both_hold true c none holds = none
 both_hold false c none holds = absurd cc
 
--- the number of a supported command has 32 bits
+-- The number of a supported command fits in 32 bits.
 served_small : (number : ℕ) → is_served number ≡ true → number < 2 ^ 32
 served_small number served = by (code_named number) (code_named-number number) served
   where

@@ -1,5 +1,5 @@
--- If two devices follow one history and show the same views of each handle, they authorize the
--- same.
+-- Two devices that follow the same history, and show the same views of each handle, authorize each
+-- command in the same way.
 use Rattle.std.proofs.Common.{◌≡◌, Bool, true, false, [], Option, Some, None, option_map, refl, ap, sym, subst, ◌∙◌}
 use Rattle.std.specs.Option.{option_map_or}
 use Rattle.tpm_session.specs.Sessions.{session_at}
@@ -25,7 +25,7 @@ use Rattle.tpm_step.proofs.Views.{views_tell}
 use Rattle.tpm_step.specs.Alike.{AuthorizeAlike}
 use Rattle.tpm_step.proofs.AuthorizeAlike.{authorize_same}
 
--- A step: the history determines every field of a device's session.
+-- The history determines every field of a device's session.
 unbound : Bound → Binding
 unbound b = record { name = b.name; auth_value = b.auth_value; protection = b.protection }
 
@@ -72,8 +72,8 @@ kept_viewed : (r : Record) (handle : Handle) → is_viewed (view_of r handle) �
 unfolding view_of
 kept_viewed r handle = viewed_kept handle (entity_at r handle)
 
--- A step: an entity that is neither an object nor an index has the authorization value of its
--- permanent handle.
+-- An entity that is neither an object nor an index has the authorization value of its permanent
+-- handle.
 permanent_value : (r : Record) (handle : Handle) (x : Entity) → is_kept x ≡ false → entity_auth_value r handle x ≡ permanent_auth_value r handle
 permanent_value r handle (AnObject object) none = absurd cc
 permanent_value r handle (AnIndex index) none = absurd cc
@@ -83,8 +83,8 @@ other_value : (r : Record) (handle : Handle) → is_kept (entity_at r handle) �
 unfolding auth_value_of
 other_value r handle none = permanent_value r handle (entity_at r handle) none
 
--- A step: the handle of a hierarchy or of lockout has the authorization value of this hierarchy or
--- of lockout.
+-- The handle of a hierarchy or of lockout has the authorization value of this hierarchy or of
+-- lockout.
 hierarchy_seen : (r : Record) (a : HierarchyAuth) → auth_seen r (auth_handle a) ≡ Some (permanent_auth_value r (auth_handle a))
 hierarchy_seen r auth.Owner = refl
 hierarchy_seen r _ = refl

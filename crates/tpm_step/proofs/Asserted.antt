@@ -89,7 +89,7 @@ module _ (r : Record) (c : AcceptedCommand) (history : History) (viewed : c.view
         makes = λ trial policy. ap (λ (parts : PcrParts). policy_with s.hash trial (Pcr parts) policy) (pcr_same p s);
       })
 
-  -- A step: an assertion that depends only on the command's parameters is the one that the history
+  -- An assertion that depends only on the command's parameters is the one that the history
   -- determines.
   by_reading : (X : Type 0) (code : Code) (read : Result X Refused) (make : X → Assertion) → ((s : Session) → assertion_by code c history s.hash s.nonce_tpm ≡ (read >>= λ x. Ok (make x))) → IfOk (read >>= λ x. Ok (λ (s : Session). make x)) (IsAsserted c history code)
   by_reading X code read make told =

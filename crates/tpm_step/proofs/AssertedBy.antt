@@ -82,7 +82,7 @@ module _ (c : AcceptedCommand) (history : History) (handle : Handle) (new : Live
   later : (one : Assertion) → IsAmong one new.assertions → HasOrigin history handle one → Origin one
   later one among origin = later_origin (Done c) history handle one (new, lives, among) origin
 
-  -- A step: if the command itself makes the assertion, the assertion has an origin.
+  -- If the command itself makes the assertion, the assertion has an origin.
   itself : (old : LiveSession) (one : Assertion) → sessions_of history handle ≡ Some old → session_handle c.command.code c.request.handles ≡ Ok handle → assertion_by c.command.code c history old.hash old.nonce_tpm ≡ Ok one → IsAmong one new.assertions → Origin one
   itself old one lived names asserts among = record {
     asserted = record {

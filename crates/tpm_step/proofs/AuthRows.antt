@@ -356,7 +356,7 @@ started_same : (nv : NvContents) → ShowSame nv (started nv)
 unfolding started
 started_same nv n = ap index_auth (all_changed_found started_index nv.indices n) ∙ started_shows (at_key nv.indices n)
 
--- A step: TPM2_Startup with CLEAR makes platformAuth empty.
+-- TPM2_Startup with CLEAR makes platformAuth empty.
 cleared_start : (r : Record) (fixed : Fixed) (values : AuthValues) → ((h : Handle) → permanent_auth_value (record r { fixed = fixed }) h ≡ permanent_auth_value (with_auth r auth.Platform []) h) → HaveValues r values → HaveValues (record r { fixed = fixed; nv = started r.nv }) (with_at platform_handle [] values)
 cleared_start r fixed values same have =
     let mid : Record = with_auth r auth.Platform [] in

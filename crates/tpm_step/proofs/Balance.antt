@@ -51,8 +51,7 @@ same_pays old new same = record {
   within = inl refl;
 }
 
--- A step: forgiving tries satisfies the inequality of `Pays`, if each forgiven try takes n
--- milliseconds.
+-- Forgiving tries satisfies the inequality of `Pays`, if each forgiven try takes n milliseconds.
 forgiven : (n tries passed elapsed : ℕ) → n * tries + cond ((tries - (passed + elapsed) / n) == 0) 0 (cond ((tries - (passed + elapsed) / n) == 0) 0 ((passed + elapsed) % n)) ≤ n * (tries - (passed + elapsed) / n) + cond (tries == 0) 0 passed + elapsed
 forgiven n tries passed elapsed = by (cases_eq tries 0) (cases_lt (time / n) tries)
   where
@@ -89,8 +88,8 @@ forgiven_pays elapsed s counts =
       within = inl refl;
     })
 
--- a change that satisfies `Pays`, followed by a change that keeps the failed tries, satisfies
--- `Pays`
+-- A change that satisfies `Pays`, followed by a change that keeps the failed tries, together
+-- satisfy `Pays`.
 then_same : (a b c : LockoutState) (elapsed : ℕ) → Pays a b 0 elapsed → SameTries b c → Pays a c 0 elapsed
 then_same a b c elapsed pays same = record {
   recovery_time = same.0 ∙ pays.recovery_time;
@@ -162,14 +161,13 @@ pays_more a b one failed all first elapsed whole counted passed pays rest = by p
         let zero : n * failed ≡ 0 = ap (λ k. n * k) nought ∙ mul-zero n in
         inr (omega (arith, pays.balance, most, sum, zero, passed))
 
--- A step: the bound on failed tries follows from the inequality of `Pays`.
+-- The bound on failed tries follows from the inequality of `Pays`.
 few_of : (n tries failed most passed elapsed : ℕ) → 0 < n → passed < n → n * tries + n * failed ≤ n * most + cond (tries == 0) 0 passed + elapsed → failed ≤ most + elapsed / n
 few_of n tries failed most passed elapsed some below paid = by (cases_lt (most + elapsed / n) failed)
   where
     q : ℕ
     q = elapsed / n
 
-    -- A step: the time that counted at the start does not raise the bound.
     under : (tries ≡ 0) ⊎ (tries ≡ 0 → ⊥) → n * failed ≤ n * most + elapsed
     under (inl none) =
         let at : n * 0 + n * failed ≤ n * most + 0 + elapsed = rw none at paid in

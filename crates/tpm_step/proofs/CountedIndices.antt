@@ -51,7 +51,6 @@ others_count handle count at other index apart counts counter =
     let was = counts counter in
     record { stays = was.stays; value = was.value ∙ sym (at_other handle other count at apart) }
 
--- equal contents have equal counters
 same_counted : (old new : NvContents) (c : Counters) → new ≡ old → AreCounted old c → AreCounted new c
 same_counted old new c same are = subst (λ (nv : NvContents). AreCounted nv c) (sym same) are
 
@@ -81,7 +80,7 @@ auth_counted old new c made are =
 
 -- ---- incrementing a counter
 
--- A step: the next value of a counter is one more than its value or, if it has none, than the
+-- The next value of a counter is one more than its value or, if it has none, one more than the
 -- largest value.
 next_by : (b : Bool) (most n : ℕ) → next_count most (cond b (Some n) None) ≡ cond b n most + 1
 next_by true most n = refl
@@ -130,7 +129,6 @@ increment_counted q old new c made are =
 counter_number : (n : ℕ) → nv_type_named n ≡ Some type.Counter → (n == 1) ≡ true
 counter_number n is = grind (arith, nat_tests)
 
--- if no test in a list holds, the test at each position fails
 none_in : (tests : List Bool) (n : ℕ) → list_any (λ wrong. wrong) tests ≡ false → get_or tests n false ≡ false
 none_in [] n none = refl
 none_in (test ∷ tests) zero none = (or_parts test (list_any (λ wrong. wrong) tests) none).0
@@ -173,7 +171,7 @@ clear_counted contents c up are = record { most = are.most; each = cleared_each 
 
 -- ---- a startup
 
--- Two sets of attributes agree about WRITTEN, CLEAR_STCLEAR and the type of the index.
+-- Two sets of attributes have the same WRITTEN, CLEAR_STCLEAR and type of the index.
 abbrev Alike : NvAttributes → NvAttributes → Type 0
 Alike a b = (index_type b ≡ index_type a) × (has b attribute.Written ≡ has a attribute.Written) × (has b attribute.ClearStClear ≡ has a attribute.ClearStClear)
 

@@ -14,7 +14,6 @@ use Rattle.tpm_record.specs.Record.{Record}
 use Rattle.tpm_step.specs.History.{History}
 use Rattle.tpm_step.specs.Pcrs.{digest_in, pcr_of}
 
--- A step: the values of the chosen numbers stay equal when one more number is considered.
 one_more : (f g : ℕ → List ℕ) (n : ℕ) (chosen : Bool) (a b : List (List ℕ)) → a ≡ b → f n ≡ g n → a ++ map f (cond chosen (n ∷ []) []) ≡ b ++ map g (cond chosen (n ∷ []) [])
 one_more f g n true a b before here = rw (before, here) refl
 one_more f g n false a b before here = rw before refl

@@ -73,11 +73,9 @@ nothing_used : (r : Record) (s : Session) → used_auth_value r s None ≡ []
 unfolding used_auth_value
 nothing_used r s = refl
 
--- the position of an entry is its number minus one
 less_one : (place : ℕ) → (place + 1) - 1 ≡ place
 less_one place = omega arith
 
--- two lists of equal length have the same positions
 same_place : {X Y : Type 0} (xs : List X) (ys : List Y) (place : ℕ) (x : X) → length ys ≡ length xs → slice_get xs place ≡ Some x → (y : Y) × (slice_get ys place ≡ Some y)
 same_place [] ys place x many is = absurd cc
 same_place (first ∷ xs) [] place x many is = absurd (omega (arith, many))
@@ -255,8 +253,8 @@ module _ (r : Record) (c : AcceptedCommand) (history : History) (locality : ℕ)
       ByPassword is (taken means.AuthValue place handle at (asked available _ u may))
       (password_told r c history viewed valued live place handle e at (asked holds _ v same)))))
 
-  -- A step: the grant of an entry has a property, if it has the property for the session that the
-  -- entry names.
+  -- If the grant of an entry has a property for every session that the entry may name, it has the
+  -- property.
   with_session : (P : Option Grant → Type 0) (place : ℕ) (used : Option Handle) (e : Entry) → ((s : Session) (l : LiveSession) → sessions_of history e.session ≡ Some l → session_facts s ≡ facts_of l → IfOk (session_grant r c.command locality (place + 1) used e s) P) → IfOk (session_grant_if r c.command locality (place + 1) used e (session_of r e)) P
   with_session P place used e each = by (session_of r e) (live e.session)
     where

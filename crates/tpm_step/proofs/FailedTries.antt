@@ -119,7 +119,6 @@ module _ (r : Record) (c : Whole) (locality n : ℕ) (used : Option Handle) (ent
       err_bind_is Q (may_be_tried r.fixed.lockout granted p) _ (err_if Q _ _ (other_at _ _ refl)) (λ tried may.
       err_bind Q (refused_if (not holds) _) _ (err_if Q _ _ (λ fails. failure_at granted p same touches (passed _ _ tried may))) (λ compared. tt))
 
--- A step: a password is refused by the same check as any entry that has to authorize this handle.
 same_check : (used : Option Handle) → check_of (option_map undemanding used) ≡ check_for used
 same_check None = refl
 same_check (Some handle) = refl
@@ -133,8 +132,8 @@ password_at r c locality n used e password =
     comparison_at r c locality n used e granted (used_protection r used) (is_password_of (granted_value r granted) e.hmac) (same_check used)
     (ap (λ k. touched_by k r c locality n used e) password))
 
--- A step: if the refusal of a session's demand counts a failed try or is AUTH_FAIL, it is the
--- refusal of entry n.
+-- If the refusal of a session's demand counts a failed try or is AUTH_FAIL, it is the refusal of
+-- entry n.
 demand_at : (k : SessionType) (r : Record) (c : Whole) (locality n : ℕ) (handle : Handle) (s : Session) (used : Option Handle) (e : Entry) → IfErr (demand_by k r c locality n handle s) (IfFailsAt r c locality n used e)
 demand_at type.Hmac r c locality n handle s used e = search (rules, err_bind, err_if, other_at)
 demand_at _ r c locality n handle s used e = search (rules, err_other, use_other, other_at)

@@ -308,7 +308,8 @@ run_follows g can old p events new q history run follows =
       stretch = stretch_follows can old executions new history leads follows;
     }
 
--- executions are a run of their events, if a closure was called with their outcomes
+-- If a closure was called with the outcomes of these executions, one after another, the executions
+-- are a run of their events.
 pub told_runs : {F : Type 0} (g : Mut F (Bor Outcome × Unit {0}) (Unit {0})) (can : Bool) (old : Record) (p : F) (executions : List Execution) (new : Record) (q : F) → Leads can old executions new → Tells g p executions q → Runs g can old p (map (λ (one : Execution). one.event) executions) new q
 told_runs g can old p [] new q leads told = (leads, told)
 told_runs g can old p (one ∷ executions) new q (first, executes, leads) (outcome, next, is, called, told) =

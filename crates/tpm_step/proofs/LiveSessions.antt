@@ -1,4 +1,5 @@
--- If a device and its history have the same sessions, they still have the same after both change.
+-- If a device and its history have the same sessions, they still have the same sessions after the
+-- same change of both.
 use Rattle.std.proofs.Common.{◌≡◌, ◌≢◌, ℕ, ◌^◌, ◌<◌, ◌==◌, arith, false, List, [], length, Option, Some, None, option_map, slice_set, refl, ap, sym, subst, ◌∙◌, inl, inr}
 use Rattle.std.specs.Prelude.{option_and_then}
 use Rattle.std.proofs.lemmas.Bool.{cases_eq, or_parts}
@@ -38,7 +39,6 @@ of_both P some none None None same = none
 of_both P some none (Some s) None same = absurd cc
 of_both P some none None (Some l) same = absurd cc
 
--- a property of the found session holds for every session found at the same handle
 pub of_one : (P : Session → Type 0) (found : Option Session) (one : Session) → found ≡ Some one → P one → (s : Session) → found ≡ Some s → P s
 of_one P found one is holds s also = subst P (same_Some one s (sym is ∙ also)) holds
 
@@ -121,13 +121,12 @@ changed_live change retell keeps places handle live alike are =
     (ap (option_map session_facts) (found_changed change keeps places handle.number) ∙ changed_matches change retell (session_at places handle) (live handle) alike (are handle))
     (λ other apart. changed_others session_byte change keeps places handle.number other.number apart) are
 
--- A step: the policy of an existing session changes as the history says.
+-- The policy of an existing session changes as the history says.
 pub policy_live : (places : List (Option Session)) (handle : Handle) (s : Session) (policy : Policy) (retell : LiveSession → LiveSession) (live : LiveSessions) → session_at places handle ≡ Some s → ChangesAs (λ s. with_policy s policy) retell s → AreLive places live → AreLive (with_session_policy places handle policy) (changed_session retell handle live)
 unfolding with_session_policy
 policy_live places handle s policy retell live is alike are =
     changed_live (λ s. with_policy s policy) retell (λ s. refl) places handle live (of_one (ChangesAs (λ s. with_policy s policy) retell) (session_at places handle) s is alike) are
 
--- A step: the facts of a session are the same after a change that does nothing.
 unchanged : (found : Option Session) → option_map session_facts found ≡ option_map session_facts (option_map (λ (s : Session). s) found)
 unchanged (Some s) = refl
 unchanged None = refl

@@ -90,8 +90,6 @@ was_then found later new back (mid, is, keeps) =
 
 -- ---- another session at one handle
 
--- A step: after a session is set at a handle, the session at this or another handle is the new one
--- or the old one.
 put_came : (P : Type 0) (handle other : Handle) (x : Option LiveSession) (live : LiveSessions) (new : LiveSession) → (other.number ≡ handle.number → x ≡ Some new → P) → (live other ≡ Some new → P) → with_at handle x live other ≡ Some new → P
 put_came P handle other x live new here elsewhere is =
     elim (cases_eq other.number handle.number) [
@@ -237,8 +235,9 @@ module _ (c : AcceptedCommand) (history : History) (some : 1 ≤ length (rolled_
 
 -- ---- the effects of a row
 
--- The origin of the session at a handle after a row: the command started it, without assertions; or
--- it was there before; or the command made an assertion on it.
+-- Where the session at a handle comes from, after the command's row took effect: the command
+-- started it, without assertions; or it existed before, and has the same assertions or none; or the
+-- command added an assertion to it.
 pub data Came (code : CommandCode) (c : AcceptedCommand) (history : History) (found : Option LiveSession) (handle : Handle) (new : LiveSession) : Type 0 where
   Begun : starts_under code c.answer.handle handle ≡ true → new.assertions ≡ [] → Came code c history found handle new
   Stayed : Was Keeps found new → Came code c history found handle new

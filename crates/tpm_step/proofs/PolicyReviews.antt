@@ -1,4 +1,4 @@
--- What policies that are often reviewed require of each use.
+-- What common kinds of policies require of each use.
 use Rattle.std.proofs.Common.{◌≡◌, ◌≢◌, ◌⊎◌, ℕ, arith, false, List, [], ◌∷◌, ◌++◌, Option, Some, None, option_and_then, slice_get, refl, ap, sym, subst, ◌∙◌, inl, inr}
 use Rattle.std.specs.List.{concat, flat_map}
 use Rattle.std.specs.Option.{option_map_or}
@@ -75,7 +75,7 @@ module _ (history : History) (c : AcceptedCommand) (place : ℕ) (handle : Handl
       let (e, given, ground, meets) = meet place handle used in
       by_ground e given ground meets
 
--- A step: a property of a use by a policy session may be replaced by one that follows from it.
+-- If a use by a policy session has a property, it has each property that follows from it.
 follows_so : (history : History) (c : AcceptedCommand) (place : ℕ) (hash : HashAlg) (policy : PolicyExpression) (P Q : PolicyUse → Type 0) → ((u : PolicyUse) → u.history ≡ history → u.command ≡ c → u.place ≡ place → u.session.hash ≡ hash → P u → Q u) → IsUsedBySession history c place hash policy P → IsUsedBySession history c place hash policy Q
 follows_so history c place hash policy P Q so by = record {
   handle = by.handle;

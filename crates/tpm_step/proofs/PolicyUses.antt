@@ -117,7 +117,7 @@ of_command history handle one by =
     ok_at (IsOf by.command.command.code by.command) (assertion_by by.command.command.code by.command by.before by.session.hash by.session.nonce_tpm) one
     (asserted_of by.command.command.code by.command by.before by.session.hash by.session.nonce_tpm) by.asserts
 
--- ---- one use by a policy session
+-- ---- one use of an entity, authorized by a policy session
 
 module _ (u : PolicyUse) (used : used_in u.command.command u.place ≡ Some u.handle) (kind : u.session.kind ≡ type.Policy) (meets : MeetsPolicy u.history u.command u.place u.entry u.session) (demanded : HasDemanded (is_password_demand (policy_in u.session).demand) u.history u.command u.place u.entry u.session) (find : AllFind u.session.hash u.session.assertions) (origins : (one : Assertion) → IsAmong one u.session.assertions → HasOrigin u.history u.entry.session one) where
   abbrev hash : HashAlg

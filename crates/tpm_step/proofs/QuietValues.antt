@@ -21,7 +21,7 @@ use Rattle.tpm_step.proofs.Digests.{AgreeBelow, digests_agree}
 
 -- ---- commands that write no PCR
 
--- if a command with this count writes no value, it does not name this PCR, or the count is 0
+-- If a command counts no write, it does not name this PCR, or it would count 0 writes for any PCR.
 unwritten : (handles : List Handle) (count pcr : ℕ) → pcr < 24 → if_pcr handles count ≡ 0 → (names_pcr handles pcr ≡ false) ⊎ (count ≡ 0)
 unwritten [] count pcr below is = inl refl
 unwritten (handle ∷ handles) count pcr below is = by (nat_lt handle.number 24) refl is
@@ -42,7 +42,8 @@ extended_none bank (Ok []) old is = refl
 extended_none bank (Ok (digest ∷ digests)) old is = absurd (omega (arith, is))
 extended_none bank (Err e) old is = refl
 
--- a command that would write two values of its PCR, but counts none, leaves each value unchanged
+-- A command that writes two values of the PCR that it names, but counts no write, leaves each value
+-- unchanged.
 never_two : (handles : List Handle) (pcr : ℕ) (new old : List ℕ) → pcr < 24 → if_pcr handles 2 ≡ 0 → cond (names_pcr handles pcr) new old ≡ old
 never_two handles pcr new old below is =
     elim (unwritten handles 2 pcr below is) [

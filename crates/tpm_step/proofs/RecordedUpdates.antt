@@ -219,7 +219,7 @@ module _ (r : Record) (a : Accepted) (locality : ℕ) (random : List ℕ) (histo
   updates_add command.Startup is = absurd cc
   updates_add _ is = refl
 
-  -- the assertions about PCRs that hold before a quiet command hold after it
+  -- The assertions about PCRs that held before a quiet command still hold after it.
   holds_more : (handle : Handle) (s : LiveSession) → has_pcrs (Done c ∷ history) handle ≡ true → IsQuiet (Done c) → HoldsPcrs handle history s → HoldsPcrs handle (Done c ∷ history) s
   holds_more handle s now quiet holds = record {
     quiet = one_more handle (Done c) history now quiet holds.quiet;

@@ -71,7 +71,7 @@ there_is : (found : Option LiveSession) → found ≢ None → (s : LiveSession)
 there_is (Some s) some = (s, refl)
 there_is None some = absurd (some refl)
 
--- A step: the session survives the first event of a stretch, and the events after it.
+-- If a session survives a stretch of events, it survives the first event and the events after it.
 first_apart : (handle : Handle) (between : History) (first : PastEvent) (before : History) → LivesThrough handle (between ++ first ∷ []) before → (starts first handle ≡ false) × (sessions_of (first ∷ before) handle ≢ None) × LivesThrough handle between (first ∷ before)
 first_apart handle [] first before through = (through.0, through.1, tt)
 first_apart handle (event ∷ between) first before through =
@@ -93,8 +93,8 @@ both_parts a b c d same is = (
 spread : (front decrypt encrypt attributes : List ℕ) → front ++ decrypt ++ encrypt ++ attributes ≡ front ++ (decrypt ++ (encrypt ++ attributes))
 spread front decrypt encrypt attributes = append_assoc (front ++ decrypt) encrypt attributes ∙ append_assoc front decrypt (encrypt ++ attributes)
 
--- if two texts have the same sizes of hash and nonce, and the same nonceCaller, they are equal only
--- if their nonceTPMs are equal
+-- Suppose that two HMAC texts contain hashes and nonces of the same sizes, and the same
+-- nonceCaller. They are equal only if their nonceTPMs are equal.
 nonce_alone : (hash other caller nonce again : List ℕ) (d e a d2 e2 a2 : List ℕ) → length hash ≡ length other → length nonce ≡ length again → hash ++ caller ++ nonce ++ d ++ e ++ a ≡ other ++ caller ++ again ++ d2 ++ e2 ++ a2 → nonce ≡ again
 nonce_alone hash other caller nonce again d e a d2 e2 a2 hashes nonces is =
     let heads : length (hash ++ caller) ≡ length (other ++ caller) = omega (arith, length-append hash caller, length-append other caller, hashes) in

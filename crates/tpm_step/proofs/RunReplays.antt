@@ -99,7 +99,6 @@ module _ (can : Bool) (old : Record) (history : History) (earlier : List Executi
   from_one = executed can old earlier one (meanwhile ++ two ∷ later) new leads
 
   module _ (first second : AcceptedCommand) (at_first : IsAcceptedAt replay.buffer one first) (at_second : IsAcceptedAt replay.buffer two second) where
-    -- the history with both events
     whole : history_after history (earlier ++ (one ∷ meanwhile ++ two ∷ later)) ≡ history_after [] later ++ (Done second ∷ between ++ Done first ∷ before)
     whole =
         history_joined history earlier (one ∷ meanwhile ++ two ∷ later)
@@ -109,7 +108,6 @@ module _ (can : Bool) (old : Record) (history : History) (earlier : List Executi
         ∙ ap (λ (h : History). history_after h later) (at_second.is (between ++ Done first ∷ before))
         ∙ history_apart later (Done second ∷ between ++ Done first ∷ before)
 
-    -- the history of the events from the first to the second
     stretch : history_after [] (one ∷ meanwhile) ≡ between ++ Done first ∷ []
     stretch = ap (λ (h : History). history_after h meanwhile) (at_first.is []) ∙ history_apart meanwhile (Done first ∷ [])
 

@@ -1,6 +1,6 @@
--- What a success does to the sessions of its entries, and the answer to each entry. TPM 2.0
--- Library, Part 1, section 19.6 (session nonces and HMACs), and Part 2, section 10.13.3
--- (TPMS_AUTH_RESPONSE).
+-- What a successful command does to the sessions in its authorization area, and its response to
+-- each entry there. TPM 2.0 Library, Part 1, section 19.6 (session nonces and HMACs), and Part 2,
+-- section 10.13.3 (TPMS_AUTH_RESPONSE).
 use Rattle.std.specs.Prelude.{ℕ, ◌+◌, ◌≤◌, ◌==◌, ◌||◌, not, List, [], ◌∷◌, ◌++◌, length, take, drop, if◌then◌else◌, Option, is_some}
 use Rattle.std.specs.List.{flat_map, fold}
 use Rattle.std.specs.Option.{option_map_or}
@@ -46,27 +46,27 @@ entries_rolled r (e ∷ es) left =
     let first = entry_rolled r e left in
     entries_rolled first.after es first.left
 
--- A row and the new nonces of the entries, which are drawn after it, take at most 192 of these
+-- The command's row, and then the new nonces of its entries, together draw at most 192 of these
 -- random bytes.
 abbrev pub DrawsFew : List ℕ → Record → List Entry → (drawn : ℕ) → Type 0
 DrawsFew random r entries drawn =
     length random ≤ length (entries_rolled r entries (drop drawn random)).left + 192
 
--- the answer to a password: no nonce, continueSession, no HMAC
+-- the response to an entry with a password: no nonce, continueSession, no HMAC
 abbrev pub password_answer : List ℕ
 password_answer = 0 ∷ 0 ∷ 1 ∷ 0 ∷ 0 ∷ []
 
--- the HMAC of an answer. Its key contains the entity's authorization value after the command's
--- effect. If the command changed this value, a session that was bound to the entity is no longer
--- bound to it. The HMAC is empty if the policy demanded a password, and also if the command's HMAC
--- was empty, even if the key no longer is (this device's own choice)
+-- the HMAC in the response to an entry. Its key contains the entity's authorization value after the
+-- command's effect. If the command changed this value, a session that was bound to the entity is no
+-- longer bound to it. The HMAC is empty if the policy demanded a password, and also if the
+-- command's HMAC was empty, even if the key no longer is (this device's own choice)
 unfoldable pub answer_mac : Record → HashedParts → Option Grant → Entry → Session → List ℕ
 answer_mac r hashed grant e s =
     if length e.hmac == 0 || demands_password grant then []
     else response_mac_of s (used_auth_value r s grant) (parameter_hash_of s.hash hashed) e.nonce
     e.attributes
 
--- the answer to an entry with a session: the new nonceTPM, the attributes of the command's entry,
+-- the response to an entry with a session: the new nonceTPM, the attributes of the command's entry,
 -- and the HMAC
 unfoldable pub session_answer : Record → HashedParts → Option Grant → Entry → Session → List ℕ
 session_answer r hashed grant e s =
@@ -77,12 +77,11 @@ unfoldable pub entry_answer : Record → HashedParts → Option Grant → Entry 
 entry_answer r hashed grant e =
     option_map_or (session_answer r hashed grant e) (session_of r e) password_answer
 
--- the answers to the entries of a command; each entry comes with its grant
+-- the responses to the entries of a command; each entry comes with its grant
 abbrev pub entries_answer : Record → HashedParts → List Granted → List ℕ
 entries_answer r hashed granted = flat_map (λ g. entry_answer r hashed g.1 g.0) granted
 
--- the record after a session authorized a handle: the policy of a policy session is back at its
--- start
+-- the record after a session authorized a handle, which resets the policy of a policy session
 abbrev pub restarted_by : SessionType → Record → Entry → HashAlg → Record
 restarted_by type.Hmac r e hash = r
 restarted_by type.Policy r e hash =
@@ -93,8 +92,8 @@ unfoldable pub entry_restarted : Record → Entry → Record
 entry_restarted r e =
     option_map_or (λ (s : Session). restarted_by s.kind r e s.hash) (session_of r e) r
 
--- the record after an entry: without continueSession (bit 0) its session ends, and otherwise the
--- policy of a session that authorized is back at its start
+-- the record after an entry: without continueSession (bit 0) its session ends; otherwise, if the
+-- entry authorized a handle, the session's policy is reset
 unfoldable pub entry_ended : Record → Entry → Option Grant → Record
 entry_ended r e grant =
     if not (continues_session e.attributes) then record r { sessions = flushed r.sessions e.session }

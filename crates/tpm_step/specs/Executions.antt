@@ -29,7 +29,7 @@ power_cycle r = record { before = r; event = Cycled; seen = step r Cycled }
 abbrev pub placing : Record → Object → Execution
 placing r object = record { before = r; event = Placed object; seen = step r (Placed object) }
 
--- the history after one more execution, and after a list of executions, in their order
+-- the history after one more execution; and after several executions, in order
 abbrev pub with_execution : Execution → History → History
 with_execution one history = recorded one.before one.event one.seen.row.check history
 

@@ -1,7 +1,7 @@
--- What an authPolicy requires of each use of its entity, for policies that are often reviewed. TPM
--- 2.0 Library, Part 1, section 19.7 (enhanced authorization), and Part 3, sections 23.4
--- (TPM2_PolicySecret), 23.6 (TPM2_PolicyOR), 23.7 (TPM2_PolicyPCR), 23.9 (TPM2_PolicyNV), 23.17
--- (TPM2_PolicyAuthValue) and 23.20 (TPM2_PolicyNvWritten).
+-- What common kinds of authPolicy require of each use of their entity. TPM 2.0 Library, Part 1,
+-- section 19.7 (enhanced authorization), and Part 3, sections 23.4 (TPM2_PolicySecret), 23.6
+-- (TPM2_PolicyOR), 23.7 (TPM2_PolicyPCR), 23.9 (TPM2_PolicyNV), 23.17 (TPM2_PolicyAuthValue) and
+-- 23.20 (TPM2_PolicyNvWritten).
 use Rattle.std.specs.Prelude.{◌≡◌, ◌≢◌, ◌⊎◌, ℕ, Bool, false, List, [], ◌∷◌, ◌++◌, Some, slice_get}
 use Rattle.std.specs.List.{concat, flat_map}
 use Rattle.tpm_mac.specs.Digest.{hash_of}
@@ -34,7 +34,7 @@ use Rattle.tpm_step.specs.PolicyUses.{IsMetBy, PolicyUse, ShowsAuthValue}
 use Rattle.tpm_step.specs.Sessions.{LiveSession, sessions_of}
 use Rattle.tpm_step.specs.View.{OfIndex, OfObject}
 
--- ---- the commands that are reviewed
+-- ---- the commands that a device accepted
 
 -- The property holds for each command that a device accepted since it was manufactured, given the
 -- history before the command.

@@ -15,8 +15,8 @@ use Rattle.tpm_step.specs.Sessions.{LiveSession, sessions_of}
 
 -- ---- a session that survives
 
--- whether a command with this code, whose answer has this handle, starts a session at the other
--- handle
+-- whether a command with this code, which returned the first handle, started a session at the
+-- second handle
 abbrev pub starts_under : CommandCode → Option Handle → Handle → Bool
 starts_under command.StartAuthSession (Some made) handle = handle.number == made.number
 starts_under _ made handle = false
@@ -57,8 +57,8 @@ abbrev pub HasNonceAgain : (earlier now : LiveSession) → Type 0
 HasNonceAgain earlier now =
     (now.nonce_tpm ≡ earlier.nonce_tpm) × IsAmong now.nonce_tpm now.earlier_nonces
 
--- The entry has different texts at the two events, and its HMAC is right for both, each with the
--- key at its event.
+-- The HMACs of the entry at the two events cover different texts and are equal, each with the key
+-- at its event.
 abbrev pub HaveOneHmac : (before : History) (first : AcceptedCommand) (after : History)
     (second : AcceptedCommand) (place : ℕ) (e : Entry) (s t : LiveSession) → Type 0
 HaveOneHmac before first after second place e s t =

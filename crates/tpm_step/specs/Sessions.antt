@@ -203,8 +203,8 @@ entries_rolled live [] left = record { sessions = live; left = left }
 entries_rolled live (e ∷ es) left =
     let first = entry_rolled live e left in entries_rolled first.sessions es first.left
 
--- a session that authorized a handle: a policy session loses its assertions, unless it is a trial
--- session
+-- the session after it authorized a handle: a policy session loses its assertions, unless it is a
+-- trial session
 abbrev pub used_by : SessionType → LiveSession → LiveSession
 used_by type.Hmac s = s
 used_by type.Policy s = restarted s

@@ -1,7 +1,7 @@
-//! Laws about the rows of all commands. Each is the contract of a function that does nothing. They
-//! say which part of the record a success changes, what the command's shape determines, that
-//! sessions stay, and what no row refuses. A row neither renews nor ends a session; the step does
-//! so after the row. Sessions keep their sizes through the whole step.
+//! Laws about the rows of all commands. Each is the contract of a function that does nothing. The
+//! laws say which part of the record a success changes, what the command's shape determines, that
+//! sessions still exist, and what no row refuses. A row neither renews nor ends a session; the step
+//! does so after the row. Sessions keep their sizes through the whole step.
 //!
 //! The laws are about the definitions of the step. All laws of a row are one record, which is
 //! proved once, so that theorems about histories do not unfold the rows. Each law about all

@@ -115,7 +115,7 @@ still_ten (Some text) bytes h = by (nat_le (length text + length bytes) buffer_l
     by true short = subst (λ (d : Option (List ℕ)). IfSome d (λ text. 10 ≤ length text)) (sym (fits text bytes (leb-true _ _ short))) (omega (arith, h, length-append text bytes))
     by false long = subst (λ (d : Option (List ℕ)). IfSome d (λ text. 10 ≤ length text)) (sym (spills text bytes (leb-false _ _ long))) tt
 
--- If a draft has just begun, it contains ten bytes.
+-- A draft that has just begun contains ten bytes.
 pub begun : (draft : Option (List ℕ)) → IsSome draft → IfSome draft (λ text. length text ≡ 10) → (ten : List ℕ) × (draft ≡ Some ten) × (length ten ≡ 10)
 begun None is h = absurd cc
 begun (Some ten) is h = (ten, refl, h)

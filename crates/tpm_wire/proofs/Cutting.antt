@@ -114,7 +114,7 @@ whole_later grown more all n same size less =
     not_whole grown (λ m own.
     let e = some_is m n (sym (size_longer grown more m own) ∙ ap buffer_size same ∙ size) in omega (arith, e, less))
 
--- the buffer that these bytes complete is cut off first, and then the buffers after it
+-- If these bytes complete a buffer, it is cut off first, and then the buffers after it.
 ends_here : (done : List (List ℕ)) (grown more all : List ℕ) (n : ℕ) → grown ++ more ≡ all → length grown ≡ n → 6 ≤ n → fold with_byte (uncut (done ++ grown ∷ []) (is_last grown)) more ≡ fold with_byte (uncut (done ++ take n all ∷ []) (is_last all)) (drop n all)
 ends_here done grown more all n same here six =
     let front : take n all ≡ grown = rw (← here, ← same) (take-append_seam grown more) in
@@ -139,7 +139,6 @@ completed done rest (byte ∷ more) all n is size less fits =
           ∙ completed done grown more all n same size below fits
     ]
 
--- one byte adds at most one buffer
 rest_stays : (b : Bool) (c : Cutting) (rest : List ℕ) (last : Bool) → (more : List (List ℕ)) × ((if b then record { buffers = c.buffers ++ rest ∷ []; rest = []; ended = last } else record c { rest = rest }).buffers ≡ c.buffers ++ more)
 rest_stays true c rest last = (rest ∷ [], refl)
 rest_stays false c rest last = ([], sym (append-nil c.buffers))
@@ -171,7 +170,8 @@ next_by taken size = option_and_then (λ n. cut_within n (is_last taken) taken) 
 next_is : (taken : List ℕ) (size : Option ℕ) (o : Option Cut) → buffer_size taken ≡ size → next_by taken (buffer_size taken) ≡ o → next_by taken size ≡ o
 next_is taken size o is e = sym (ap (next_by taken) is) ∙ e
 
--- In the cut of a stream, the next buffer follows the buffers executed before.
+-- Let `c` be the next buffer of a stream. The cut of the stream consists of the buffers executed
+-- before, then this buffer, and then the cut of the rest.
 pub cut_next : (done : List (List ℕ)) (s : Stream) (c : Cut) → next_of s ≡ Some c → cut_with done s ≡ cut_with (done ++ c.buffer ∷ []) c.after
 cut_next done s c is = by s.ended s.taken (buffer_size s.taken) refl is
   where
@@ -180,7 +180,7 @@ cut_next done s c is = by s.ended s.taken (buffer_size s.taken) refl is
     by false taken None size e = absurd (let f = next_is taken None (Some c) size e in cc)
     by false taken (Some n) size e = next_if done taken n c size (next_is taken (Some n) (Some c) size e)
 
--- ---- a stream without a next buffer
+-- ---- a stream whose next buffer is not complete
 
 stays_ended : (done : List (List ℕ)) (rest bytes : List ℕ) → fold with_byte (record { buffers = done; rest = rest; ended = true }) bytes ≡ record { buffers = done; rest = rest ++ bytes; ended = true }
 unfolding with_byte
@@ -197,11 +197,12 @@ too_few n taken is = by (nat_le n (length taken)) refl is
     by true fits e = absurd cc
     by false fits e = leb-false n (length taken) fits
 
--- if there is no next buffer, the bytes are fewer than its size, provided that the size is known
+-- If the next buffer is not complete, there are fewer bytes than its size, provided that the size
+-- is known.
 waits_for : (taken : List ℕ) → next_of (record { taken = taken; ended = false }) ≡ None → (n : ℕ) → buffer_size taken ≡ Some n → length taken < n
 waits_for taken none n size = too_few n taken (next_is taken (Some n) None size none)
 
--- If there is no next buffer, all bytes of the stream are the rest of its cut.
+-- If the next buffer of a stream is not complete, all bytes of the stream are the rest of its cut.
 pub cut_last : (done : List (List ℕ)) (s : Stream) → next_of s ≡ None → cut_with done s ≡ record { buffers = done; rest = s.taken; ended = s.ended }
 cut_last done s none = by s.ended s.taken none
   where
@@ -220,7 +221,7 @@ size_known (t ∷ u ∷ a ∷ []) is = omega arith
 size_known (t ∷ u ∷ a ∷ b ∷ []) is = omega arith
 size_known (t ∷ u ∷ a ∷ b ∷ c ∷ []) is = omega arith
 
--- If a stream has not ended and has no next buffer, one more byte fits.
+-- If a stream has not ended and its next buffer is not complete, at least one more byte fits.
 pub next_room : (s : Stream) → next_of s ≡ None → s.ended ≡ false → length s.taken < buffer_limit
 next_room s none lives = by s.ended s.taken (buffer_size s.taken) refl none lives
   where
@@ -284,7 +285,7 @@ buffers_stay c (byte ∷ bytes) =
     let others = buffers_stay (with_byte c byte) bytes in
     (first.0 ++ others.0, others.1 ∙ ap (λ (l : List (List ℕ)). l ++ others.0) first.1 ∙ append_assoc c.buffers first.0 others.0)
 
--- A new stream has no next buffer.
+-- A new stream contains no complete buffer.
 pub next_opened : next_of opened ≡ None
 unfolding command_size
 next_opened = refl

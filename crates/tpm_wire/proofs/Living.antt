@@ -39,7 +39,8 @@ length-set [] i x = refl
 length-set (y ∷ xs) zero x = refl
 length-set (y ∷ xs) (suc i) x = ap (λ (n : ℕ). suc n) (length-set xs i x)
 
--- replacing the stream and the life at a number by a served pair keeps every connection served
+-- Replacing the stream and the life of one connection keeps every connection served, if the new
+-- stream and life are a served pair.
 set_served : (streams : List (Option Stream)) (lives : List (Option Life)) (n : ℕ) (stream : Option Stream) (life : Option Life) → Serve streams lives → n < length streams → IsServed stream life → Serve (slice_set streams n stream) (slice_set lives n life)
 set_served streams lives n stream life so below here = record {
   many = length-set lives n life ∙ so.many ∙ sym (length-set streams n stream);
@@ -104,7 +105,6 @@ feeding_led can old new lives n piece count (Some s) is so did =
       served = rw (did.1, l.1, ← same) (set_served old.streams lives n (Some (fed s (take count piece))) (Some (record l.0 { bytes = l.0.bytes ++ take count piece })) so (at_inside old.streams n s is) (fed_served s (take count piece) l.0 l.2));
     }
 
--- the due buffer is the next buffer that is cut
 due_is : (s : Stream) (c : Cut) (l : Life) → IsServed (Some s) (Some l) → next_of s ≡ Some c → buffer_due l ≡ c.buffer
 due_is s c l served next =
     let first = buffers_stay (uncut (served.0 ++ c.buffer ∷ []) c.after.ended) c.after.taken in
@@ -139,7 +139,7 @@ answering_led can old new lives n host outcome (Some s) is so did = by (next_of 
     by None next d = absurd (waits_not s.ended outcome (Ok (Answer outcome)) (Ok (if s.ended then Ended else Wants)) refl refl d.0)
     by (Some c) next d = answer_led can old new lives n host outcome s c is next so d.0 d.1
 
--- a turn that returns no answer changes nothing
+-- A turn that returns no answer changes nothing.
 waiting_same : (can : Bool) (old new : Wire) (n : ℕ) (host : Host) (o : Option Stream) → TurnsAt can o old n host (Ok Wants) new → new ≡ old
 waiting_same can old new n host None did = absurd did
 waiting_same can old new n host (Some s) did = by (next_of s) did

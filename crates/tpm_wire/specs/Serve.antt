@@ -51,8 +51,8 @@ Asks g old one new =
 abbrev pub AsksForEach : {F : Type 0} → Asking F → F → List Execution → F → Type 0
 AsksForEach g old executions new = FoldsTo (Asks g) old executions new
 
--- The host was asked once for each of these executions, and then once more, when it returned a
--- fault.
+-- The host was asked once for each of these executions, in order, and then once more, when it
+-- returned a fault.
 abbrev pub AsksInVain : {F : Type 0} → Asking F → F → List Execution → F → Type 0
 AsksInVain {F} g old executions new =
     (last : F) × AsksForEach g old executions last × (e : HostFault) × Called g last tt (Err e) new

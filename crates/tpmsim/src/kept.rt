@@ -1,11 +1,10 @@
 //! A device that is kept in a folder. Its journal contains the device as it began there, and each
-//! command that was answered since. tpm_keeping decides what is done in the folder at each step,
-//! and proves that the device is the one that executed the answered commands, whatever is killed,
-//! fails or crashes.
+//! command that was answered since. tpm_keeping decides each step in the folder, and proves that
+//! the device is the one that executed the answered commands, whatever is killed, fails or crashes.
 //!
 //! [`Kept`] is a kept device: it does in the folder what the keeper requests. Several processes can
-//! hold one at the same time. [`playing`] plays a script on it, and [`serving`] serves it on a
-//! connection. The folder, its lock and their faults are in tpmsim_folder.
+//! use one device at the same time. [`playing`] plays a script on it, and [`serving`] serves it on
+//! a connection. The folder, its lock and their faults are in tpmsim_folder.
 
 mod keeping;
 mod playing;

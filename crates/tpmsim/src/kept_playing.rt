@@ -14,8 +14,8 @@ use tpmsim_folder::{Place, Said};
 use tpmsim_image::{Entropy, Subject};
 use tpmsim_script::first_bytes;
 
-/// Power-cycles the device in a folder, where `past` finished journals stay; with `cuts`, also if
-/// its journal is damaged.
+/// Power-cycles the device in a folder. With `cuts`, does so even if the journal is damaged. Keeps
+/// `past` finished journals in the folder.
 pub fn cycle_power(rt: &HostRuntime, folder: &str, cuts: bool, past: u32) -> Result<(), Fault> {
     let mut kept = open_there(rt, folder, past)?;
     if cuts {
@@ -51,8 +51,8 @@ fn fault_of_retelling(fault: RetellFault) -> Fault {
     }
 }
 
-/// Plays a script, from a file or from standard input, on the device in a folder, where `past`
-/// finished journals stay.
+/// Plays a script, from a file or from standard input, on the device in a folder. Keeps `past`
+/// finished journals in the folder.
 pub fn play_script(
     rt: &HostRuntime,
     script: &str,
@@ -69,7 +69,7 @@ pub fn play_script(
     play_text(rt, &mut Tap::new(file), trace, folder, past, entropy)
 }
 
-/// Plays the script from a reader on the device in a folder, or on a new device if the folder
+/// Reads a script, and plays it on the device in a folder, or on a new device if the folder
 /// contains none.
 fn play_text<R: Read>(
     rt: &HostRuntime,
@@ -84,8 +84,8 @@ fn play_text<R: Read>(
     play_on(rt, &mut kept, reader, trace)
 }
 
-/// Begins a new device if the folder contains none, with the first random bytes of a file, or with
-/// the bytes 00 to ff if no file is given.
+/// Creates a new device if the folder contains none. Its secrets are the first random bytes of a
+/// file, or the bytes 00 to ff if no file is given.
 fn begin_missing(
     rt: &HostRuntime,
     kept: &mut Kept<'_>,
@@ -98,7 +98,7 @@ fn begin_missing(
     Ok(kept.manufacture(&random)?)
 }
 
-/// Plays the script from a reader on a device.
+/// Reads a script from `reader`, and plays it on a device.
 fn play_on<R: Read>(
     rt: &HostRuntime,
     kept: &mut Kept<'_>,
@@ -109,7 +109,7 @@ fn play_on<R: Read>(
     Ok(play(rt.alloc(), kept, reader, output, trace)?)
 }
 
-/// Opens the device in a folder, which must exist. `past` finished journals stay there.
+/// Opens the device in a folder, which must exist. Keeps `past` finished journals in the folder.
 pub fn open_there<'a>(rt: &'a HostRuntime, folder: &str, past: u32) -> Result<Kept<'a>, Fault> {
     let kept = Kept::at(rt, folder, false, Force::Power, past)?;
     if kept.is_there()? {

@@ -23,9 +23,9 @@ impl RandomBytes for FileBytes {
     }
 }
 
-/// Serves the device in a folder, where `past` finished journals stay, on a socket; begins a new
-/// device if the folder contains none. At the end, removes the socket's file, if it is still at its
-/// path.
+/// Serves the device in a folder on a socket; creates a new device if the folder contains none.
+/// Keeps `past` finished journals in the folder. At the end, removes the socket's file, if it is
+/// still at its path.
 pub fn serve_kept(
     rt: &HostRuntime,
     service: &Service,
@@ -37,7 +37,7 @@ pub fn serve_kept(
     serve_with(rt, service, &mut kept, &mut FileBytes { entropy })
 }
 
-/// Opens the device, or begins it, and serves it with these random bytes.
+/// Opens the device, or creates it, and serves it with these random bytes.
 fn serve_with(
     rt: &HostRuntime,
     service: &Service,
@@ -51,7 +51,7 @@ fn serve_with(
     served
 }
 
-/// Opens the device in the folder. If the folder contains none, begins a new device with the next
+/// Opens the device in the folder. If the folder contains none, creates a new device with the next
 /// random bytes.
 fn open_or_begin(kept: &mut Kept<'_>, entropy: &mut Entropy) -> Result<(), Fault> {
     if !kept.is_there()? {
@@ -61,8 +61,8 @@ fn open_or_begin(kept: &mut Kept<'_>, entropy: &mut Entropy) -> Result<(), Fault
     Ok(kept.open()?)
 }
 
-/// Returns the word of force: the journal is synced before each response if the device has to be
-/// saved then.
+/// Returns when the journal is synced to disk: before each response if the device must be saved
+/// then, otherwise when the journal is restarted.
 fn force_of(service: &Service) -> Force {
     if service.saves_each {
         Force::Always

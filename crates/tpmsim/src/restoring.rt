@@ -1,5 +1,5 @@
-//! Writes the state text of a device in a folder, and replaces the device in a folder with that of
-//! a state text.
+//! Writes the state text of the device in a folder, and replaces this device with the device of a
+//! state text.
 
 ghost use Rattle.tpmsim.specs.Restoring.{IsChecked};
 
@@ -23,9 +23,9 @@ pub fn print_snapshot(rt: &HostRuntime, folder: &str) -> Result<(), Fault> {
     Fault::file(Subject::Output).unless(rt.stdout().write_all(text))
 }
 
-/// Replaces the device in a folder with the device of a state text in a file, or begins the device
-/// if there is none. `past` finished journals stay in the folder. A text that is refused leaves the
-/// folder unchanged.
+/// Replaces the device in a folder with the device of a state text in a file, or creates the device
+/// if there is none. Keeps `past` finished journals in the folder. A text that is refused leaves
+/// the folder unchanged.
 pub fn restore_snapshot(
     rt: &HostRuntime,
     folder: &str,

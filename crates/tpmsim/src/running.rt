@@ -25,7 +25,7 @@ fn run_new<R: Read>(rt: &HostRuntime, reader: &mut Tap<R>, trace: bool) -> Resul
 }
 
 /// Runs the script on the device whose image is in a file, or on a new device if there is no such
-/// file, and saves the device there during the run and at its end.
+/// file. Saves the device there during the run and at its end.
 pub fn run_kept(
     rt: &HostRuntime,
     script: &str,
@@ -50,7 +50,7 @@ pub fn run_kept(
 #[derive(Drop)]
 struct Device {
     machine: Machine<SlotKeep>,
-    /// Whether its image was in the file.
+    /// Whether the device's image was in the file.
     was_kept: bool,
 }
 

@@ -59,8 +59,8 @@ fn print_form(rt: &HostRuntime, code: CommandCode) -> Result<(), Fault> {
     Fault::file(Subject::Output).unless(println!(rt; "{form}\n    {name}{space}{example}"))
 }
 
-/// Prints the name of the response code with these hex digits, and the place that it identifies. A
-/// number that is not a response code is a usage fault.
+/// Prints the name of the response code with these hex digits, and the handle, parameter or session
+/// that it names. A number that is not a response code is a usage fault.
 pub fn print_code(rt: &HostRuntime, digits: &str) -> Result<(), Fault> {
     let number = hex_number(digits.as_bytes()).ok_or(Fault::Usage)?;
     let meaning = meaning_of(number).ok_or(Fault::Usage)?;

@@ -10,8 +10,8 @@ use std::time::Duration;
 /// A client is called silent after this many seconds in which it sent nothing.
 const SILENCE_SECONDS: u64 = 3;
 
-/// The reader of a connection. While the connection's client is silent, the reader looks for
-/// another client that waits.
+/// The reader of a connection. While the connection's client is silent, the reader checks whether
+/// another client is waiting.
 #[derive(Drop)]
 pub struct Attended<'a> {
     rt: &'a HostRuntime,
@@ -20,8 +20,8 @@ pub struct Attended<'a> {
 }
 
 impl<'a> Attended<'a> {
-    /// Creates the reader of a connection to this socket. After one client was seen to wait, the
-    /// reader looks for no others.
+    /// Creates the reader of a connection to this socket. If a client was already seen waiting, the
+    /// reader does not check again.
     pub(crate) fn new(
         rt: &'a HostRuntime,
         stream: &'a UnixStream,
@@ -34,7 +34,8 @@ impl<'a> Attended<'a> {
         Attended { rt, stream, socket }
     }
 
-    /// Looks for a client that waits, and reports it. After the report, reads have no time limit.
+    /// Checks whether a client is waiting, and reports it. After the report, reads have no time
+    /// limit.
     fn look(&mut self) {
         if self.socket.has_seen() || !self.socket.sees_client() {
             return;

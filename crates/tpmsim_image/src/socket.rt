@@ -14,9 +14,9 @@ use std::{fs, io};
 pub struct Socket {
     listener: UnixListener,
     identity: Identity,
-    /// The client that was seen to wait while another one was served.
+    /// The client that was seen waiting while another one was served.
     waiting: Option<UnixStream>,
-    /// Whether a client was seen to wait.
+    /// Whether a client was seen waiting.
     has_seen: bool,
 }
 
@@ -32,17 +32,17 @@ impl Socket {
         }
     }
 
-    /// Returns the reader of a connection, which looks for another client that waits.
+    /// Returns the reader of a connection, which checks whether another client is waiting.
     pub fn attend<'a>(&'a mut self, rt: &'a HostRuntime, stream: &'a UnixStream) -> Attended<'a> {
         Attended::new(rt, stream, self)
     }
 
-    /// Whether a client was seen to wait.
+    /// Whether a client was seen waiting.
     pub(crate) fn has_seen(&self) -> bool {
         self.has_seen
     }
 
-    /// Whether a client waits now. That client is the next one to be served.
+    /// Whether a client is waiting now. That client is the next one to be served.
     pub(crate) fn sees_client(&mut self) -> bool {
         if self.listener.set_nonblocking(true).is_err() {
             return false;

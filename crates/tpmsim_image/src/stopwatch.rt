@@ -39,7 +39,7 @@ impl Stopwatch {
 
     /// Returns the elapsed milliseconds of a command that arrives now. For the first command they
     /// are 0. For a later one they are the milliseconds since the first command that were passed to
-    /// no command, at most 2^32 - 1. The others are dropped.
+    /// no command, at most 2^32 - 1. Any milliseconds above this limit are dropped.
     pub fn tell(&mut self, now: Instant) -> u32
         ensures value { result ≡ told (instant_nanos now) self.old }
         ensures after { self.new ≡ after_command (instant_nanos now) self.old }

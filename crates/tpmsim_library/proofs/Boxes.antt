@@ -1,6 +1,6 @@
--- The box of a value, the pointer to it, and the calls between the two. `Words` has what is
--- for each in the machine, `Calls` what each call requires and gives, and `Held` what an owner and
--- a holder own.
+-- The box of a value, the pointer to it, and the calls that convert between the two. `Words`
+-- defines the machine words of each, `Calls` what each call requires and returns, and `Held` what
+-- an owner and a holder own.
 use mathlib.Core.Path.{refl}
 use mir.Raw.{raw as bare}
 use denote.Exit.{no}
@@ -17,13 +17,13 @@ pub mod Words
 pub mod Calls
 pub mod Held
 
--- a device, as a generic function takes it
+-- a device, as the argument of a generic function
 abbrev pub Content : RattleType
 Content = arg (bare (layout device.the_row)) no device.the_row
 
 pub content_laws : Laws Content
 content_laws = arg_laws (bare (layout device.the_row)) no device.the_row device_laws.the_row_laws refl
 
--- the box of a device in the form that std's own steps over boxes take
+-- the box of a device in the form that the proof steps of std over boxes expect
 abbrev pub boxes : Bx
 boxes = record { row = Content; laws = content_laws; al = record { row = Heap; laws = heap_laws; g = ghosts; d = dict; drops = plain_drop Heap } }

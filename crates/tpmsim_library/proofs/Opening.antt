@@ -1,4 +1,4 @@
--- The fault of a text that is no image does not depend on what would be opened.
+-- If a text is not an image, its error does not depend on what would be opened.
 use Rattle.std.specs.Prelude.{ℕ, Bool, List, Err}
 use Rattle.tpm_record.specs.Record.{Record}
 use Rattle.tpm_image_text.specs.Opening.{Opens}

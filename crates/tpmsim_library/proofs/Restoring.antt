@@ -1,5 +1,5 @@
--- A device that is restored from the state text of a device is that device, with its layer and its
--- history; and what is reported of a text from which none is restored.
+-- Restoring from the state text of a device yields that device, with its layer and its history; and
+-- the error that is reported for a text from which no device can be restored.
 use Rattle.std.proofs.Common.{◌≡◌, ◌≢◌, ℕ, List, Err, sym, ap, subst, ◌∙◌}
 use Rattle.tpm_machine.specs.Follows.{Follows}
 use Rattle.tpm_machine.specs.History.{History}
@@ -17,19 +17,19 @@ use Rattle.tpmsim_library.specs.State.{record_of, whole_state}
 use Rattle.tpmsim_library.specs.Told.{no_memory, restore_number, state_number}
 use Rattle.tpmsim_library.specs.declared.device.Device.{Device}
 
--- the number of a text's first fault
+-- the number of the first error in a text
 pub fault_told : {B : Type 0} (device_in : B → Device) (text : List ℕ) (fault : RestoreFault) (told : ℕ) → told ≡ restore_number fault → RestoresDevice device_in text (Err fault) → told ≢ no_memory → (f : StateFault) × (told ≡ state_number f) × (state_of_text text ≡ Err f)
 fault_told device_in text (unrestored.Text f) told is read other = (f, is, read)
 fault_told device_in text unrestored.NoMemory told is read other = absurd (other is)
 
--- the text of a device has no fault
+-- If restoring from the state text of a device fails, the reason is a failed allocation.
 pub only_memory : {B : Type 0} (device_in : B → Device) (text : List ℕ) (fault : RestoreFault) (told : ℕ) (state : WholeState) → told ≡ restore_number fault → RestoresDevice device_in text (Err fault) → IsWholeState state → text ≡ state_text state → told ≡ no_memory
 only_memory device_in text (unrestored.Text f) told state number read is same =
     absurd (no_fault state text is same f read)
 only_memory device_in text unrestored.NoMemory told state number read is same = number
 
 module _ (text : List ℕ) (device : Device) (restored : IsOfState text device) where
-  -- the state that was read is the one that was written
+  -- the state that was read is the state that was written
   read_state : (state : WholeState) → IsWholeState state → text ≡ state_text state → state_of (record_of device) restored.0 ≡ state
   read_state state is same = read_again state text is same (state_of (record_of device) restored.0) restored.1
 

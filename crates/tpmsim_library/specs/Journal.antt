@@ -1,4 +1,4 @@
--- What a device does with its journal.
+-- How a device uses its journal.
 use Rattle.std.specs.Prelude.{◌≡◌, ◌==◌, ◌≤◌, ◌<◌, ℕ, Bool, false, if◌then◌else◌, List, length, take, Option, Some, None, Result, Ok, Err}
 use Rattle.tpm_journal.specs.Execution.{Seen}
 use Rattle.tpm_machine.specs.Follows.{After, Follows}
@@ -25,28 +25,28 @@ use Rattle.tpmsim_library.specs.State.{command_seen, cycle_seen, record_of}
 use Rattle.tpmsim_library.specs.declared.device.Answered.{Answered}
 use Rattle.tpmsim_library.specs.declared.device.Device.{Device}
 
--- the image that a device has as power comes on
+-- the image of a device when power comes on
 abbrev pub image_at_power : Device → List ℕ
 image_at_power device = image_text Two (kept_of (cycled (record_of device)))
 
--- The power of a device was cycled, and its new journal begins with this clock.
+-- The device was power-cycled, and its new journal starts at this clock.
 pub record BeginsJournal (before : Device) (now : ℕ) (after : Device) : Type 0 where
   pub executes : Executes false (record_of before) Cycled (cycle_seen after)
   pub history : After Follows (record_of before) Cycled (cycle_seen after)
   pub journal : after.journal ≡ journal_begun now (image_at_power before)
 
--- A device has the record and the journal that it had.
+-- A device has the same record and journal as before.
 abbrev pub IsAsBefore : (before after : Device) → Type 0
 IsAsBefore before after = (record_of after ≡ record_of before) × (after.journal ≡ before.journal)
 
--- A device begins its journal if the head, whose size is `size`, fits into the buffer, whose size
--- is `room`; otherwise the device is as it was.
+-- If the head, of size `size`, fits in the buffer, of size `room`, the device starts its journal;
+-- otherwise the device is unchanged.
 abbrev pub BeginsIfRoom : (before : Device) → (now room size : ℕ) → (after : Device) → Type 0
 BeginsIfRoom before now room size after =
     (size ≤ room → BeginsJournal before now after) × (room < size → IsAsBefore before after)
 
--- the clock of a checkpoint at this time: that of the journal, so that no time is lost, or the
--- host's if no journal has begun yet, whose sum is 0 then
+-- the clock of a checkpoint at this time: the journal's clock, so that no time is lost; or the
+-- host's if no journal has been started yet (its sum is then 0)
 abbrev pub checkpoint_clock : Device → (now : ℕ) → ℕ
 checkpoint_clock device now = if device.journal.sum == 0 then now else device.journal.time
 
@@ -56,8 +56,8 @@ checkpoint_head device now =
     head_text State (checkpoint_clock device now)
     (state_text (state_beside device.journal (record_of device)))
 
--- The journal of a device begins again with a checkpoint, from which it starts, and its device with
--- it. The device and its completing layer are as they were.
+-- The device's journal restarts with a checkpoint. Starting from this checkpoint leads to the same
+-- journal and device. The device and its completing layer are unchanged.
 pub record Checkpoints (before : Device) (now : ℕ) (after : Device) : Type 0 where
   pub device : record_of after ≡ record_of before
   pub journal : after.journal
@@ -66,19 +66,19 @@ pub record Checkpoints (before : Device) (now : ℕ) (after : Device) : Type 0 w
       (state_text (state_beside before.journal (record_of before)))
       ≡ Ok (record { journal = after.journal; device = record_of after })
 
--- The journal of a device begins again if the head fits into the buffer, and else stays.
+-- If the head fits in the buffer, the device's journal restarts with a checkpoint; otherwise the
+-- journal is unchanged.
 abbrev pub CheckpointsIfFits : (before : Device) → (now space size : ℕ) → (after : Device) → Type 0
 CheckpointsIfFits before now space size after =
     (size ≤ space → Checkpoints before now after) × (space < size → IsAsBefore before after)
 
--- the command of a buffer that a device is given at this clock, with the completing layer or
--- without it
+-- the command that a device gets in a buffer at this clock, with or without the completing layer
 abbrev pub command_by : Device → (buffer : List ℕ) → (locality now : ℕ) → (completes : Bool)
     → (random : List ℕ) → Command
 command_by device buffer locality now completes random =
     command_at buffer locality (elapsed_of now device.journal.time) completes random
 
--- the effect of a command whose response is at the front of a buffer
+-- the effect of a command whose response is at the start of a buffer
 abbrev pub seen_in : (room : List ℕ) → Answered → (after : Device) → Seen
 seen_in room answered after = record {
   step = command_seen room answered after;
@@ -86,13 +86,13 @@ seen_in room answered after = record {
   drawn = answered.drawn;
 }
 
--- a journal whose layer is another, with the sum and the time that it has
+-- a journal with its layer replaced; its sum and time are unchanged
 abbrev pub journal_with : Journal → Completion → Journal
 journal_with journal layer = record journal { layer = layer }
 
--- A device executed a command, with its completing layer or without it. Its response is at the
--- front of one buffer, and its entry, of `size` bytes, at the front of another. The execution says
--- what was executed on the device, and what history it follows then.
+-- A device executed a command, with or without its completing layer. Its response is at the start
+-- of one buffer, and its entry, `size` bytes long, at the start of another. The execution states
+-- what the device executed, and which history it then follows.
 pub record Records (before : Device) (c : Command) (response : List ℕ) (answered : Answered)
     (size : ℕ) (entry : List ℕ) (after : Device) : Type 0
   where
@@ -104,17 +104,17 @@ pub record Records (before : Device) (c : Command) (response : List ℕ) (answer
     pub journal : after.journal ≡ journal_after before.journal
         (entry_of c (seen_in response answered after)) after.journal.layer
 
--- A device is that of a journal, whose head and entries have `taken` bytes.
+-- A device is that of a journal whose head and entries are `taken` bytes long.
 abbrev pub IsOfJournal : List ℕ → (taken : ℕ) → Device → Type 0
 IsOfJournal text taken device =
     IsJournal text (record { journal = device.journal; taken = taken }) (record_of device)
 
--- A text is not opened as a journal, because of this fault.
+-- A text cannot be opened as a journal, because of this error.
 abbrev pub HasFault : List ℕ → OpenFault → Type 0
 HasFault text fault = (new : Record) × OpensJournal text (Err fault) new
 
--- A device was opened from a journal, of which `taken` bytes are head and entries; or the text has
--- this fault; or memory was refused.
+-- A device was opened from a journal whose head and entries are `taken` bytes long; or the text has
+-- this error; or an allocation failed.
 abbrev pub OpensDevice : {B : Type 0} → (B → Device) → List ℕ → (old : ℕ)
     → Option (Result B OpenFault) → (taken : ℕ) → Type 0
 OpensDevice device_in text old (Some (Ok opened)) taken = IsOfJournal text taken (device_in opened)

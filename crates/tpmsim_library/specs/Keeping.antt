@@ -1,4 +1,4 @@
--- What C sees of a keeper: what it asks of its host, and what the host reports to it.
+-- What C sees of a keeper: what the keeper asks of its host, and what the host reports to it.
 use Rattle.std.specs.Prelude.{◌≡◌, ◌==◌, ℕ, ◌⊎◌, Bool, true, false, if◌then◌else◌, List, [], length, take, Option, Some, None}
 use Rattle.tpm_keeping.specs.Cutting.{Caller, called, caller_of, next_call}
 use Rattle.tpm_keeping.specs.Holder.{Holder, Told, Done, Stands, Gone, Bytes, Failed, Starved}
@@ -22,20 +22,20 @@ use Rattle.tpmsim_library.specs.declared.device.Answered.{Answered}
 use Rattle.tpmsim_library.specs.declared.keeper.DeviceKeeper.{DeviceKeeper}
 use Rattle.tpmsim_library.specs.declared.request.Request.{Request}
 
--- the keeper as the definitions of tpm_keeping see it: with the call that begins again after a cut,
--- and alone
+-- the state of a keeper in the definitions of tpm_keeping: with the call that it restarts after a
+-- cut; and without that call
 abbrev pub call_of : DeviceKeeper → Caller
 call_of keeper = caller_of (λ device. spot_in device.parts.value) keeper.keeper
 
 abbrev pub view_of : DeviceKeeper → Holder
 view_of keeper = (call_of keeper).holder
 
--- A call with this text began. What was left in the middle was dropped.
+-- A call with this text began. An unfinished call was abandoned.
 abbrev pub Begins : (cuts : Bool) → Job → (text : List ℕ) → (before after : DeviceKeeper) → Type 0
 Begins cuts job text before after =
     (call_of after ≡ called cuts job text (view_of before)) × (after.cuts ≡ before.cuts)
 
--- the word of force, or the job, that has this number
+-- the `Force` with this number, and the `Job` with this number; None if there is none
 abbrev pub force_of : ℕ → Option Force
 force_of number =
     if number == 0 then Some Never
@@ -50,7 +50,7 @@ job_of number =
     else (if number == 3 then Some Begin
     else (if number == 4 then Some Cut else None))))
 
--- the number of how a call ended
+-- the number that reports how a call ended
 abbrev pub end_number : End → ℕ
 end_number ending.Done = 0
 end_number (ending.Failed fault.Idle) = 1
@@ -68,7 +68,7 @@ end_number (ending.Failed fault.NoCommand) = 12
 end_number (ending.Failed fault.Damaged) = 13
 end_number (ending.Failed fault.Memory) = 14
 
--- the fault that has this number, and what it says
+-- the fault with this number, and the sentence that describes it
 abbrev pub fault_of : ℕ → Option Fault
 fault_of number =
     if number == 1 then Some fault.Idle
@@ -93,7 +93,7 @@ said_by None = []
 abbrev pub fault_text : (number : ℕ) → List ℕ
 fault_text number = said_by (fault_of number)
 
--- what the host is to write, and the response that may go out
+-- the text that the host must write, and the response that may be sent
 abbrev pub text_by : Ask → (out : List ℕ) → List ℕ
 text_by (ask.Put cut at) out = out
 text_by (ask.Make whole) out = out
@@ -109,12 +109,13 @@ text_of k = text_by (ask_of k) k.out
 abbrev pub response_of : Holder → List ℕ
 response_of k = response_by (ask_of k) k.response
 
--- whether a new journal of this job drops the damage of the old one
+-- whether the new journal that this job makes drops the damage of the old one
 abbrev pub drops_damage : Job → Bool
 drops_damage Cut = true
 drops_damage job = false
 
--- the response that may go out, if it is one to a command, or if it is what is shown
+-- the response that may be sent: if the job executed a command; and if the job showed the state
+-- text
 abbrev pub if_executed : Job → List ℕ → List ℕ
 if_executed Execute response = response
 if_executed job response = []
@@ -129,7 +130,7 @@ executed_by keeper = if_executed (view_of keeper).job (response_of (view_of keep
 abbrev pub shown_by : DeviceKeeper → List ℕ
 shown_by keeper = if_shown (view_of keeper).job (response_of (view_of keeper))
 
--- the content of the head at the front of a text: of the head that a keeper shows the state text
+-- the content of the head at the start of a text; empty without a head
 abbrev pub content_of : Option PlainHead → List ℕ
 content_of (Some h) = h.content
 content_of None = []
@@ -137,13 +138,14 @@ content_of None = []
 abbrev pub content_at : List ℕ → List ℕ
 content_at text = content_of (head_at text)
 
--- An answer is that of a command of the standard: its response is at the front of a buffer.
+-- An answer to a command of the standard: its code, check and number of random bytes are reported,
+-- and its response is at the start of a buffer.
 abbrev pub IsAnswer : PlainAnswer → (buffer : List ℕ) → Answered → Type 0
 IsAnswer a buffer answered =
     (answered.code ≡ a.code) × (answered.check ≡ a.check) × (answered.drawn ≡ a.drawn)
     × (take answered.size buffer ≡ a.response)
 
--- a task that needs no more than its number
+-- the request for a task that needs only its number
 abbrev pub task_of : (task : ℕ) → Request
 task_of task = record { cut = 0; at = 0; size = 0; task = task; fault = 0; drops = 0 }
 
@@ -151,8 +153,8 @@ abbrev pub number_of : Bool → ℕ
 number_of true = 1
 number_of false = 0
 
--- the request of a keeper whose text has one of these sizes, or whose response has the other, and
--- which drops damage or does not
+-- the request for what a keeper asks, with the size of the text to write, or of the response, and
+-- whether a new journal drops damage
 abbrev pub request_by : Ask → (drops : Bool) → (text response : ℕ) → Request
 request_by (ask.Nothing end) drops text response =
     record (task_of 0) { size = response; fault = end_number end }
@@ -172,12 +174,12 @@ abbrev pub request_of : Holder → Request
 request_of k =
     request_by (ask_of k) (drops_damage k.job) (length (text_of k)) (length (response_of k))
 
--- the request without a keeper: nothing, because of that
+-- the request if there is no keeper: no task, and the fault that says so
 abbrev pub no_request : Request
 no_request = record (task_of 0) { fault = 15 }
 
--- what a host reports by a number, which is 0 if it did all: of a look and a name the file, of a
--- read the bytes
+-- what the host reports with this number. 0 reports success: Look and Name return the file, and
+-- Read returns its bytes.
 abbrev pub did : Ask → (file size : ℕ) → List ℕ → Told
 did ask.Look file size bytes = Stands file size
 did ask.Name file size bytes = Stands file size
@@ -188,7 +190,7 @@ abbrev pub told_by : (got : ℕ) → Ask → (file size : ℕ) → List ℕ → 
 told_by got asked file size bytes =
     if got == 0 then did asked file size bytes else (if got == 1 then Gone else Failed)
 
--- A keeper goes on from what its host reported, or its call ends since memory was refused.
+-- A keeper continues with what its host reported; or an allocation failed, which ends its call.
 abbrev pub GoesOn : (before : Caller) → Told → (after : Caller) → Type 0
 GoesOn before told after = (after ≡ next_call device_journal before told)
     ⊎ (after ≡ next_call device_journal before Starved)

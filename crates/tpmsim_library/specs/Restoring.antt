@@ -1,4 +1,4 @@
--- What restoring a device from a state text answers and leaves.
+-- What restoring a device from a state text returns, and the device that results.
 use Rattle.std.specs.Prelude.{◌≡◌, ℕ, List, Option, Result, Ok, Err}
 use Rattle.tpm_journal.specs.declared.journal.Journal.{Journal}
 use Rattle.tpm_snapshot.specs.Layer.{completion_of}
@@ -10,18 +10,18 @@ use Rattle.tpm_state_text.specs.declared.layer.Layer.{Layer}
 use Rattle.tpmsim_library.specs.State.{record_of}
 use Rattle.tpmsim_library.specs.declared.device.Device.{Device}
 
--- the journal of a device that is restored, which has none yet: its layer is that of the text
+-- the journal of a restored device, which is not started yet; its layer is that of the text
 abbrev pub journal_restored : Option Layer → Journal
 journal_restored layer = record { sum = 0; time = 0; layer = completion_of layer }
 
--- A device has the state of a text.
+-- The state of a device is that of a text.
 abbrev pub IsOfState : List ℕ → Device → Type 0
 IsOfState text device =
     (layer : Option Layer) × (state_of_text text ≡ Ok (state_of (record_of device) layer))
     × (device.journal ≡ journal_restored layer)
 
--- A device was restored from a text; or the fault is the first one of the text; or memory was
--- refused.
+-- A device was restored from the text; or the returned error is the first one in the text; or an
+-- allocation failed.
 abbrev pub RestoresDevice : {B : Type 0} → (B → Device) → List ℕ → Result B RestoreFault → Type 0
 RestoresDevice device_in text (Ok restored) = IsOfState text (device_in restored)
 RestoresDevice device_in text (Err (unrestored.Text fault)) = state_of_text text ≡ Err fault

@@ -8,19 +8,19 @@ use Rattle.tpm_step.specs.Step.{Stepped}
 use Rattle.tpmsim_library.specs.declared.device.Answered.{Answered}
 use Rattle.tpmsim_library.specs.declared.device.Device.{Device}
 
--- the record of a device; its containers are seen as their contents
+-- the record of a device, with the contents of its containers
 abbrev pub record_of : Device → Record
 record_of device = slot_record device.machine.keep
 
--- the whole state of a device, which always has its completing layer
+-- the whole state of a device, which always includes its completing layer
 abbrev pub whole_state : Device → WholeState
 whole_state device = record {
   device = record_of device;
   layer = Some (layer_of device.journal.layer);
 }
 
--- the effect of a command: the response at the front of the room for it, the row, and the record
--- after it
+-- the effect of a command: the response at the start of its buffer, the row, and the record after
+-- it
 abbrev pub command_seen : List ℕ → Answered → Device → Stepped
 command_seen room answered after = record {
   response = take answered.size room;
@@ -28,7 +28,7 @@ command_seen room answered after = record {
   after = record_of after;
 }
 
--- the effect of a power cycle, which has no response and the row of no command
+-- the effect of a power cycle, which has no response, and whose row names no command
 abbrev pub cycle_seen : Device → Stepped
 cycle_seen after =
     record { response = []; row = record { code = 0; check = 0 }; after = record_of after }

@@ -1,4 +1,4 @@
--- The numbers that calls answer.
+-- The numbers that calls return.
 use Rattle.std.specs.Prelude.{◌≡◌, ℕ, Option, Some, None, Result, Ok, Err}
 use Rattle.tpm_image_text.specs.declared.fault.ImageFault.{ImageFault}
 use Rattle.tpm_image_text.specs.declared.fault.ImageFault.TheVariants as fault
@@ -30,7 +30,7 @@ no_word = 19
 abbrev pub no_answer : ℕ
 no_answer = 20
 
--- the number of the fault for which an image is not opened
+-- the number of the error if an image cannot be opened
 abbrev pub fault_number : ImageFault → ℕ
 fault_number fault.Short = 4
 fault_number fault.Magic = 5
@@ -40,7 +40,7 @@ fault_number fault.Digest = 8
 fault_number fault.Body = 9
 fault_number fault.NoMemory = no_memory
 
--- the number of the fault for which bytes are no state text
+-- the number of the error if bytes are not a state text
 abbrev pub state_number : StateFault → ℕ
 state_number state.Short = 13
 state_number state.Magic = 14
@@ -50,26 +50,26 @@ state_number state.Digest = 17
 state_number state.Body = 18
 state_number state.Earlier = 21
 
--- the number of the fault for which a device is not restored
+-- the number of the error if a device cannot be restored
 abbrev pub restore_number : RestoreFault → ℕ
 restore_number (restore.Text fault) = state_number fault
 restore_number restore.NoMemory = no_memory
 
--- the number of how far a text was followed: to its end, or to this fault
+-- the number that reports how far a text was followed: to its end, or to this error
 abbrev pub follow_number : Option FollowFault → ℕ
 follow_number None = done
 follow_number (Some follow.Damaged) = 11
 follow_number (Some follow.Otherwise) = 12
 
--- the number of the fault for which a text is not opened as a journal
+-- the number of the error if a text cannot be opened as a journal
 abbrev pub open_number : OpenFault → ℕ
 open_number opening.NoJournal = 10
 open_number (opening.Image fault) = fault_number fault
 open_number (opening.State fault) = restore_number fault
 open_number (opening.Follow fault) = follow_number (Some fault)
 
--- The number says the result of opening, and the holder has the opened device, or what it had
--- before.
+-- The number reports the result of opening an image. The holder has the opened device on success,
+-- and otherwise the device that it had before.
 abbrev pub Tells : Result Device ImageFault → (old new : Option Device) → (told : ℕ) → Type 0
 Tells (Ok device) old new told = (told ≡ done) × (new ≡ Some device)
 Tells (Err fault) old new told = (told ≡ fault_number fault) × (new ≡ old)

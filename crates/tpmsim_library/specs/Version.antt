@@ -1,6 +1,6 @@
 -- The version as one number.
 use Rattle.std.specs.Prelude.{ℕ, ◌+◌, ◌*◌}
 
--- the version number: a byte for each of major, minor and patch
+-- the version number: one byte each for major, minor and patch
 abbrev pub version_number : (major minor patch : ℕ) → ℕ
 version_number major minor patch = 65536 * major + 256 * minor + patch

@@ -1,5 +1,5 @@
-//! The exports by which C begins a keeper's calls, and reads its answers. No host encodes a text:
-//! `tpm_kept_device::writing` writes the texts that the contracts name, and says how they are read.
+//! The exports by which C begins a keeper's calls, and reads its answers. A host encodes no text
+//! itself: `tpm_kept_device::writing` writes the texts of commands and seeds.
 
 ghost use Rattle.std.specs.Prelude.{◌≡◌, ◌≢◌, ◌<◌, ◌==◌, ◌∷◌, Ok, Err, drop, not, true};
 ghost use Rattle.std.specs.Option.{MatchOption};
@@ -21,8 +21,8 @@ use std::alloc::Global;
 use tpm_kept_device::answer::read_answer;
 use tpm_types::Locality;
 
-/// Begins the execution of a command of the standard at this time of the host's clock: with the
-/// completing layer if `completes` is not 0. Otherwise nothing has changed.
+/// Begins the execution of a command of the standard at this time of the host's clock. If
+/// `completes` is not 0, the completing layer is used. On failure nothing changes.
 #[unsafe(no_mangle)]
 pub extern "C" fn tpmsim_keeper_execute(
     alloc: Global,
@@ -58,8 +58,8 @@ pub extern "C" fn tpmsim_keeper_execute(
     }
 }
 
-/// Begins a power cycle at this time of the host's clock, with this number for the start of the
-/// completing layer. Otherwise nothing has changed.
+/// Begins a power cycle at this time of the host's clock. The completing layer starts with the
+/// number `start`. On failure nothing changes.
 #[unsafe(no_mangle)]
 pub extern "C" fn tpmsim_keeper_power(
     alloc: Global,
@@ -87,8 +87,8 @@ pub extern "C" fn tpmsim_keeper_power(
     }
 }
 
-/// Begins the call that looks for a device, and makes one with a seed if there is none. Otherwise
-/// nothing has changed.
+/// Begins the call that opens the device, or makes one with a seed if there is none. On failure
+/// nothing changes.
 #[unsafe(no_mangle)]
 pub extern "C" fn tpmsim_keeper_seed(
     alloc: Global,
@@ -118,8 +118,8 @@ pub extern "C" fn tpmsim_keeper_seed(
     }
 }
 
-/// Begins the restoring of a state text. Damage is cut: the state replaces the device. Otherwise
-/// nothing has changed.
+/// Begins the restoring of a state text. Since the state replaces the device, damage in the old
+/// journal is cut. On failure nothing changes.
 #[unsafe(no_mangle)]
 pub extern "C" fn tpmsim_keeper_restore(
     alloc: Global,
@@ -148,8 +148,8 @@ pub extern "C" fn tpmsim_keeper_restore(
     }
 }
 
-/// Writes the response of a command of the standard to the front of a buffer. NO_ANSWER: the latest
-/// call executed none, or is not done. Then nothing is written.
+/// Writes the response to a command of the standard to the start of a buffer. Returns NO_ANSWER,
+/// and writes nothing, if the latest call executed no command or is not done.
 #[unsafe(no_mangle)]
 pub extern "C" fn tpmsim_keeper_answer(
     alloc: Global,
@@ -186,8 +186,8 @@ pub extern "C" fn tpmsim_keeper_answer(
     }
 }
 
-/// Writes the state text that a keeper shows to the front of a buffer, if it fits. Returns its
-/// size; 0 if the latest call was another one or is not done, and without a keeper.
+/// Writes the state text that a keeper shows to the start of a buffer, if it fits. Returns its
+/// size; 0 if there is no keeper, or if the latest call is not done or showed no state text.
 #[unsafe(no_mangle)]
 pub extern "C" fn tpmsim_keeper_state(
     alloc: Global,

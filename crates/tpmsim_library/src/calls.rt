@@ -1,5 +1,5 @@
-//! The exports on a device's holder. A call takes the device out, uses it, and puts it back, which
-//! moves only a pointer.
+//! The exports on a device: its execution of events, and its image. A call takes the device out of
+//! its holder, uses it, and puts it back, which moves only a pointer.
 
 ghost use Rattle.std.specs.Prelude.{◌≡◌, ◌≢◌, ◌<◌, ◌∷◌, [], drop, false, true};
 ghost use Rattle.std.specs.Option.{MatchOption};
@@ -41,8 +41,8 @@ pub extern "C" fn tpmsim_version() -> u32
     0x00_01_00
 }
 
-/// Makes a new device, whose secrets are these random bytes, instead of the holder's own.
-/// NO_MEMORY: memory was refused, and the holder is as it was.
+/// Creates a new device; these random bytes become its secrets. It replaces any device of the
+/// holder. Returns NO_MEMORY, and leaves the holder unchanged, if an allocation fails.
 #[unsafe(no_mangle)]
 pub extern "C" fn tpmsim_manufacture(alloc: Global, holder: &mut Holder, random: &[u8; 256]) -> u8
     ensures made { result ≡ done → (device : Device) × (holder.new.device ≡ Some device)
@@ -58,8 +58,8 @@ pub extern "C" fn tpmsim_manufacture(alloc: Global, holder: &mut Holder, random:
     DONE
 }
 
-/// Executes a command, and writes its response to the front of the buffer for it. NO_LOCALITY: the
-/// locality is not 0 to 4. NO_DEVICE: the holder has no device. In both cases nothing is written.
+/// Executes a command, and writes its response to the start of a buffer. Returns NO_LOCALITY if the
+/// locality is not 0 to 4, and NO_DEVICE if the holder is empty. In both cases nothing is written.
 #[unsafe(no_mangle)]
 pub extern "C" fn tpmsim_execute(
     alloc: Global,
@@ -100,7 +100,7 @@ pub extern "C" fn tpmsim_execute(
     DONE
 }
 
-/// Power-cycles the device. NO_DEVICE: the holder has no device.
+/// Power-cycles the device. Returns NO_DEVICE if the holder is empty.
 #[unsafe(no_mangle)]
 pub extern "C" fn tpmsim_power_cycle(alloc: Global, holder: &mut Holder) -> u8
     ensures executes { MatchOption holder.old.device (holder.new.device ≡ None) (λ before.
@@ -118,8 +118,8 @@ pub extern "C" fn tpmsim_power_cycle(alloc: Global, holder: &mut Holder) -> u8
     DONE
 }
 
-/// Writes the image of the device to the front of a buffer, if it fits. Returns the size of the
-/// image, written or not; 0 without a device.
+/// Writes the image of the device to the start of a buffer, if it fits. Returns the size of the
+/// image, whether it was written or not; 0 if the holder is empty.
 #[unsafe(no_mangle)]
 pub extern "C" fn tpmsim_save(alloc: Global, holder: &mut Holder, room: &mut [u8]) -> usize
     ensures saved { MatchOption holder.old.device ((result ≡ 0) × (room.new ≡ room.old))
@@ -135,8 +135,8 @@ pub extern "C" fn tpmsim_save(alloc: Global, holder: &mut Holder, room: &mut [u8
     size
 }
 
-/// Writes what the device keeps without power, except its clock, to the front of a buffer, if that
-/// fits. Returns its size, written or not; 0 without a device.
+/// Writes what the device keeps without power, except its clock, to the start of a buffer, if it
+/// fits. Returns the size, whether it was written or not; 0 if the holder is empty.
 #[unsafe(no_mangle)]
 pub extern "C" fn tpmsim_kept(alloc: Global, holder: &mut Holder, room: &mut [u8]) -> usize
     ensures told { MatchOption holder.old.device ((result ≡ 0) × (room.new ≡ room.old))
@@ -151,8 +151,8 @@ pub extern "C" fn tpmsim_kept(alloc: Global, holder: &mut Holder, room: &mut [u8
     size
 }
 
-/// Opens a device from its image, as after a power cycle, instead of the holder's own. Otherwise
-/// the number is that of the first fault, or NO_MEMORY, and the holder is as it was.
+/// Replaces the holder's device by the device of an image, as after a power cycle. On failure,
+/// returns the number of the first error, or NO_MEMORY, and leaves the holder unchanged.
 #[unsafe(no_mangle)]
 pub extern "C" fn tpmsim_open(alloc: Global, holder: &mut Holder, image: &[u8]) -> u8
     ensures opens { (opened : Result Device Fault) × Opens record_of true image.now opened
@@ -173,7 +173,7 @@ pub extern "C" fn tpmsim_open(alloc: Global, holder: &mut Holder, image: &[u8]) 
     }
 }
 
-/// Frees the device, if there is one, and leaves the holder with none.
+/// Frees the device, if there is one, and leaves the holder empty.
 #[unsafe(no_mangle)]
 pub extern "C" fn tpmsim_free(alloc: Global, holder: &mut Holder)
     ensures { holder.new.device ≡ None }

@@ -1,4 +1,4 @@
-//! The export that executes a command below the completing layer.
+//! The export that executes a command through the completing layer.
 
 ghost use Rattle.std.specs.Prelude.{◌≡◌, ◌≢◌, ◌<◌, drop, false, true};
 ghost use Rattle.std.specs.declared.option.Option.TheVariants.{None, Some};

@@ -1,4 +1,4 @@
-//! A device in memory of its own.
+//! A device in its own heap allocation.
 
 ghost use Rattle.std.specs.Prelude.{◌≡◌, ◌≤◌, ◌∷◌, [], IfErr, IfOk, IfSome, drop, false, length};
 ghost use Rattle.std.specs.Prelude.{replicate, take, true};
@@ -44,8 +44,8 @@ use tpm_snapshot::{RestoreFault, completion_of, layer_of, restore_new};
 use tpm_step::{Event, Outcome};
 use tpm_types::Locality;
 
-/// A device, the outcome of its latest event, over which the next outcome is written, the state of
-/// its journal, and the buffer for its texts.
+/// A device; the outcome of its last event, which the next event overwrites; the state of its
+/// journal; and a buffer for its texts.
 #[derive(Drop)]
 pub struct Device {
     machine: Machine<SlotKeep>,
@@ -54,23 +54,23 @@ pub struct Device {
     scratch: Scratch,
 }
 
-/// What the caller of a command gets with its response.
+/// What a call returns about a command in addition to its response.
 #[repr(C)]
 #[derive(Clone, Copy, PartialEq, Eq)]
 pub struct Answered {
     /// The size of the response.
     pub size: usize,
-    /// The number of random bytes that were drawn, from their front.
+    /// The number of random bytes used, counted from the first.
     pub drawn: usize,
-    /// The command's code, 0 if none was found.
+    /// The command code; 0 if none was found.
     pub code: u32,
-    /// The number of the check that refused the command, 0 if none did.
+    /// The number of the check that refused the command; 0 if the command was accepted.
     pub check: u8,
 }
 
 impl Device {
-    /// A new device, whose secrets are these random bytes, and no journal; None if memory is
-    /// refused.
+    /// A new device without a journal; these random bytes become its secrets. None if an allocation
+    /// fails.
     pub fn manufacture(alloc: Global, random: &[u8; 256]) -> Option<Box<Device>>
         ensures state { IfSome result (λ b. record_of b.value ≡ manufactured random.now) }
         ensures history { IfSome result (λ b. Follows (record_of b.value) []) }
@@ -91,8 +91,8 @@ impl Device {
         }
     }
 
-    /// The device of an image, or the first fault; NoMemory if the text is an image and memory
-    /// is refused.
+    /// The device of an image, or the first error; NoMemory if the text is an image and an
+    /// allocation fails.
     pub fn open(alloc: Global, image: &[u8]) -> Result<Box<Device>, ImageFault>
         ensures exact { Opens (λ b. record_of b.value) true image.now result }
         ensures history { (version : Version) (r : Record) (history : History) → IsRecord r
@@ -107,7 +107,8 @@ impl Device {
         Ok(device)
     }
 
-    /// Executes a command, and writes its response to the front of this buffer, whose rest stays.
+    /// Executes a command, and writes its response to the start of a buffer, whose remaining bytes
+    /// are unchanged.
     pub fn execute(&mut self, event: &Event, response: &mut [u8; 4096]) -> Answered
         ensures executes { Executes false (record_of self.old) (plain_event event.now)
             (command_seen response.new result self.new) }
@@ -122,8 +123,8 @@ impl Device {
         tell(&self.outcome, self.machine.drawn(), response)
     }
 
-    /// Executes a command with the completing layer above the device, and writes its response to
-    /// the front of a buffer, whose rest stays.
+    /// Executes a command with the completing layer above the device. Writes its response to the
+    /// start of a buffer, whose remaining bytes are unchanged.
     pub fn complete(&mut self, event: &Event, response: &mut [u8; 4096]) -> Answered
         ensures completes { CompletesIf false true self.old.journal.layer (record_of self.old)
             (plain_event event.now) (seen_in response.new result self.new) }
@@ -147,7 +148,7 @@ impl Device {
             .execute_into(&Event::PowerCycle, &mut self.outcome);
     }
 
-    /// Writes the image to the front of a buffer, if it fits. Returns the size of the image.
+    /// Writes the image to the start of a buffer, if it fits. Returns the image's size.
     pub fn save_into(&mut self, room: &mut [u8]) -> usize
         ensures put { PutsFront (image_text Two (kept_of (record_of self.old))) room.old result
             room.new }
@@ -156,8 +157,8 @@ impl Device {
         self.scratch.save_into(&self.machine, room)
     }
 
-    /// Writes what the device keeps without power, except its clock, to the front of a buffer, if
-    /// that fits. Returns its size.
+    /// Writes what the device keeps without power, except its clock, to the start of a buffer, if
+    /// it fits. Returns its size.
     pub fn kept_into(&mut self, room: &mut [u8]) -> usize
         ensures put { PutsFront (kept_text (record_of self.old)) room.old result room.new }
         ensures kept { self.new ≡ self.old }
@@ -165,8 +166,7 @@ impl Device {
         self.scratch.kept_into(&self.machine, room)
     }
 
-    /// Writes the state text to the front of a buffer, if that is large enough. Returns how many
-    /// bytes it has.
+    /// Writes the state text to the start of a buffer, if it fits. Returns the text's size.
     pub fn snapshot_into(&mut self, buffer: &mut [u8]) -> usize
         ensures put { PutsFront (state_text (whole_state self.old)) buffer.old result buffer.new }
         ensures small { result ≤ state_text_size }
@@ -178,7 +178,7 @@ impl Device {
             .snapshot_into(&self.machine, Some(&layer), buffer)
     }
 
-    /// The device of a state text, or the first fault of the text; NoMemory if memory is refused,
+    /// The device of a state text, or the first error in the text; NoMemory if an allocation fails,
     /// whatever the text is.
     pub fn restored(alloc: Global, text: &[u8]) -> Result<Box<Device>, RestoreFault>
         ensures { RestoresDevice (λ b. b.value) text.now result }
@@ -190,7 +190,7 @@ impl Device {
         Ok(device)
     }
 
-    /// Makes a new device of zeros the one of a state text. After a fault the device is
+    /// Turns a new device of zeros into the device of a state text. On error the device is
     /// unspecified.
     fn restore(&mut self, text: &[u8]) -> Result<(), RestoreFault>
         requires { record_of self.old ≡ manufactured (replicate 256 0) }
@@ -205,8 +205,8 @@ impl Device {
         Ok(())
     }
 
-    /// Cycles the device's power, and writes the head of its new journal to the front of a buffer.
-    /// Returns the size of the head; if the buffer is smaller, nothing is done.
+    /// Power-cycles the device, and writes the head of its new journal to the start of a buffer.
+    /// Returns the size of the head. If the buffer is too small, the call has no effect.
     pub fn begin_journal(&mut self, now_ms: u64, room: &mut [u8]) -> usize
         ensures head { PutsFront (head_text Image now_ms (image_at_power self.old)) room.old result
             room.new }
@@ -216,8 +216,8 @@ impl Device {
             .begin(&mut self.machine, now_ms, &mut self.outcome, room)
     }
 
-    /// The clock of a checkpoint at this time: that of the journal, or the host's if no journal has
-    /// begun yet.
+    /// The clock of a checkpoint at this time: the journal's clock, or the host's if no journal has
+    /// been started yet.
     fn checkpoint_clock(&self, now_ms: u64) -> u64
         ensures { result ≡ checkpoint_clock self.now now_ms }
     {
@@ -228,8 +228,8 @@ impl Device {
         }
     }
 
-    /// Begins the device's journal again with a checkpoint, and writes its head to the front of a
-    /// buffer. Returns the size of the head; if the buffer is smaller, nothing is done.
+    /// Restarts the device's journal with a checkpoint, and writes its head to the start of a
+    /// buffer. Returns the size of the head. If the buffer is too small, the call has no effect.
     pub fn checkpoint(&mut self, now_ms: u64, buffer: &mut [u8]) -> usize
         ensures head { PutsFront (checkpoint_head self.old now_ms) buffer.old result buffer.new }
         ensures checkpoints { CheckpointsIfFits self.old now_ms (length buffer.old) result
@@ -239,8 +239,8 @@ impl Device {
         self.journal.checkpoint(&self.machine, clock_ms, buffer)
     }
 
-    /// The device of a journal, and the size of its head and entries; or the first fault; None if
-    /// memory is refused.
+    /// The device of a journal, and the size of the head and the entries in the text; or the first
+    /// error. None if an allocation fails.
     pub fn open_journal(
         alloc: Global,
         text: &[u8],
@@ -258,8 +258,8 @@ impl Device {
         }
     }
 
-    /// Opens the device of a journal instead of a new device of zeros. After a fault the device is
-    /// unspecified.
+    /// Turns a new device of zeros into the device of a journal; returns the size of the head and
+    /// the entries in the text. On error the device is unspecified.
     fn open_in_place(&mut self, text: &[u8]) -> Result<usize, OpenFault>
         requires { record_of self.old ≡ manufactured (replicate 256 0) }
         ensures opens { IfOk result (λ taken. IsOfJournal text.now taken self.new) }
@@ -270,7 +270,7 @@ impl Device {
         Ok(opened.taken)
     }
 
-    /// Executes the entries of a text that follows the device's journal.
+    /// Executes the entries of a text that continues the device's journal.
     pub fn follow(&mut self, text: &[u8]) -> Followed
         ensures { Replays false self.old.journal (record_of self.old) text.now result
             self.new.journal (record_of self.new) }
@@ -279,9 +279,9 @@ impl Device {
             .follow(&mut self.machine, text, &mut self.outcome)
     }
 
-    /// Executes a command by the host's clock, with the completing layer or without it, writes its
-    /// response to the front of a buffer, whose rest stays, and its entry to the front of another.
-    /// Returns the size of the entry.
+    /// Executes a command at the time `now_ms` of the host's clock, with or without the completing
+    /// layer. Writes its response to the start of one buffer, whose remaining bytes are unchanged,
+    /// and its entry to the start of another. Returns the size of the entry.
     pub fn execute_recorded(
         &mut self,
         buffer: &[u8],
@@ -313,7 +313,7 @@ impl Device {
     }
 }
 
-/// Writes a response to the front of a buffer, and returns what its caller gets with it.
+/// Writes a response to the start of a buffer, and returns the other data for its caller.
 fn tell(outcome: &Outcome, drawn: usize, response: &mut [u8; 4096]) -> Answered
     ensures front { take result.size response.new ≡ outcome.now.response.items }
     ensures rest { drop result.size response.new ≡ drop result.size response.old }

@@ -1,4 +1,4 @@
-//! The one pointer by which C holds a device.
+//! The pointer through which C holds a device.
 
 ghost use Rattle.std.specs.Prelude.{◌≡◌};
 ghost use Rattle.std.specs.Option.{MatchOption};
@@ -14,8 +14,9 @@ use std::alloc::Global;
 use std::marker::Model;
 use std::mem;
 
-/// The pointer by which C holds a device: it leads to the device's box, which the holder owns, or
-/// is null where there is no device. C sees one pointer, since an allocator has no bytes.
+/// The pointer through which C holds a device. It points to the device's box, which the holder
+/// owns, or is null if there is no device. C sees only a pointer, because the allocator occupies no
+/// bytes.
 #[repr(C)]
 #[derive(Drop)]
 pub struct Holder {
@@ -29,7 +30,7 @@ impl Model for Holder {
 }
 
 impl Holder {
-    /// A holder of what this owner has.
+    /// A holder with the pointer of this owner.
     pub fn of(owner: Owner<Device>) -> Holder
         ensures { result.device ≡ owner.value }
     {
@@ -40,7 +41,7 @@ impl Holder {
         }
     }
 
-    /// The owner of what this holder has.
+    /// An owner with the pointer of this holder.
     pub fn into_owner(self) -> Owner<Device>
         ensures { result.value ≡ self.device }
     {
@@ -51,7 +52,7 @@ impl Holder {
         }
     }
 
-    /// Takes the device out, if there is one, and leaves the holder with none.
+    /// Takes the device out, if there is one, and leaves the holder empty.
     pub fn take(&mut self, alloc: Global) -> Option<Box<Device>>
         ensures taken { MatchOption result (self.old.device ≡ None)
             (λ b. self.old.device ≡ Some b.value) }
@@ -61,7 +62,7 @@ impl Holder {
         mem::replace(self, empty).into_owner().into_box()
     }
 
-    /// Puts a device in, and frees the one that was there.
+    /// Puts a device in, and frees the device that the holder had.
     pub fn put(&mut self, device: Box<Device>)
         ensures { self.new.device ≡ Some device.value }
     {

@@ -23,8 +23,9 @@ use crate::told::{DONE, NO_DEVICE, NO_LOCALITY, NO_MEMORY, follow_number, open_n
 use std::alloc::Global;
 use tpm_types::Locality;
 
-/// Cycles the power of the device, and writes the head of its new journal to the front of a buffer.
-/// Returns the size of the head, or 0 without a device. Nothing is done if the buffer is smaller.
+/// Power-cycles the device, and writes the head of its new journal to the start of a buffer.
+/// Returns the size of the head, or 0 if the holder is empty. If the buffer is too small, the call
+/// has no effect.
 #[unsafe(no_mangle)]
 pub extern "C" fn tpmsim_journal_begin(
     alloc: Global,
@@ -46,9 +47,10 @@ pub extern "C" fn tpmsim_journal_begin(
     size
 }
 
-/// Begins the journal of the device again with a checkpoint, and writes its head to the front of a
-/// buffer. Returns the size of the head, or 0 without a device. Nothing is done if the buffer is
-/// smaller. The head has the journal's time as its clock, or `now_ms` if no journal has begun yet.
+/// Restarts the device's journal with a checkpoint, and writes its head to the start of a buffer.
+/// Returns the size of the head, or 0 if the holder is empty. If the buffer is too small, the call
+/// has no effect. The clock in the head is the journal's time, or `now_ms` if no journal has been
+/// started yet.
 #[unsafe(no_mangle)]
 pub extern "C" fn tpmsim_journal_checkpoint(
     alloc: Global,
@@ -70,9 +72,9 @@ pub extern "C" fn tpmsim_journal_checkpoint(
     size
 }
 
-/// Opens the device of a journal, instead of the holder's own, and writes the size of the head and
-/// the entries. Otherwise the number is that of the first fault, or NO_MEMORY, and the holder is as
-/// it was.
+/// Replaces the holder's device by the device of a journal, and reports the size of the head and
+/// the entries in the text. On failure, returns the number of the first error, or NO_MEMORY, and
+/// leaves the holder unchanged.
 #[unsafe(no_mangle)]
 pub extern "C" fn tpmsim_journal_open(
     alloc: Global,
@@ -97,8 +99,8 @@ pub extern "C" fn tpmsim_journal_open(
     }
 }
 
-/// Executes the entries of a text that follows what the device executed, and writes the size of
-/// these entries. NO_DEVICE: the holder has no device, and nothing is done.
+/// Executes the entries of a text that continues the device's journal, and reports their size in
+/// the text. Returns NO_DEVICE, without any effect, if the holder is empty.
 #[unsafe(no_mangle)]
 pub extern "C" fn tpmsim_journal_follow(
     alloc: Global,
@@ -122,10 +124,10 @@ pub extern "C" fn tpmsim_journal_follow(
     follow_number(followed.fault)
 }
 
-/// Executes a command by the host's clock, writes its response to the front of a buffer, and its
-/// entry to the front of another. If `completes` is not 0, the completing layer completes what the
-/// device does. NO_LOCALITY: the locality is not 0 to 4. NO_DEVICE: the holder has no
-/// device. In both cases nothing is written.
+/// Executes a command at the time `now_ms` of the host's clock. Writes its response to the start of
+/// one buffer, and its entry to the start of another. If `completes` is not 0, the completing layer
+/// is used. Returns NO_LOCALITY if the locality is not 0 to 4, and NO_DEVICE if the holder is
+/// empty. In both cases nothing is written.
 #[unsafe(no_mangle)]
 pub extern "C" fn tpmsim_journal_execute(
     alloc: Global,

@@ -1,4 +1,4 @@
-//! The keeper of a device, as the exports use it.
+//! The keeper of a device, in the form that the exports use.
 
 ghost use Rattle.std.specs.Prelude.{◌≡◌, ◌∷◌, OnErr, OnOk, false, true};
 ghost use Rattle.tpm_image_text.specs.Saving.{PutsFront};
@@ -27,12 +27,12 @@ use tpm_types::Locality;
 #[derive(Drop)]
 pub struct DeviceKeeper {
     keeper: CuttingKeeper<KeptDevice>,
-    /// Whether calls cut damage.
+    /// Whether calls cut damage in the journal.
     cuts: bool,
 }
 
 impl DeviceKeeper {
-    /// A keeper that has seen nothing, and refuses damage.
+    /// A keeper before its first call, which refuses a damaged journal.
     pub fn new(alloc: Global, force: Force, limit: u64) -> DeviceKeeper
         ensures made { call_of result ≡ idle (newborn force limit) }
         ensures cuts { result.cuts ≡ false }
@@ -43,7 +43,7 @@ impl DeviceKeeper {
         }
     }
 
-    /// From now on calls cut damage, or refuse it.
+    /// Sets whether later calls cut damage in the journal, or refuse it.
     pub fn set_cuts(&mut self, cuts: bool)
         ensures { self.new ≡ record self.old { cuts = cuts } }
     {
@@ -82,7 +82,8 @@ impl DeviceKeeper {
         self.keeper.begin(self.cuts, Job::Execute, text)
     }
 
-    /// Begins a power cycle at this time, with this number for the start of the completing layer.
+    /// Begins a power cycle at this time of the host's clock. The completing layer starts with the
+    /// number `start`.
     pub fn cycle_power(&mut self, alloc: Global, now_ms: u64, start: u64) -> Result<(), Exhausted>
         ensures ok { OnOk result (Begins self.old.cuts Execute (cycle_text now_ms start)
             self.old self.new) }
@@ -94,7 +95,7 @@ impl DeviceKeeper {
         self.keeper.begin(self.cuts, Job::Execute, text)
     }
 
-    /// Begins the call that looks for a device, or begins one with a seed.
+    /// Begins the call that opens the device, or makes one with a seed if there is none.
     pub fn begin_device(
         &mut self,
         alloc: Global,
@@ -113,7 +114,8 @@ impl DeviceKeeper {
         self.keeper.begin(self.cuts, Job::Begin, text)
     }
 
-    /// Begins the restoring of a state text. Damage is cut: the state replaces the device.
+    /// Begins the restoring of a state text. Since the state replaces the device, damage in the old
+    /// journal is cut.
     pub fn restore(
         &mut self,
         alloc: Global,
@@ -134,7 +136,7 @@ impl DeviceKeeper {
         self.keeper.begin(true, Job::Execute, text)
     }
 
-    /// What the host is to write.
+    /// The text that the host must write.
     fn text(&self) -> &[u8]
         ensures { result.now ≡ text_of (view_of self.now) }
     {
@@ -144,7 +146,7 @@ impl DeviceKeeper {
         }
     }
 
-    /// The response that may go out.
+    /// The response that may be sent.
     fn response(&self) -> &[u8]
         ensures { result.now ≡ response_of (view_of self.now) }
     {
@@ -167,21 +169,22 @@ impl DeviceKeeper {
         )
     }
 
-    /// Writes what the host is to write to the front of a buffer, if it fits. Returns its size.
+    /// Writes the text that the host must write to the start of a buffer, if it fits. Returns its
+    /// size.
     pub fn text_into(&self, buffer: &mut [u8]) -> usize
         ensures { PutsFront (text_of (view_of self.now)) buffer.old result buffer.new }
     {
         put_whole(self.text(), buffer)
     }
 
-    /// Writes the response that may go out to the front of a buffer, if it fits. Returns its size.
+    /// Writes the response that may be sent to the start of a buffer, if it fits. Returns its size.
     pub fn response_into(&self, buffer: &mut [u8]) -> usize
         ensures { PutsFront (response_of (view_of self.now)) buffer.old result buffer.new }
     {
         put_whole(self.response(), buffer)
     }
 
-    /// The response to a command, if the latest call executed one and is done.
+    /// The response to a command, if the latest call executed one and is done; otherwise empty.
     pub fn executed(&self) -> &[u8]
         ensures { result.now ≡ executed_by self.now }
     {
@@ -191,8 +194,8 @@ impl DeviceKeeper {
         }
     }
 
-    /// Writes the state text that is shown to the front of a buffer, if it fits. Returns its size;
-    /// 0 if the latest call showed nothing.
+    /// Writes the state text that is shown to the start of a buffer, if it fits. Returns its size;
+    /// 0 if the latest call showed no state text.
     pub fn state_into(&self, buffer: &mut [u8]) -> usize
         ensures { PutsFront (content_at (shown_by self.now)) buffer.old result buffer.new }
     {
@@ -203,7 +206,8 @@ impl DeviceKeeper {
         put_content(shown, buffer)
     }
 
-    /// Takes what the host did or saw, and goes on. If memory is refused, the call ends for that.
+    /// Continues with what the host did or saw. If an allocation fails, the call ends for that
+    /// reason.
     pub fn next(&mut self, got: u8, file: u64, size: u64, bytes: &[u8])
         ensures goes_on { GoesOn (call_of self.old)
             (told_by got (ask_of (view_of self.old)) file size bytes.now) (call_of self.new) }

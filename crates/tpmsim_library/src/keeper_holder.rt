@@ -1,4 +1,4 @@
-//! The one pointer by which C holds a keeper.
+//! The pointer through which C holds a keeper.
 
 ghost use Rattle.std.specs.Prelude.{◌≡◌};
 ghost use Rattle.std.specs.Option.{MatchOption};
@@ -14,8 +14,9 @@ use std::alloc::Global;
 use std::marker::Model;
 use std::mem;
 
-/// The pointer by which C holds a keeper: it leads to the keeper's box, which the holder owns, or
-/// is null where there is no keeper. C sees one pointer, since an allocator has no bytes.
+/// The pointer through which C holds a keeper. It points to the keeper's box, which the holder
+/// owns, or is null if there is no keeper. C sees only a pointer, because the allocator occupies no
+/// bytes.
 #[repr(C)]
 #[derive(Drop)]
 pub struct KeeperHolder {
@@ -29,7 +30,7 @@ impl Model for KeeperHolder {
 }
 
 impl KeeperHolder {
-    /// A holder of what this owner has.
+    /// A holder with the pointer of this owner.
     pub fn of(owner: Owner<DeviceKeeper>) -> KeeperHolder
         ensures { result.keeper ≡ owner.value }
     {
@@ -40,7 +41,7 @@ impl KeeperHolder {
         }
     }
 
-    /// The owner of what this holder has.
+    /// An owner with the pointer of this holder.
     pub fn into_owner(self) -> Owner<DeviceKeeper>
         ensures { result.value ≡ self.keeper }
     {
@@ -51,7 +52,7 @@ impl KeeperHolder {
         }
     }
 
-    /// Takes the keeper out, if there is one, and leaves the holder with none.
+    /// Takes the keeper out, if there is one, and leaves the holder empty.
     pub fn take(&mut self, alloc: Global) -> Option<Box<DeviceKeeper>>
         ensures taken { MatchOption result (self.old.keeper ≡ None)
             (λ b. self.old.keeper ≡ Some b.value) }
@@ -61,7 +62,7 @@ impl KeeperHolder {
         mem::replace(self, empty).into_owner().into_box()
     }
 
-    /// Puts a keeper in, and frees the one that was there.
+    /// Puts a keeper in, and frees the keeper that the holder had.
     pub fn put(&mut self, keeper: Box<DeviceKeeper>)
         ensures { self.new.keeper ≡ Some keeper.value }
     {

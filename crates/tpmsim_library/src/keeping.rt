@@ -23,7 +23,7 @@ use crate::shown::put_whole;
 use crate::told::{DONE, NO_DEVICE, NO_MEMORY, NO_WORD};
 use std::alloc::Global;
 
-/// Makes a keeper that has seen nothing, instead of the holder's own.
+/// Makes a keeper before its first call. It replaces any keeper of the holder.
 #[unsafe(no_mangle)]
 pub extern "C" fn tpmsim_keeper_new(
     alloc: Global,
@@ -51,7 +51,7 @@ pub extern "C" fn tpmsim_keeper_new(
     }
 }
 
-/// Begins a call. Otherwise nothing has changed.
+/// Begins a call. On failure nothing changes.
 #[unsafe(no_mangle)]
 pub extern "C" fn tpmsim_keeper_begin(
     alloc: Global,
@@ -83,7 +83,7 @@ pub extern "C" fn tpmsim_keeper_begin(
     }
 }
 
-/// From now on calls cut damage, if `cuts` is not 0, or refuse it.
+/// Sets whether later calls cut damage in the journal (`cuts` is not 0), or refuse it.
 #[unsafe(no_mangle)]
 pub extern "C" fn tpmsim_keeper_cuts(alloc: Global, holder: &mut KeeperHolder, cuts: u8) -> u8
     ensures set { MatchOption holder.old.keeper (holder.new.keeper ≡ None) (λ before.
@@ -98,7 +98,7 @@ pub extern "C" fn tpmsim_keeper_cuts(alloc: Global, holder: &mut KeeperHolder, c
     DONE
 }
 
-/// Says what the host is to do next.
+/// Reports what the host must do next.
 #[unsafe(no_mangle)]
 pub extern "C" fn tpmsim_keeper_ask(alloc: Global, holder: &mut KeeperHolder, request: &mut Request)
     ensures asks { MatchOption holder.old.keeper (request.new ≡ no_request)
@@ -113,8 +113,8 @@ pub extern "C" fn tpmsim_keeper_ask(alloc: Global, holder: &mut KeeperHolder, re
     holder.put(kept);
 }
 
-/// Writes what is to be written to the front of a buffer, if it fits. Returns its size, 0 without
-/// a keeper.
+/// Writes the text that the host must write to the start of a buffer, if it fits. Returns its size,
+/// or 0 if there is no keeper.
 #[unsafe(no_mangle)]
 pub extern "C" fn tpmsim_keeper_text(
     alloc: Global,
@@ -133,8 +133,7 @@ pub extern "C" fn tpmsim_keeper_text(
     size
 }
 
-/// Writes the response of a call that is done to the front of a buffer, if it fits. Returns its
-/// size.
+/// Writes the response of a finished call to the start of a buffer, if it fits. Returns its size.
 #[unsafe(no_mangle)]
 pub extern "C" fn tpmsim_keeper_response(
     alloc: Global,
@@ -153,7 +152,7 @@ pub extern "C" fn tpmsim_keeper_response(
     size
 }
 
-/// Takes what the host did or saw, and goes on.
+/// Continues with what the host did or saw.
 #[unsafe(no_mangle)]
 pub extern "C" fn tpmsim_keeper_next(
     alloc: Global,
@@ -176,8 +175,8 @@ pub extern "C" fn tpmsim_keeper_next(
     holder.put(kept);
 }
 
-/// Writes what a fault says to the front of a buffer, if it fits. Returns its size, 0 if no fault
-/// has this number.
+/// Writes the sentence for a fault to the start of a buffer, if it fits. Returns its size, or 0 if
+/// no fault has this number.
 #[unsafe(no_mangle)]
 pub extern "C" fn tpmsim_fault_text(fault: u8, buffer: &mut [u8]) -> usize
     ensures { PutsFront (fault_text fault) buffer.old result buffer.new }
@@ -188,7 +187,7 @@ pub extern "C" fn tpmsim_fault_text(fault: u8, buffer: &mut [u8]) -> usize
     put_whole(fault.sentence().as_bytes(), buffer)
 }
 
-/// Frees the keeper and its device, if there is one, and leaves the holder with none.
+/// Frees the keeper and its device, if there is one, and leaves the holder empty.
 #[unsafe(no_mangle)]
 pub extern "C" fn tpmsim_keeper_free(alloc: Global, holder: &mut KeeperHolder)
     ensures { holder.new.keeper ≡ None }

@@ -1,22 +1,21 @@
 #![tactic(auto)]
 
-//! libtpmsim: the device inside the process that uses it, by calls under the names that C links.
-//! The crate uses the machine, in fixed places, and its texts. The exports are in [`calls`],
-//! [`completing`], [`snapshots`] and [`journal`], and those on a keeper in [`keeping`] and
-//! [`asking`]. An allocator has no bytes, so C passes nothing for it. `library/tpmsim.h` declares
-//! the exports for C, and says what a caller owes.
+//! libtpmsim: the device inside the process that uses it, by calls with C linkage. It combines the
+//! machine, with its state in fixed slots, and the machine's texts. [`calls`], [`completing`],
+//! [`snapshots`] and [`journal`] contain the exports on a device, and [`keeping`] and [`asking`]
+//! those on a keeper. An allocator occupies no bytes, so C passes nothing for it.
+//! `library/tpmsim.h` declares the exports for C, and documents what a caller must ensure.
 //!
-//! A [`Holder`](holder::Holder) is one pointer, which is null where it has no device, so that
-//! memory of zeros is a holder. Each call takes every holder, and returns a [number](told). If that
-//! is not 0, nothing was done, and the holder is as it was; only `tpmsim_journal_follow` has
-//! executed the records before the fault. All that a caller owes is that the buffers are where it
-//! says. A [`KeeperHolder`](keeper_holder::KeeperHolder) is the same for a keeper. Both are made of
-//! an [`Owner`](owner::Owner), where a box becomes a pointer and back.
+//! A [`Holder`](holder::Holder) is one pointer, null if there is no device, so zeroed memory is a
+//! valid holder. Each call accepts every holder, and most return a [number](told). If that is not
+//! 0, nothing was done, and the holder is unchanged; only `tpmsim_journal_follow` has executed the
+//! entries before the error. A caller must ensure only that the buffers are where it says. A
+//! [`KeeperHolder`](keeper_holder::KeeperHolder) is the same for a keeper. Both are made of an
+//! [`Owner`](owner::Owner), which converts a box to a pointer and back.
 //!
-//! The contracts say of a command and of a power cycle what tpm_machine says, of an image what
-//! tpm_image says, of a state text what tpm_snapshot says, and of a keeper that its steps are those
-//! of tpm_keeping's definitions over the device's journal. No contract can say that memory is
-//! given back.
+//! The contracts say the same of a command and of a power cycle as tpm_machine, of an image as
+//! tpm_image, and of a state text as tpm_snapshot. A keeper's steps are those of tpm_keeping's
+//! definitions over the device's journal. No contract can say that memory is freed.
 
 mod asking;
 mod calls;

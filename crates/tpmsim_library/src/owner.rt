@@ -9,7 +9,8 @@ ghost use Rattle.tpmsim_library.specs.Held.{held};
 use std::alloc::Global;
 use std::marker::Model;
 
-/// The pointer to a box, which it owns; or null. A holder is made of it, and C sees the holder.
+/// The pointer to a box, which it owns; or null. A holder consists of an owner, and C sees only the
+/// holder.
 #[derive(Drop)]
 pub struct Owner<T> {
     pub(crate) at: *mut T,
@@ -22,7 +23,7 @@ impl<T> Model for Owner<T> {
 }
 
 impl<T: Drop> Owner<T> {
-    /// Null.
+    /// An owner with a null pointer.
     pub fn empty(alloc: Global) -> Owner<T>
         ensures { result.value ≡ None }
     {

@@ -1,4 +1,4 @@
-//! The numbers by which C and a keeper speak of what a host is to do, and of what it did.
+//! The numbers that C and a keeper exchange about what a host must do, and about what it did.
 
 ghost use Rattle.std.specs.Prelude.{◌≡◌};
 ghost use Rattle.tpm_keeping.specs.View.{told_of};
@@ -8,26 +8,26 @@ ghost use Rattle.tpmsim_library.specs.Keeping.{request_by, task_of, told_by};
 use tpm_keeping::holder::{End, Fault, Force, Job};
 use tpm_keeping::keeper::{Ask, Got};
 
-/// What a host is to do next.
+/// What a host must do next.
 #[repr(C)]
 #[derive(Clone, Copy, PartialEq, Eq)]
 pub struct Request {
-    /// The size to which the file is cut first, or the size of what the device executed of the old
-    /// journal.
+    /// The size to which the file must be cut first; or, for a new journal, the size of the part of
+    /// the old journal that the device executed.
     pub cut: u64,
     /// The offset in the file.
     pub at: u64,
-    /// The size of what is to be written, or of the response.
+    /// The size of the text that the host must write, or of the response.
     pub size: usize,
     /// The number of the task.
     pub task: u8,
-    /// The number of how the call ended.
+    /// The number that reports how the call ended.
     pub fault: u8,
-    /// 1 if a new journal drops the damage of the old one, else 0.
+    /// 1 if a new journal drops the damage of the old one, otherwise 0.
     pub drops: u8,
 }
 
-/// The word of force that has this number.
+/// The `Force` with this number, which says when the journal is synced to disk.
 pub fn force_of(number: u8) -> Option<Force>
     ensures { result ≡ force_of number }
 {
@@ -39,7 +39,7 @@ pub fn force_of(number: u8) -> Option<Force>
     }
 }
 
-/// The job that has this number.
+/// The `Job` with this number: what a call of the keeper does.
 pub fn job_of(number: u8) -> Option<Job>
     ensures { result ≡ job_of number }
 {
@@ -53,7 +53,7 @@ pub fn job_of(number: u8) -> Option<Job>
     }
 }
 
-/// The number of how a call ended.
+/// The number that reports how a call ended.
 fn end_number(end: End) -> u8
     ensures { result ≡ end_number end }
 {
@@ -78,7 +78,7 @@ fn end_number(end: End) -> u8
     }
 }
 
-/// The fault that has this number.
+/// The fault with this number.
 pub fn fault_of(number: u8) -> Option<Fault>
     ensures { result ≡ fault_of number }
 {
@@ -102,7 +102,7 @@ pub fn fault_of(number: u8) -> Option<Fault>
 }
 
 impl Request {
-    /// A task that needs no more than its number.
+    /// The request for a task that needs only its number.
     fn task(task: u8) -> Request
         ensures { result ≡ task_of task }
     {
@@ -116,7 +116,7 @@ impl Request {
         }
     }
 
-    /// Nothing, since there is no keeper.
+    /// The request if there is no keeper: no task, and the fault that says so.
     pub fn none() -> Request
         ensures { result ≡ no_request }
     {
@@ -126,8 +126,8 @@ impl Request {
         }
     }
 
-    /// What a keeper asks of its host, whose text has one of these sizes, or whose response has the
-    /// other, and which drops damage or does not.
+    /// The request for what a keeper asks, with the size of the text to write, or of the response,
+    /// and whether a new journal drops damage.
     pub fn of(asked: Ask, drops: bool, text: usize, response: usize) -> Request
         ensures { result ≡ request_by asked drops text response }
     {
@@ -163,7 +163,7 @@ impl Request {
     }
 }
 
-/// What a host reports by a number, which is 0 if it did all that was asked.
+/// What a host reports with this number. 0 reports that it did what was asked.
 pub fn told_by<'a>(got: u8, asked: Ask, file: u64, size: u64, bytes: &'a [u8]) -> Got<'a>
     ensures { told_of result ≡ told_by got asked file size bytes.now }
 {

@@ -1,4 +1,4 @@
-//! The buffer in which a device's texts are written, before they go to the caller's.
+//! The buffer in which a device's texts are written, before they are copied to the caller's buffer.
 
 ghost use Rattle.std.specs.Prelude.{◌≡◌, ◌≤◌, option_copied};
 ghost use Rattle.tpm_image_text.specs.Image.{image_text};
@@ -19,8 +19,8 @@ use tpm_slots::SlotKeep;
 use tpm_snapshot::Layer;
 use tpm_state_text::write_state;
 
-/// A buffer that is made once, since it is as large as most of a device, and is cleared by each
-/// use. It is no part of the device, so contracts see nothing in it.
+/// A buffer that is allocated once, because it is almost as large as a device. Each use clears it.
+/// It is no part of the device's state, so contracts do not mention its bytes.
 #[derive(Drop)]
 pub struct Scratch {
     text: Text,
@@ -37,8 +37,8 @@ impl Scratch {
         Scratch { text: Text::new() }
     }
 
-    /// Writes the image of a machine to the front of a buffer, if it fits. Returns the size of
-    /// the image.
+    /// Writes the image of a machine to the start of a buffer, if it fits. Returns the size of the
+    /// image.
     pub fn save_into(&mut self, machine: &Machine<SlotKeep>, buffer: &mut [u8]) -> usize
         ensures { PutsFront (image_text Two (kept_of (slot_record machine.now.keep))) buffer.old
             result buffer.new }
@@ -48,7 +48,7 @@ impl Scratch {
         put_front(head.as_slice(), self.text.as_slice(), buffer)
     }
 
-    /// Writes what a machine keeps without power, except its clock, to the front of a buffer, if it
+    /// Writes what a machine keeps without power, except its clock, to the start of a buffer, if it
     /// fits. Returns its size.
     pub fn kept_into(&mut self, machine: &Machine<SlotKeep>, buffer: &mut [u8]) -> usize
         ensures { PutsFront (kept_text (slot_record machine.now.keep)) buffer.old result
@@ -59,7 +59,7 @@ impl Scratch {
         put_front(&[], self.text.as_slice(), buffer)
     }
 
-    /// Writes the state text of a machine, with its completing layer, to the front of a buffer, if
+    /// Writes the state text of a machine, with its completing layer, to the start of a buffer, if
     /// it fits. Returns the size of the text.
     pub fn snapshot_into(
         &mut self,

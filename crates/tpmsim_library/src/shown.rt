@@ -1,4 +1,4 @@
-//! Writes what a keeper returns to the buffers of C.
+//! Writes what a keeper returns to C's buffers.
 
 ghost use Rattle.std.specs.Prelude.{◌≡◌, ◌≤◌, drop, length};
 ghost use Rattle.tpm_image_text.specs.Saving.{PutsFront};
@@ -10,7 +10,7 @@ use crate::device::Answered;
 use tpm_journal_text::{CONTENT_LIMIT, read_head};
 use tpm_kept_device::answer::Answer;
 
-/// Writes bytes to the front of a buffer, if they fit. Returns their number.
+/// Writes bytes to the start of a buffer, if they fit. Returns their number.
 pub fn put_whole(bytes: &[u8], buffer: &mut [u8]) -> usize
     ensures { PutsFront bytes.now buffer.old result buffer.new }
 {
@@ -21,9 +21,9 @@ pub fn put_whole(bytes: &[u8], buffer: &mut [u8]) -> usize
     bytes.len()
 }
 
-/// Writes the content of the head at the front of a text to the front of a buffer, if it fits.
-/// Returns its size, 0 without a head. Its own buffer is large, so it keeps that out of its
-/// caller's frame.
+/// Writes the content of the head at the start of a text to the start of a buffer, if it fits.
+/// Returns its size, or 0 without a head. The function is not inlined, so that its large buffer is
+/// not in its caller's stack frame.
 #[inline(never)]
 pub fn put_content(text: &[u8], buffer: &mut [u8]) -> usize
     ensures { PutsFront (content_at text.now) buffer.old result buffer.new }
@@ -35,7 +35,7 @@ pub fn put_content(text: &[u8], buffer: &mut [u8]) -> usize
     put_whole(head.content, buffer)
 }
 
-/// Writes an answer's response to the front of a buffer, and returns what its caller gets with it.
+/// Writes an answer's response to the start of a buffer, and returns the other data for its caller.
 pub fn put_answer(answer: Answer, response: &mut [u8; 4096]) -> Answered
     requires { length answer.response.now ≤ buffer_limit }
     ensures is { IsAnswer (plain_answer answer.entry) response.new result }

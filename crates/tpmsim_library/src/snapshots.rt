@@ -21,8 +21,8 @@ use crate::holder::Holder;
 use crate::told::{DONE, restore_number};
 use std::alloc::Global;
 
-/// Writes the state text of the device to the front of a buffer, if it fits. Returns the size of
-/// the text, written or not; 0 without a device.
+/// Writes the state text of the device to the start of a buffer, if it fits. Returns the size of
+/// the text, whether it was written or not; 0 if the holder is empty.
 #[unsafe(no_mangle)]
 pub extern "C" fn tpmsim_snapshot(alloc: Global, holder: &mut Holder, buffer: &mut [u8]) -> usize
     ensures written { MatchOption holder.old.device
@@ -40,8 +40,8 @@ pub extern "C" fn tpmsim_snapshot(alloc: Global, holder: &mut Holder, buffer: &m
     size
 }
 
-/// Restores a device from its state text, instead of the holder's own. Otherwise the number is
-/// that of the first fault, or NO_MEMORY, and the holder is as it was.
+/// Replaces the holder's device by the device of a state text. On failure, returns the number of
+/// the first error, or NO_MEMORY, and leaves the holder unchanged.
 #[unsafe(no_mangle)]
 pub extern "C" fn tpmsim_restore(alloc: Global, holder: &mut Holder, text: &[u8]) -> u8
     ensures restores { result ≡ done → (device : Device) × (holder.new.device ≡ Some device)
@@ -50,8 +50,8 @@ pub extern "C" fn tpmsim_restore(alloc: Global, holder: &mut Holder, text: &[u8]
     ensures told { result ≢ done → result ≢ no_memory → (fault : StateFault)
         × (result ≡ state_number fault) × (state_of_text text.now ≡ Err fault) }
 
-    // The text of a device restores just that device, with its layer and its history, unless memory
-    // was refused.
+    // The state text of a device restores exactly that device, including its layer and its history,
+    // unless an allocation fails.
     ensures taken { (state : WholeState) → IsWholeState state → text.now ≡ state_text state
         → result ≢ done → result ≡ no_memory }
     ensures again { (before : Device) → IsWholeState (whole_state before)

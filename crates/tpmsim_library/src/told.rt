@@ -1,4 +1,4 @@
-//! The numbers that calls answer.
+//! The numbers that calls return.
 
 ghost use Rattle.std.specs.Prelude.{◌≡◌};
 ghost use Rattle.tpmsim_library.specs.Told.{fault_number, follow_number, open_number};
@@ -8,25 +8,25 @@ use tpm_image::ImageFault;
 use tpm_journal::{FollowFault, OpenFault};
 use tpm_snapshot::{RestoreFault, StateFault};
 
-/// The call is done.
+/// The call succeeded.
 pub const DONE: u8 = 0;
 
-/// The holder has no device.
+/// The holder is empty.
 pub const NO_DEVICE: u8 = 1;
 
 /// The locality is not 0 to 4.
 pub const NO_LOCALITY: u8 = 2;
 
-/// Memory was refused.
+/// An allocation failed.
 pub const NO_MEMORY: u8 = 3;
 
-/// A number is that of no force, or of no job.
+/// No `Force`, or no `Job`, has the number that was passed.
 pub const NO_WORD: u8 = 19;
 
 /// The keeper has no answer to a command of the standard.
 pub const NO_ANSWER: u8 = 20;
 
-/// The number of the fault for which an image is not opened.
+/// The number of the error if an image cannot be opened.
 pub fn fault_number(fault: ImageFault) -> u8
     ensures { result ≡ fault_number fault }
 {
@@ -41,7 +41,7 @@ pub fn fault_number(fault: ImageFault) -> u8
     }
 }
 
-/// The number of the fault for which bytes are no state text.
+/// The number of the error if bytes are not a state text.
 pub fn state_number(fault: StateFault) -> u8
     ensures { result ≡ state_number fault }
 {
@@ -56,7 +56,7 @@ pub fn state_number(fault: StateFault) -> u8
     }
 }
 
-/// The number of the fault for which a device is not restored.
+/// The number of the error if a device cannot be restored.
 pub fn restore_number(fault: RestoreFault) -> u8
     ensures { result ≡ restore_number fault }
 {
@@ -66,7 +66,7 @@ pub fn restore_number(fault: RestoreFault) -> u8
     }
 }
 
-/// The number of how far a text was followed: to its end, or to this fault.
+/// The number that reports how far a text was followed: to its end, or to this error.
 pub fn follow_number(fault: Option<FollowFault>) -> u8
     ensures { result ≡ follow_number fault }
 {
@@ -77,7 +77,7 @@ pub fn follow_number(fault: Option<FollowFault>) -> u8
     }
 }
 
-/// The number of the fault for which a text is not opened as a journal.
+/// The number of the error if a text cannot be opened as a journal.
 pub fn open_number(fault: OpenFault) -> u8
     ensures { result ≡ open_number fault }
 {

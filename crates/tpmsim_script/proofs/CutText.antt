@@ -13,7 +13,6 @@ cut_writing (Some old) (Some new) held h =
     let wrote : new ++ [] ≡ old ++ h.0 = append-nil new ∙ h.3 in
     (h.1, ap (λ (l : List ℕ). old ++ l) h.2 ∙ sym (append_assoc old h.0 h.1) ∙ ap (λ (l : List ℕ). l ++ h.1) (sym wrote))
 
--- If a fact holds in any case, it holds on a fault.
 pub on_err : {X E : Type 0} (result : Result X E) (fact : Type 0) → fact → OnErr result fact
 on_err (Ok x) fact h = tt
 on_err (Err e) fact h = h
@@ -38,15 +37,15 @@ cut_longer None b more h = tt
 cut_longer (Some a) None more h = absurd h
 cut_longer (Some a) (Some b) more h = (h.0 ++ more, ap (λ (l : List ℕ). l ++ more) h.1 ∙ append_assoc b h.0 more)
 
--- If the output was truncated after a text was printed, the output with that text is truncated.
+-- If a text was printed, and the output was then truncated, the output with that text is truncated.
 pub cut_behind : (a b c : Option (List ℕ)) (text : List ℕ) → Appends a b text → CutOff b c → CutOff (append_known a text) c
 cut_behind None b c text h k = tt
 cut_behind (Some a) None c text h k = absurd h
 cut_behind (Some a) (Some b) None text h k = absurd k
 cut_behind (Some a) (Some b) (Some c) text h k = (k.0, sym h ∙ k.1)
 
--- If a text was printed, the contents were then kept, and a later text was truncated, both texts
--- together are truncated.
+-- Suppose that a text was printed, the output was then unchanged, and a later text was truncated.
+-- Then both texts together are truncated.
 pub cut_within : (a b c d : Option (List ℕ)) (text more : List ℕ) → Appends a b text → Keeps b c → CutOff (append_known c more) d → CutOff (append_known a (text ++ more)) d
 cut_within None b c d text more h k cut = tt
 cut_within (Some a) None c d text more h k cut = absurd h

@@ -1,4 +1,4 @@
--- A script that is played line by line keeps its device.
+-- A script that is played line by line keeps its device, as `KeepsDevice` defines it.
 use Rattle.std.proofs.Common.{◌≡◌, ℕ, ◌+◌, ◌<◌, List, [], ◌∷◌, ◌++◌, length, Bool, true, false, Option, Some, None, IfSome, refl, sym, ap, subst, ◌∙◌, append_assoc, append-nil, length-append, arith}
 use Rattle.std.proofs.lemmas.Bool.{false≢true}
 use Rattle.std.specs.Prelude.{Result, Ok, Err, OnOk, OnErr}
@@ -102,7 +102,7 @@ left_from (Some text) (Some here) None lines line P h k p = absurd k
 left_from (Some text) (Some here) (Some rest) lines line P h k p =
     (line ∷ lines_of rest, h ∙ ap (λ (l : List (List ℕ)). lines ++ l) k, p (lines_of rest))
 
--- If lines were read, the whole text consists of them and of the lines that remain.
+-- If lines were read, the whole text consists of these lines and of the lines that remain.
 left_any : (text here : Option (List ℕ)) (lines : List (List ℕ)) (P : List (List ℕ) → Type 0) → LosesLines text lines here → ((rest : List (List ℕ)) → P rest)
     → IfSome text (λ text. (rest : List (List ℕ)) × (lines_of text ≡ lines ++ rest) × P rest)
 left_any None here lines P h p = tt
@@ -306,8 +306,8 @@ told_there saves saves_change line said device old result new e told = subst (λ
 -- ---- a whole run: nothing was read or in memory at its start, and then the last lines are
 -- written and the device is saved
 
--- If a run kept its device from a start with the same text, output and script, it kept its device
--- from this start.
+-- If a run kept its device from one start, it also kept the device from any start with the same
+-- text, output and script.
 pub begun_at : {S : Type 0} (saves saves_change : S → Record → S → Type 0) (before text left held old new : Option (List ℕ)) (writer : Marks) (q p : Playing) (saver : S) (result : Result (Unit {0}) ScriptFault) (Last : Kept S → Type 0)
     → before ≡ text → held ≡ old → q ≡ p → KeepsDevice saves saves_change before left held new writer (kept q saver) result Last → KeepsDevice saves saves_change text left old new writer (kept p saver) result Last
 begun_at saves saves_change before text left held old new writer q p saver result Last a b c h =
@@ -320,8 +320,8 @@ others_yet : (text : Option (List ℕ)) (lines : List (List ℕ)) (P Q : List (L
 others_yet None lines P Q q h = tt
 others_yet (Some text) lines P Q q h = (h.0, h.1, q h.0)
 
--- If lines were played up to one end of a run, they were also played up to another end for which
--- the same lines count.
+-- If lines were played up to one end of a run, they were also played up to another end that counts
+-- the same lines.
 recast : {S : Type 0} (saves saves_change : S → Record → S → Type 0) (text left old mid new : Option (List ℕ)) (start : Kept S) (result other : Result (Unit {0}) ScriptFault) (Last Next : Kept S → Type 0)
     → (h : Played saves saves_change text left old mid start result Last) → Counts other (length h.lines) → ((rest : List (List ℕ)) → Leaves other left h.end.playing rest) → Writes other old new h.print → Next h.end
     → Played saves saves_change text left old new start other Next

@@ -115,7 +115,6 @@ found_last line rest more h e none some =
     let cut : line ++ (rest ++ more) ≡ line ++ rest = ap (λ l. line ++ (rest ++ l)) none ∙ ap (λ l. line ++ l) (append-nil rest) in
     ap lines_of cut ∙ only_line (line ++ rest) (found_more line rest h e) some ∙ ap (λ l. (line ++ rest) ∷ lines_of l) (sym none)
 
--- A range without its first elements is a shorter range.
 pub rest_behind : (bytes : List ℕ) (from count end : ℕ) → from + count ≤ end → slice_range bytes (from + count) end ≡ drop count (slice_range bytes from end)
 rest_behind bytes from count end h =
     let size : end - from ≡ count + (end - (from + count)) = omega arith in

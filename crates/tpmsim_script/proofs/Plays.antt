@@ -95,8 +95,6 @@ ran_to_fault left old new rest p number NoMemory line P found kept whole = tt
 
 -- ---- a run up to a line
 
--- If a line had this effect, and then the lines before a later one were played, all lines before
--- the later one were played.
 reached_next : (left rest old held mid new : Option (List ℕ)) (p : Playing) (number : ℕ) (line : List ℕ) (did : Effect) (next : ℕ) (behind : List (List ℕ))
     → LosesFirstLine left line rest → Keeps old held → perform_line p line ≡ Some did → Appends held mid did.text → PlaysUpTo rest mid new did.next (number + 1) next behind → PlaysUpTo left old new p number next behind
 reached_next None rest old held mid new p number line did next behind t k e a h = tt
@@ -113,8 +111,8 @@ pub reached_on : (left rest old held mid new : Option (List ℕ)) (p q : Playing
 reached_on left rest old held mid new p q number line done next behind t k did h =
     reached_next left rest old held mid new p number line did.0 next behind t k did.1 did.2 (subst (λ x. PlaysUpTo rest mid new x (number + 1) next behind) did.3 h)
 
--- If the lines from here up to a later line are played after the lines before, all lines from the
--- start up to the later line are played.
+-- If the lines from here up to a later line are played after the lines before them, all lines from
+-- the start up to the later line are played.
 abbrev pub Leads : Option (List ℕ) → Option (List ℕ) → Playing → ℕ → Option (List ℕ) → Option (List ℕ) → Playing → Option (List ℕ) → Type 0
 Leads here old p number start first q new = (next : ℕ) (behind : List (List ℕ)) → PlaysUpTo here old new p number next behind → PlaysUpTo start first new q 1 next behind
 

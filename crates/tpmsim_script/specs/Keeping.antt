@@ -21,9 +21,9 @@ pub record Kept (S : Type 0) : Type 0 where
 abbrev pub kept : {S : Type 0} → Playing → S → Kept S
 kept playing saver = record { playing = playing; saver = saver }
 
--- How the saver was notified of the device after a line. After a command, it was notified that
--- the device may have changed; after a power cycle, of the device with its clock. After any other
--- line the saver is unchanged.
+-- How the saver was notified of the device after a line. After a command, it was notified that the
+-- device may have changed; after a power cycle, of the device with its clock. After any other line
+-- the saver is unchanged.
 abbrev pub Tells : {S : Type 0} → (saves saves_change : S → Record → S → Type 0)
     → Option Meaning → Record → S → S → Type 0
 Tells saves saves_change (Some (Executes digits)) device old new = saves_change old device new

@@ -2,8 +2,8 @@
 
 //! Scripts of commands: [`run::run_device`] plays a script on a device and writes the device's
 //! responses, and [`run::run_script`] plays one on a new device. [`checker::Checker`] reads the
-//! lines without running them, and [`report::report_of`] reports their faults, one line of text
-//! for each bad line.
+//! lines without running them, and [`report::report_of`] reports their faults, one line of text for
+//! each bad line.
 //!
 //! A script is a text whose lines are read one after another ([`lines`], [`line`]). A line sets
 //! values for the next command ([`script`]), or is performed on the device ([`player`]), with a
@@ -11,13 +11,13 @@
 //! ([`answers`]) that is written before more of the script is read ([`run`]). A saver is notified
 //! of the device as the script runs.
 //!
-//! The crate uses `tpm_machine` for the device and its savers, `tpm_text` for commands in words
-//! and traces, `tpm_help` for what is expected at a fault in words, and `tpm_hex`. If allocations
-//! for the device never fail, the output is the one that `specs/` defines for the script, to its
-//! end or to its first bad line. Whatever the fault, the lines before it were run, and the saver
-//! was notified of the device at each of them. All memory is allocated at the start, except for
-//! the device's own and for a report's text. A report equals its definition in `specs/`, which
-//! maps the faults of the script's lines.
+//! The crate uses `tpm_machine` for the device and its savers, `tpm_text` for commands in words and
+//! traces, `tpm_help` for what is expected at a fault in words, and `tpm_hex`. If allocations for
+//! the device never fail, the output is the one that `specs/` defines for the script, to its end or
+//! to its first bad line. Whatever the fault, the lines before it were run, and the saver was
+//! notified of the device at each of them. All memory is allocated at the start, except for the
+//! device's own and for a report's text. A report equals its definition in `specs/`, which lists
+//! the faults of the script's lines.
 
 pub mod answers;
 pub mod bad_line;

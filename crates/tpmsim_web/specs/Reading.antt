@@ -66,7 +66,7 @@ ReadsLine line waited (Ok read) written next =
 ReadsLine line waited (Err bad) written next =
     (line_check waited line ≡ Err bad) × (next ≡ waited)
 
--- The call reported an error, and what was expected there.
+-- The call reported an error in a line, and what was expected at the error.
 pub record TellsFault (found : AsmFault) (word : List ℕ) (read : ReadLine) (old new : List ℕ) : Type 0
   where
     pub kind : read.kind ≡ 0

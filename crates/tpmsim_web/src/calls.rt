@@ -65,9 +65,9 @@ pub extern "C" fn device_manufacture(
     *holder = Holder::new(place, Device::manufacture(alloc, random));
 }
 
-/// Executes a command, and writes its response and its trace to the start of their buffers.
-/// Returns NO_LOCALITY if the locality is not 0 to 4, and NO_DEVICE if the holder is empty. In
-/// both cases nothing is written.
+/// Executes a command, and writes its response and its trace to the start of their buffers. Returns
+/// NO_LOCALITY if the locality is not 0 to 4, and NO_DEVICE if the holder is empty. In both cases
+/// nothing is written.
 #[unsafe(no_mangle)]
 pub extern "C" fn device_execute(
     holder: &mut Holder,

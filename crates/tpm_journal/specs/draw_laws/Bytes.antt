@@ -11,15 +11,14 @@ use Rattle.tpm_types.specs.declared.refused.Refused.{Refused}
 abbrev pub with_random : Request → List ℕ → Request
 with_random q other = record q { random = other }
 
--- A row acts in the same way with other random bytes: its success is the same if these agree on
--- all bytes that the row says it draws. A refusal draws none.
+-- A row acts in the same way with other random bytes: its success is the same if these agree on all
+-- bytes that the row draws. A refusal draws none.
 abbrev pub ActsAlike : (random other : List ℕ) → (acts acts_other : Result Success Refused) → Type 0
 ActsAlike random other (Ok s) acts_other =
     take s.answer.drawn other ≡ take s.answer.drawn random → acts_other ≡ Ok s
 ActsAlike random other (Err e) acts_other = acts_other ≡ Err e
 
--- There is an equal number of these other random bytes, and they agree on all bytes that the
--- command draws.
+-- The list of other random bytes is as long, and agrees on all bytes that the command draws.
 abbrev pub AgreeOnDrawn : Record → (buffer : List ℕ) → (locality elapsed : ℕ)
     → (random other : List ℕ) → Type 0
 AgreeOnDrawn r buffer locality elapsed random other =

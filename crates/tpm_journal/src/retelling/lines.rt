@@ -1,4 +1,4 @@
-//! Writes the lines that retell a head or an entry.
+//! Writes the lines for a head or an entry of a journal.
 
 ghost use Rattle.std.specs.Prelude.{◌≡◌, ◌≤◌, ◌*◌, ◌++◌, ◌∷◌, [], OnErr, OnOk, codes, drop, length, take, true};
 ghost use Rattle.std.specs.Io.KnownBytes.{Appends};
@@ -21,7 +21,7 @@ const MARK_LINE_SIZE: usize = 72;
 /// The largest number of hex digits in a response.
 const DIGITS_LIMIT: usize = 8_192;
 
-/// Retells a head. Only a script contains it.
+/// Writes the lines for a head. Only a script contains it.
 pub fn put_head<W: Write>(writer: &mut Tap<W>, form: Telling, head: &[u8]) -> Result<(), Failed>
     ensures written { OnOk result (Appends (W.contents (device_of writer.old))
         (W.contents (device_of writer.new)) (retold_head form head.now)) }
@@ -33,8 +33,8 @@ pub fn put_head<W: Write>(writer: &mut Tap<W>, form: Telling, head: &[u8]) -> Re
     }
 }
 
-/// Retells an entry that was answered with this outcome. The first `size` bytes of `text` are the
-/// entry's own text.
+/// Writes the lines for an entry that was answered with this outcome. The first `size` bytes of
+/// `text` are the entry's own text.
 pub fn put_entry<W: Write>(
     writer: &mut Tap<W>,
     form: Telling,
@@ -79,7 +79,7 @@ fn put_lines<W: Write>(writer: &mut Tap<W>, comment: &Comment, text: &[u8]) -> R
     writer.write_all(lines)
 }
 
-/// Writes the answer to an entry: the words of the comment, and the response in hex.
+/// Writes the answer to an entry: the text of the comment, and the response in hex.
 #[tactic(auto, using(crate::proofs::retelling::Words::put_together))]
 fn put_answer<W: Write>(
     writer: &mut Tap<W>,

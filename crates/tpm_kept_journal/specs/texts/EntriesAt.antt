@@ -1,30 +1,30 @@
--- The entries at the front of a text, one after another.
+-- The entries at the start of a text, one after another.
 use Rattle.std.specs.Prelude.{ℕ, zero, suc, List, [], ◌∷◌, drop, length, Option, Some, None}
 use Rattle.tpm_journal_text.specs.Entry.{PlainEntry, entry_text, sum_after}
 use Rattle.tpm_journal_text.specs.Journal.{entries_text}
 use Rattle.tpm_kept_journal.specs.texts.EntryAt.{entry_at}
 
--- an entry, and those that follow it; or none
+-- an entry, and the entries after it; or no entries
 abbrev pub with_next : Option PlainEntry → (PlainEntry → List PlainEntry) → List PlainEntry
 with_next (Some e) following = e ∷ following e
 with_next None following = []
 
--- the text after an entry at its front
+-- the text after the entry at its start
 abbrev pub after_entry : (sum : ℕ) → PlainEntry → List ℕ → List ℕ
 after_entry sum e text = drop (length (entry_text sum e)) text
 
--- at most so many entries at the front of a text
+-- the entries at the start of a text, at most `most`
 unfoldable pub entries_up_to : (most sum : ℕ) → List ℕ → List PlainEntry
 entries_up_to zero sum text = []
 entries_up_to (suc most) sum text =
     with_next (entry_at sum text)
     (λ e. entries_up_to most (sum_after sum e) (after_entry sum e text))
 
--- the entries at the front of a text, where `sum` is the sum of the marks before it: no more than
--- it has bytes
+-- the entries at the start of a text; `sum` is the sum of the marks before it. There are at most as
+-- many entries as bytes
 unfoldable pub entries_at : (sum : ℕ) → List ℕ → List PlainEntry
 entries_at sum text = entries_up_to (length text) sum text
 
--- the text after these entries at its front
+-- the text after these entries at its start
 abbrev pub after_entries : (sum : ℕ) → List PlainEntry → List ℕ → List ℕ
 after_entries sum entries text = drop (length (entries_text sum entries)) text

@@ -1,22 +1,22 @@
--- The entry at the front of a text.
+-- The entry at the start of a text.
 use Rattle.std.specs.Prelude.{ℕ, ◌+◌, ◌*◌, ◌^◌, ◌==◌, ◌&&◌, nat_le, nat_lt, Bool}
 use Rattle.std.specs.Prelude.{List, drop, length, max, slice_index, take, Option}
 use Rattle.std.specs.Int.{w32, w64, from_be_bytes}
 use Rattle.tpm_journal_text.specs.Entry.{PlainEntry, buffer_size, drawn_size, entry_limit, entry_text, mark_size}
 use Rattle.tpm_kept_journal.specs.texts.Parts.{are_bytes, begins_with, hex_at, where_so}
 
--- whether a command is one that has an entry
+-- whether the fields of an entry have allowed values
 unfoldable pub is_entry : PlainEntry → Bool
 is_entry e =
     (nat_lt e.elapsed (2 ^ 32) && (nat_le e.locality 4 && nat_lt e.answered (2 ^ 64)))
     && ((nat_le (length e.drawn) 256 && are_bytes e.drawn)
     && (nat_le (length e.buffer) entry_limit && are_bytes e.buffer))
 
--- the mark of an entry, which is after the word of its line
+-- the mark of an entry, which follows the first word of its line
 unfoldable pub mark_in : List ℕ → List ℕ
 mark_in text = hex_at 2 mark_size text
 
--- the entry whose numbers a mark has, and whose bytes a text has, each at its place
+-- the entry with the numbers in its mark, and the bytes at their offsets in the text
 unfoldable pub entry_by : (mark text : List ℕ) → PlainEntry
 entry_by mark text = record {
   elapsed = from_be_bytes w32 (take 4 mark);
@@ -27,12 +27,12 @@ entry_by mark text = record {
   answered = from_be_bytes w64 (take 8 (drop 18 mark));
 }
 
--- whether a text begins with the one text of this entry, where `sum` is the sum of the marks before
+-- whether a text begins with exactly the text of this entry; `sum` is the sum of the marks before
 -- it
 abbrev pub begins_with_entry : (sum : ℕ) → List ℕ → PlainEntry → Bool
 begins_with_entry sum text e = is_entry e && begins_with text (entry_text sum e)
 
--- the entry at the front of a text
+-- the entry at the start of a text
 unfoldable pub entry_at : (sum : ℕ) → List ℕ → Option PlainEntry
 entry_at sum text =
     let e = entry_by (mark_in text) text in

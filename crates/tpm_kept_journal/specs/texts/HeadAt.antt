@@ -1,4 +1,4 @@
--- The head at the front of a text.
+-- The head at the start of a text.
 use Rattle.std.specs.Prelude.{ℕ, ◌^◌, ◌&&◌, nat_le, nat_lt, Bool, cond, List, drop, length, take, Option}
 use Rattle.std.specs.Int.{w32, w64, from_be_bytes}
 use Rattle.tpm_journal_text.specs.Head.{content_limit, head_text, head_word}
@@ -6,7 +6,7 @@ use Rattle.tpm_journal_text.specs.declared.head.HeadKind.{HeadKind}
 use Rattle.tpm_journal_text.specs.declared.head.HeadKind.TheVariants.{Image, State}
 use Rattle.tpm_kept_journal.specs.texts.Parts.{are_bytes, begins_with, hex_at, where_so}
 
--- a head: its kind, the host's clock in milliseconds, and what it holds
+-- a head: its kind, the host's clock in milliseconds, and its content
 pub record PlainHead : Type 0 where
   pub kind : HeadKind
   pub clock : ℕ
@@ -22,15 +22,15 @@ is_head h =
     nat_lt h.clock (2 ^ 64)
     && (nat_le (length h.content) (content_limit h.kind) && are_bytes h.content)
 
--- the kind of the head with which a text may begin, by its word
+-- the kind of the head at the start of a text, if there is one, by its first word
 unfoldable pub kind_in : List ℕ → HeadKind
 kind_in text = cond (begins_with text (head_word State)) State Image
 
--- the mark of a head, which is after the word of its line
+-- the mark of a head, which follows the first word of its line
 unfoldable pub head_mark_in : List ℕ → List ℕ
 head_mark_in text = hex_at 19 20 text
 
--- the head of this kind whose numbers a mark has, and whose content a text has, each at its place
+-- the head of this kind with the numbers in its mark, and the content at its offset in the text
 unfoldable pub head_by : HeadKind → (mark text : List ℕ) → PlainHead
 head_by kind mark text = record {
   kind = kind;
@@ -38,11 +38,11 @@ head_by kind mark text = record {
   content = hex_at 79 (from_be_bytes w32 (take 4 (drop 8 mark))) text;
 }
 
--- whether a text begins with the one text of a head
+-- whether a text begins with exactly the text of this head
 abbrev pub begins_with_head : List ℕ → PlainHead → Bool
 begins_with_head text h = is_head h && begins_with text (text_of_head h)
 
--- the head at the front of a text
+-- the head at the start of a text
 unfoldable pub head_at : List ℕ → Option PlainHead
 head_at text =
     let h = head_by (kind_in text) (head_mark_in text) text in

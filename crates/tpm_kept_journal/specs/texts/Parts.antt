@@ -1,24 +1,24 @@
--- Parts of a text, each at its place.
+-- Parts of a text, each at its offset.
 use Rattle.std.specs.Prelude.{ℕ, ◌*◌, nat_lt, Bool, true, false, bytes_eq}
 use Rattle.std.specs.Prelude.{List, [], drop, length, take, Option, Some, None, Result, Ok, Err}
 use Rattle.std.specs.List.{list_all}
 use Rattle.hex.specs.Hex.{decode_of}
 
--- a value, or nothing where the test fails
+-- a value if the test holds, otherwise None
 abbrev pub where_so : {A : Type 0} → Bool → A → Option A
 where_so true value = Some value
 where_so false value = None
 
--- what was read, or no bytes
+-- the bytes that were read; no bytes if the read failed
 abbrev pub read_or_none : {E : Type 0} → Result (List ℕ) E → List ℕ
 read_or_none (Ok bytes) = bytes
 read_or_none (Err fault) = []
 
--- the bytes that hex digits encode, if they do
+-- the bytes that hex digits encode; no bytes if they are not hex
 abbrev pub spelled : (digits : List ℕ) → List ℕ
 spelled digits = read_or_none (decode_of digits)
 
--- so many bytes in hex at a place of a text
+-- the `count` bytes in hex at an offset of a text
 abbrev pub hex_at : (place count : ℕ) → (text : List ℕ) → List ℕ
 hex_at place count text = spelled (take (2 * count) (drop place text))
 
@@ -26,6 +26,6 @@ hex_at place count text = spelled (take (2 * count) (drop place text))
 abbrev pub are_bytes : List ℕ → Bool
 are_bytes bytes = list_all (λ byte. nat_lt byte 256) bytes
 
--- whether a text begins with this one
+-- whether the first text begins with the second
 abbrev pub begins_with : (text front : List ℕ) → Bool
 begins_with text front = bytes_eq (take (length front) text) front

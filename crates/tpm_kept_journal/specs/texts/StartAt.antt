@@ -1,15 +1,15 @@
--- With what a journal starts whose text begins with a head.
+-- The device and the journal that the head of a text starts.
 use Rattle.std.specs.Prelude.{ℕ, List, Option, Some, None, Result, Err}
 use Rattle.tpm_journal.specs.Starting.{Start, start_by}
 use Rattle.tpm_journal.specs.declared.opening.OpenFault.{OpenFault}
 use Rattle.tpm_journal.specs.declared.opening.OpenFault.TheVariants as fault
 use Rattle.tpm_kept_journal.specs.texts.HeadAt.{PlainHead, head_at}
 
--- the start by a head, or the fault of what it holds; none without a head
+-- the start by a head, or the fault of its content; the fault NoJournal without a head
 abbrev pub start_of : Option PlainHead → Result Start OpenFault
 start_of (Some h) = start_by h.kind h.clock h.content
 start_of None = Err fault.NoJournal
 
--- the start by the head at the front of a text
+-- the start by the head at the beginning of a text
 unfoldable pub start_at : List ℕ → Result Start OpenFault
 start_at text = start_of (head_at text)

@@ -20,7 +20,6 @@ module _ {X : Type 0} (Is : X → Type 0) where
   all_set (first ∷ places) (suc place) cell is are zero = are zero
   all_set (first ∷ places) (suc place) cell is are (suc other) = all_set places place cell is (λ n. are (suc n)) other
 
-  -- A step: looking up a value by its kind keeps its property.
   of_kind : (b : Bool) (x : X) → Is x → IfSome (cond b (Some x) None) Is
   of_kind true x is = is
   of_kind false x is = tt

@@ -231,7 +231,7 @@ nv_undefine_space_laws = record {
 
 -- ---- changing an index
 
--- A step: the success of a change that keeps the number of indices satisfies the laws of rows.
+-- A success that keeps the number of indices satisfies the laws of rows.
 changed_success : {F : Type 0} (c : CommandCode) (r : Record) (q : Request)
     (refusal : F → Refused) (x : Result NvContents F) → leaves_sessions (part_of c) ≡ true
     → keeps_count (part_of c) ≡ true

@@ -61,8 +61,6 @@ answered_only c grants a effect random =
     let drawn = entries_rolled effect c.entries (drop a.drawn random) in
     then_only effect drawn.after (entries_ended drawn.after (granted_entries c grants)) (all_rolled effect c.entries (drop a.drawn random)) (all_ended drawn.after (granted_entries c grants))
 
--- A step: a record with other sessions, whose saved state is kept or discarded, differs only in
--- these.
 settled : (keeps : Bool) (r s : Record) → let x : Record = record r { sessions = s.sessions } in LeavesEffect r (cond keeps x (with_saved x Nothing))
 settled true r s = refl
 settled false r s = refl

@@ -267,12 +267,12 @@ pub late_own_fault : {X : Type 0} (Fit : Type 0) (x : Result X ActionFault)
 late_own_fault Fit (Ok u) = tt
 late_own_fault Fit (Err fault) = tt
 
--- the steps that read handles or parameters, and the late steps
+-- the proof steps for rows: those that read handles or parameters, and those that refuse late
 pub ruleset handle_steps = (behind_first, behind_second, behind_third, behind_entity, behind_index, behind_target, behind_target_asserted)
 
 pub ruleset reading_steps = (behind_reading, behind_handed, all_read_outcome, only_read, read_one, read_all, trimmed_read)
 
 pub ruleset late_steps = (rules, err_bind, err_if, err_or, err_fault, late_own_fault)
 
--- all steps of rows that refuse in order
+-- the proof steps for all rows that refuse in order
 pub ruleset ordered_steps = (handle_steps, reading_steps, late_steps)

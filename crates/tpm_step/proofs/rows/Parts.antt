@@ -61,7 +61,6 @@ keeps_places DisableClear = true
 keeps_places Cleared = true
 keeps_places _ = false
 
--- if as many slots are taken as before, no more are taken
 same_places : (old new : Record) → taken_in new ≡ taken_in old → Grows false old new
 same_places old new same = omega (arith, same)
 

@@ -24,8 +24,8 @@ GrowsNothing c = (old new : Record) → Grows false old new → GrowsAsShaped c 
 abbrev pub GrowsByOne : CommandCode → Type 0
 GrowsByOne c = (old new : Record) → Grows true old new → GrowsAsShaped c old new
 
--- a success that keeps the sessions as they are satisfies the laws of rows, if its changes, its
--- answer and its draws are those of its command
+-- A success that keeps the sessions satisfies the laws of rows, if its changes, its answer and its
+-- draws are those of its command.
 pub beside_sessions : (c : CommandCode) (r : Record) (q : Request) (s : Success)
     → leaves_sessions (part_of c) ≡ true → Touches (part_of c) r s.after → GrowsAsShaped c r s.after
     → ChangesIndices (part_of c) q r.nv s.after.nv → AnswersItsShape c s → DrawsAsSaid c q s → SuccessLaws c r q s
@@ -42,8 +42,8 @@ beside_sessions c r q s leaves touches grows changes answers draws = record {
     same : s.after.sessions ≡ r.sessions
     same = touched_same (part_of c) r s.after leaves touches
 
--- a success whose part takes no more slots satisfies the laws of rows, if its changes, its answer
--- and its draws are those of its command
+-- A success that takes no more slots satisfies the laws of rows, if its changes, its answer and its
+-- draws are those of its command.
 pub in_place : (c : CommandCode) (r : Record) (q : Request) (s : Success)
     → leaves_sessions (part_of c) ≡ true → keeps_places (part_of c) ≡ true → GrowsNothing c
     → Touches (part_of c) r s.after → ChangesIndices (part_of c) q r.nv s.after.nv
@@ -60,5 +60,5 @@ pub drawn_as_read : {P : Type 0} (count : P → ℕ) (x : Result P Refused) (p :
     → x ≡ Ok p → count p ≡ read_or_none count x
 drawn_as_read count x p is = sym (ap (read_or_none count) is)
 
--- the steps of a row whose part takes no more slots
+-- the proof steps for rows that take no more slots
 pub ruleset in_place_steps = (rules, ok_bind, in_place, none_drawn)

@@ -42,8 +42,8 @@ draws_of command.Create q =
 draws_of command.Clear q = 3 * 32
 draws_of _ q = 0
 
--- A success draws at most 96 of the event's 256 random bytes (the limit). The number is exactly
--- `draws_of` unless the command is TPM2_Startup.
+-- A success draws at most `draw_limit`, which is 96, of the event's 256 random bytes. The number is
+-- exactly `draws_of` unless the command is TPM2_Startup.
 abbrev pub DrawsAsSaid : CommandCode → Request → Success → Type 0
 DrawsAsSaid c q s =
     (s.answer.drawn ≤ draw_limit) × (is_startup c ≡ false → s.answer.drawn ≡ draws_of c q)

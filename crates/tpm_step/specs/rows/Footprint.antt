@@ -15,7 +15,7 @@ use Rattle.tpm_commands.specs.Part.{Part, Nothing, Sessions, Objects, SessionsAn
 use Rattle.tpm_commands.specs.Part.{NvCounter, NvAuthValue, NvDefined, NvUndefined, AuthValues, Lockout, Banks}
 use Rattle.tpm_commands.specs.Part.{Beginning, Saved, DisableClear, Cleared}
 
--- Each hierarchy keeps its seed and its proof.
+-- The seed and the proof of each hierarchy are unchanged.
 abbrev pub KeepsSecrets : Hierarchies → Hierarchies → Type 0
 KeepsSecrets old new = (h : HierarchyHandle) → secrets_of new h ≡ secrets_of old h
 

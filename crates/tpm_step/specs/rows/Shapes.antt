@@ -57,12 +57,12 @@ abbrev pub GrowsAsShaped : CommandCode → Record → Record → Type 0
 GrowsAsShaped command.EvictControl old new = Grows true old new ⊎ Grows true new old
 GrowsAsShaped c old new = Grows (shape_of c).grows old new
 
--- the rest of the bytes after a parameter that was read, or the parameter's fault
+-- the bytes after a parameter that was read, or the parameter's fault
 abbrev pub behind : {X : Type 0} → Result (X × List ℕ) Rc → Result (List ℕ) Rc
 behind (Ok p) = Ok p.1
 behind (Err rc) = Err rc
 
--- the rest of the bytes after a parameter of this kind, or the parameter's fault
+-- the bytes after a parameter of this kind, or the parameter's fault
 abbrev pub behind_kind : ParameterKind → List ℕ → Result (List ℕ) Rc
 behind_kind kind.StartupType text = behind (startup_type_at text)
 behind_kind kind.SessionType text = behind (session_type_at text)

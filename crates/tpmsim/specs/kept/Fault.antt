@@ -1,4 +1,4 @@
--- What the faults of a journal say of it.
+-- Why a journal could not be opened, as the program reports it.
 use Rattle.std.specs.Prelude.{◌≡◌, ◌⊎◌, ℕ, List, Err}
 use Rattle.tpm_journal.specs.Opening.{OpensJournal}
 use Rattle.tpm_journal.specs.declared.following.FollowFault.{FollowFault}
@@ -13,7 +13,7 @@ use Rattle.tpm_state_text.specs.declared.fault.StateFault.TheVariants as state
 use Rattle.tpmsim_folder.specs.declared.fault.Said.{Said}
 use Rattle.tpmsim_folder.specs.declared.fault.Said.TheVariants as said
 
--- what a fault says of a journal that was not followed, or not opened
+-- the report of the reason why a journal was not followed; and why it was not opened
 abbrev pub said_of_following : FollowFault → Said
 said_of_following following.Damaged = said.Keeper keeper.Damaged
 said_of_following following.Otherwise = said.WasAnsweredOtherwise
@@ -28,12 +28,12 @@ said_of_opening (opening.Image fault) = said.HoldsNoImage
 said_of_opening (opening.State fault) = said_of_state fault
 said_of_opening (opening.Follow fault) = said_of_following fault
 
--- A text is not opened as a journal, because of this fault.
+-- A text cannot be opened as a journal, because of this fault.
 abbrev pub HasFault : List ℕ → OpenFault → Type 0
 HasFault text fault = (new : Record) × OpensJournal text (Err fault) new
 
--- A fault says this of a text: why it is no journal; or, of one that is, that it was damaged when
--- it was read before; or that memory was refused.
+-- The report says why a text is not a journal. If the text is a journal, the report says that it
+-- was damaged when it was read before. The report may also say that an allocation failed.
 abbrev pub IsSaidOf : List ℕ → Said → Type 0
 IsSaidOf text words =
     ((fault : OpenFault) × (words ≡ said_of_opening fault) × HasFault text fault)

@@ -11,13 +11,14 @@ use Rattle.tpm_types.specs.declared.check.Check.{Check}
 abbrev pub row_of : Answer → Row
 row_of a = record { code = a.code; check = a.check }
 
--- A number is 0, or that of a command or of a check.
+-- A number is 0, or the number of a command; and a number is 0, or the number of a check.
 abbrev pub IsCode : ℕ → Type 0
 IsCode number = (number ≡ 0) ⊎ ((code : CommandCode) × (number ≡ code_number code))
 
 abbrev pub IsCheck : ℕ → Type 0
 IsCheck number = (number ≡ 0) ⊎ ((check : Check) × (number ≡ check_number check))
 
--- An answer can be traced: it has a row of the table, and a response with a header of ten bytes.
+-- An answer can be traced: it has a row of the table, and a response of at least ten bytes, the
+-- size of a header.
 abbrev pub IsTraceable : Answer → Type 0
 IsTraceable a = IsCode a.code × IsCheck a.check × (10 ≤ length a.response.now)

@@ -14,27 +14,28 @@ use tpm_types::Locality;
 use tpmsim_folder::moment::{clock_of, start_of};
 use tpmsim_folder::{Host, KeptFault, Place, Said};
 
-/// At this size of a journal the next command begins a new one.
+/// When a journal has this size, the next command begins a new journal.
 const JOURNAL_LIMIT: u64 = 262_144;
 
-/// A device that is kept in a folder. A call that fails has answered nothing, and the next one
-/// begins with what the journal has.
+/// A device that is kept in a folder. A call that fails has not answered the command. The next call
+/// begins with the contents of the journal.
 #[derive(Drop)]
 pub struct Kept<'a> {
     rt: &'a HostRuntime,
     host: Host<'a>,
     keeper: Keeper<KeptDevice>,
-    /// The journal as it was read when it was opened.
+    /// The text of the journal when it was last opened.
     journal: Vec<u8>,
-    /// What follows the executed bytes of the journal that a new one replaces.
+    /// The part of the old journal that the device did not execute, when a new journal replaces the
+    /// old one.
     tail: Tail,
-    /// Whether a new journal began in the latest call.
+    /// Whether the latest call began a new journal.
     has_begun: bool,
 }
 
 impl<'a> Kept<'a> {
-    /// Opens the folder of a device, or makes it if it is missing and `makes` is true. Nothing of
-    /// the device is read yet. `past` finished journals stay in the folder.
+    /// Opens the folder of a device. If it is missing and `makes` is true, creates the folder. Does
+    /// not read the device yet. Keeps `past` finished journals in the folder.
     pub fn at(
         rt: &'a HostRuntime,
         path: &str,
@@ -57,7 +58,8 @@ impl<'a> Kept<'a> {
         self.host.is_there()
     }
 
-    /// Begins a new device, whose secrets are these random bytes, unless one is in the folder.
+    /// Creates a new device, whose secrets are these random bytes, unless the folder contains a
+    /// device.
     pub fn manufacture(&mut self, random: &[u8; 256]) -> Result<(), KeptFault> {
         let now_ms = clock_of(self.rt)?;
         let seed = seed_of_random(self.rt.alloc(), now_ms, start_of(self.rt)?, random)?;
@@ -69,8 +71,8 @@ impl<'a> Kept<'a> {
         self.perform(Job::Show, &[])
     }
 
-    /// Executes a command of the standard by the host's clock, with the completing layer or without
-    /// it.
+    /// Executes a command of the standard at the present time of the host's clock, with or without
+    /// the completing layer.
     pub fn execute_now(
         &mut self,
         locality: Locality,
@@ -84,8 +86,8 @@ impl<'a> Kept<'a> {
         self.execute(&command)
     }
 
-    /// Executes a command of the standard so many milliseconds after the one before it, without the
-    /// completing layer.
+    /// Executes a command of the standard this many milliseconds after the one before it, without
+    /// the completing layer.
     pub fn execute_after(
         &mut self,
         elapsed_ms: u32,
@@ -98,7 +100,7 @@ impl<'a> Kept<'a> {
         self.execute(&command)
     }
 
-    /// Executes a command of the standard, of which this is the text for the keeper.
+    /// Executes a command of the standard, given its text for the keeper.
     fn execute(&mut self, command: &[u8]) -> Result<Answer<'_>, KeptFault> {
         self.perform(Job::Execute, command)?;
         match read_answer(self.keeper.response()) {
@@ -107,19 +109,19 @@ impl<'a> Kept<'a> {
         }
     }
 
-    /// Cycles the power of the device, for all processes that use it.
+    /// Power-cycles the device, for all processes that use it.
     pub fn cycle_power(&mut self) -> Result<(), KeptFault> {
         let now_ms = clock_of(self.rt)?;
         let command = power_cycle(self.rt.alloc(), now_ms, start_of(self.rt)?)?;
         self.perform(Job::Execute, &command)
     }
 
-    /// If the journal is damaged, begins a new one with what the device was before the damage.
+    /// If the journal is damaged, begins a new journal with the device as it was before the damage.
     pub fn cut(&mut self) -> Result<(), KeptFault> {
         self.perform(Job::Cut, &[])
     }
 
-    /// The state text of the device, in a buffer. The journal stays as it is.
+    /// The state text of the device, which is written to `content`. The journal is unchanged.
     pub fn snapshot<'b>(
         &mut self,
         content: &'b mut [u8; CONTENT_LIMIT],
@@ -131,8 +133,8 @@ impl<'a> Kept<'a> {
         }
     }
 
-    /// Replaces the device by that of a state text, for all processes that use it, or begins it if
-    /// there is none. Damage is cut first.
+    /// Replaces the device by the device of a state text, for all processes that use it, or creates
+    /// the device if there is none. First cuts damage in the journal.
     pub fn restore(&mut self, state: &[u8]) -> Result<(), KeptFault> {
         let alloc = self.rt.alloc();
         let now_ms = clock_of(self.rt)?;
@@ -150,7 +152,7 @@ impl<'a> Kept<'a> {
         }
     }
 
-    /// The text of the journal, also of a damaged one.
+    /// The text of the journal, even if it is damaged.
     pub fn journal(&mut self) -> Result<&[u8], KeptFault> {
         match self.perform(Job::Show, &[]) {
             Err(fault) if !fault.said.is_of_contents() => Err(fault),
@@ -158,7 +160,7 @@ impl<'a> Kept<'a> {
         }
     }
 
-    /// Does what the keeper asks for until a job is done, or has failed.
+    /// Does what the keeper asks, until the job is done or has failed.
     fn perform(&mut self, job: Job, text: &[u8]) -> Result<(), KeptFault> {
         self.has_begun = false;
         let Ok(()) = self.keeper.begin(job, text) else {
@@ -178,7 +180,7 @@ impl<'a> Kept<'a> {
         Err(Place::Journal.that(Said::Keeper(Fault::Idle)))
     }
 
-    /// How a job ended: it is done, or the host failed, or the keeper gave up.
+    /// How a job ended: it is done; or the host failed; or the keeper ended it.
     fn end(&self, end: End, fault: Option<KeptFault>) -> Result<(), KeptFault> {
         match (end, fault) {
             (End::Done, _) => Ok(()),
@@ -188,7 +190,7 @@ impl<'a> Kept<'a> {
         }
     }
 
-    /// Why the journal, which is read once more, is not opened.
+    /// Reads the journal again, and returns why it cannot be opened.
     fn damage(&self) -> Said {
         match self.host.read(0) {
             Ok(text) => said_of_text(self.rt.alloc(), &text),
@@ -196,7 +198,8 @@ impl<'a> Kept<'a> {
         }
     }
 
-    /// Does one thing, and reports it to the keeper. An error is left to the caller to report.
+    /// Performs one request of the keeper, and reports the result to the keeper, except for an
+    /// error, which the caller reports.
     fn perform_one(&mut self, job: Job, ask: Ask) -> Result<(), KeptFault> {
         let got = match ask {
             Ask::Read(from) => return self.read(from),
@@ -211,8 +214,8 @@ impl<'a> Kept<'a> {
         Ok(())
     }
 
-    /// Passes the journal from this offset on to the keeper, and keeps a journal that is read
-    /// whole.
+    /// Passes the journal, from an offset on, to the keeper. Remembers the text if the whole
+    /// journal was read.
     fn read(&mut self, from: u64) -> Result<(), KeptFault> {
         let bytes = self.host.read(from)?;
         let _ = self.keeper.next(Got::Bytes(&bytes));
@@ -222,7 +225,7 @@ impl<'a> Kept<'a> {
         Ok(())
     }
 
-    /// Names the new journal, and says what was dropped of the old one.
+    /// Gives the new journal its name, and reports which part of the old journal was dropped.
     fn name(&mut self) -> Result<Got<'static>, KeptFault> {
         let file = self.host.name()?;
         self.has_begun = true;
@@ -233,7 +236,7 @@ impl<'a> Kept<'a> {
         })
     }
 
-    /// Does a task that has no result.
+    /// Performs a request of the keeper that has no result.
     fn write(&mut self, job: Job, ask: Ask) -> Result<(), KeptFault> {
         match ask {
             Ask::Lock => self.host.lock(),
@@ -248,7 +251,8 @@ impl<'a> Kept<'a> {
         }
     }
 
-    /// Forces the folder to the disk, and says on standard error if its own name was left out.
+    /// Syncs the folder to disk. Reports on standard error if the folder's own name could not be
+    /// synced.
     fn settle(&mut self) -> Result<(), KeptFault> {
         if self.host.settle()? {
             let _ = eprintln!(self.rt;
@@ -258,8 +262,8 @@ impl<'a> Kept<'a> {
         Ok(())
     }
 
-    /// Cuts off what a crash left after the first `cut` bytes, and writes the keeper's text. If
-    /// that fails, the journal is cut to what it was.
+    /// Removes what a crash left after the first `cut` bytes, and writes the keeper's text. If the
+    /// write fails, cuts the journal to `cut` bytes again.
     fn put(&mut self, cut: u64, at: u64) -> Result<(), KeptFault> {
         Tail::torn(cut, self.host.cut(cut)?).tell(self.rt);
         let put = self.host.put(self.keeper.out(), at);
@@ -269,7 +273,7 @@ impl<'a> Kept<'a> {
         put
     }
 
-    /// Makes a new journal. Of the old one the device executed the first `whole` bytes.
+    /// Writes a new journal. Of the old journal, the device executed the first `whole` bytes.
     fn make(&mut self, job: Job, whole: u64) -> Result<(), KeptFault> {
         self.tail = match whole {
             0 => Tail::none(),

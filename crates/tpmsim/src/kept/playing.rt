@@ -1,5 +1,6 @@
-//! A script that is played on a kept device. Its lines set what the device is given; other
-//! processes may execute commands between two of the script's.
+//! Plays a script on a kept device. Lines of the script set the locality, the time and the random
+//! bytes of its commands. Other processes may execute commands on the device between two commands
+//! of the script.
 
 ghost use Rattle.std.specs.Prelude.{◌≡◌, ◌≤◌, [], length};
 ghost use Rattle.tpmsim_script.specs.Answers.{backlog};
@@ -23,7 +24,7 @@ use tpmsim_script::room::Room;
 use tpmsim_script::run::SCRIPT_LINES;
 use tpmsim_script::script::Script;
 
-/// The player of a script, with the output that is not written yet.
+/// The player of a script, with the output that is not yet written.
 #[derive(Drop)]
 struct Player {
     traced: bool,
@@ -31,8 +32,8 @@ struct Player {
     answers: Answers,
 }
 
-/// Plays a script on a kept device, and writes its responses, each after the trace of its event
-/// if traces are asked for. The lines before a fault were played.
+/// Plays a script on a kept device, and writes its responses, each after its trace if traces are
+/// requested. If a fault occurs, the lines before it were played.
 pub fn play<R: Read, W: Write>(
     alloc: Global,
     kept: &mut Kept<'_>,
@@ -76,8 +77,8 @@ impl Player {
         Ok(())
     }
 
-    /// Goes to the next line, which has this number, and says whether there is one. The output is
-    /// written before more of the script is read.
+    /// Advances to the next line, which has this number, and returns whether there is one. Writes
+    /// the output before reading more of the script.
     fn next_line<R: Read, W: Write>(
         &mut self,
         lines: &mut Lines,
@@ -100,7 +101,7 @@ impl Player {
         Err(PlayFault::Script(ScriptFault::Read))
     }
 
-    /// Does what a line says.
+    /// Performs a line.
     fn line<W: Write>(
         &mut self,
         kept: &mut Kept<'_>,
@@ -147,7 +148,7 @@ impl Player {
         }
     }
 
-    /// Prints the trace of a command with its answer, if traces are asked for.
+    /// Prints the trace of a command with its answer, if traces are requested.
     fn trace<W: Write>(
         &mut self,
         event: &Event,
@@ -165,7 +166,7 @@ impl Player {
         self.put_text(writer, text.as_str().as_bytes())
     }
 
-    /// Cycles the device's power, and prints the trace of that if traces are asked for.
+    /// Power-cycles the device, and prints the trace of the cycle if traces are requested.
     fn cycle_power<W: Write>(
         &mut self,
         kept: &mut Kept<'_>,
@@ -187,7 +188,7 @@ impl Player {
         }
     }
 
-    /// Writes all output so far.
+    /// Writes all buffered output.
     fn flush<W: Write>(&mut self, writer: &mut Tap<W>) -> Result<(), PlayFault>
         ensures { backlog self.new.answers ≡ [] }
     {

@@ -1,4 +1,4 @@
-//! What the faults of a journal say of it.
+//! Why a journal could not be opened, as the program reports it.
 
 ghost use Rattle.std.specs.Prelude.{◌≡◌};
 ghost use Rattle.tpmsim.specs.kept.Fault.{IsSaidOf, said_of_following, said_of_opening};
@@ -13,7 +13,7 @@ use tpm_state_text::{RestoreFault, StateFault};
 use tpm_step::Outcome;
 use tpmsim_folder::Said;
 
-/// Why a text is not opened as a journal. Damage is said of one that is.
+/// Reports why a text cannot be opened as a journal. If it can, reports damage.
 pub fn said_of_text(alloc: Global, text: &[u8]) -> Said
     ensures { IsSaidOf text.now result }
 {
@@ -27,7 +27,7 @@ pub fn said_of_text(alloc: Global, text: &[u8]) -> Said
     }
 }
 
-/// What a fault says of a journal that was not opened.
+/// Reports why a journal was not opened.
 pub fn said_of_opening(fault: OpenFault) -> Said
     ensures { result ≡ said_of_opening fault }
 {
@@ -40,7 +40,7 @@ pub fn said_of_opening(fault: OpenFault) -> Said
     }
 }
 
-/// What a fault says of a journal that was not followed.
+/// Reports why a journal was not followed.
 pub fn said_of_following(fault: FollowFault) -> Said
     ensures { result ≡ said_of_following fault }
 {

@@ -1,5 +1,5 @@
-//! A kept device that is served on a connection. Other processes may execute commands between two
-//! of its own.
+//! Serves a kept device on a connection. Other processes may execute commands on the device between
+//! two commands of the connection.
 
 use crate::kept::Kept;
 use std::io::{Read, Write};
@@ -9,7 +9,7 @@ use tpm_wire::connection::Connection;
 use tpm_wire::reading::fill;
 use tpmsim_folder::KeptFault;
 
-/// The most reads in which one connection may give bytes.
+/// The limit on a connection's reads that return bytes.
 const READS: u32 = 1_048_576;
 
 /// Why a connection was not served to its end.
@@ -19,16 +19,16 @@ pub enum ServeFault {
     Client,
     /// There were no random bytes for a command, which was not executed.
     Random,
-    /// The device did not do what was asked for.
+    /// The kept device could not execute a command.
     Kept(KeptFault),
 }
 
-/// On which terms the commands of all connections are executed.
+/// The settings with which the commands of all connections are executed.
 #[derive(Clone, Copy)]
 pub struct Terms {
-    /// The locality that each command comes from.
+    /// The locality of each command.
     pub locality: Locality,
-    /// Whether the completing layer answers what the device lacks.
+    /// Whether the completing layer is used.
     pub completes: bool,
 }
 
@@ -38,8 +38,8 @@ pub trait RandomBytes {
     fn next(&mut self) -> Option<[u8; 256]>;
 }
 
-/// Serves a connection: executes the buffers that it gives, each by the host's clock, on these
-/// terms and with its own random bytes, and writes their responses.
+/// Serves a connection: executes the command buffers that it sends, each at the present time of the
+/// host's clock, with these settings and with its own random bytes, and writes their responses.
 pub fn serve<R: Read, W: Write, B: RandomBytes>(
     kept: &mut Kept<'_>,
     terms: Terms,
@@ -64,8 +64,8 @@ pub fn serve<R: Read, W: Write, B: RandomBytes>(
     Err(ServeFault::Client)
 }
 
-/// Executes the whole buffers that a connection holds, at most one for each byte, and writes their
-/// responses.
+/// Executes the complete buffers that a connection has received, at most one for each byte, and
+/// writes their responses.
 fn answer_whole<W: Write, B: RandomBytes>(
     kept: &mut Kept<'_>,
     terms: Terms,

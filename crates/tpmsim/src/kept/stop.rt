@@ -18,18 +18,18 @@ pub enum PlayFault {
 /// Why a line was not performed.
 #[derive(Clone, Copy, PartialEq, Eq)]
 pub enum Stop {
-    /// The line is not one that a script may have.
+    /// The line is not allowed in a script.
     Bad,
     /// The output of the line could not be written.
     Write,
-    /// The device did not do what the line asks for.
+    /// The kept device could not perform the line.
     Kept(KeptFault),
 }
 
 impl Stop {
     ghost use Rattle.tpmsim.specs.kept.Stop.{fault_at};
 
-    /// The fault of a script that stops at the line of this number.
+    /// The fault of a script that stops at the line with this number.
     pub fn at(self, number: u32) -> PlayFault
         ensures { result ≡ fault_at number self }
     {

@@ -1,23 +1,23 @@
-//! What follows the last whole record of a journal.
+//! The part of a journal's file after its last complete record.
 
-/// The end of a journal's file that the device did not execute: what a crash left of a record, or
-/// damage.
+/// The part at the end of a journal's file that the device did not execute: the remains of a record
+/// after a crash, or damage.
 #[derive(Clone, Copy, PartialEq, Eq)]
 pub struct Tail {
-    /// The size of what comes before it, in bytes.
+    /// The offset of this part in the file.
     pub place: u64,
-    /// Its size, in bytes.
+    /// The size of this part in bytes.
     pub size: u64,
     pub is_damaged: bool,
 }
 
 impl Tail {
-    /// No end.
+    /// An empty part: the device executed the whole file.
     pub fn none() -> Tail {
         Tail::torn(0, 0)
     }
 
-    /// What a crash left of a record.
+    /// The remains of a record after a crash.
     pub fn torn(place: u64, size: u64) -> Tail {
         Tail {
             place,
@@ -26,7 +26,7 @@ impl Tail {
         }
     }
 
-    /// Says on standard error that the tail was dropped, if it has any bytes.
+    /// Reports on standard error that this part was dropped, unless it is empty.
     pub fn tell(self, rt: &HostRuntime) {
         let Tail {
             place,

@@ -9,8 +9,8 @@ use tpm_kept_device::answer::Answer;
 use tpm_step::Row;
 use tpm_types::{ActionCheck, Check};
 
-/// Returns the row of an answer that can be traced: the command, and the check that refused it. None
-/// if no device answers so.
+/// Returns the row of an answer: the command, and the check that refused it. None if the answer
+/// cannot be traced, which no device's answer causes.
 pub fn traced_row(answer: Answer<'_>) -> Option<Row>
     ensures found { IfSome result (λ row. IsTraceable answer × (row ≡ row_of answer)) }
     ensures all { IsTraceable answer → is_some result ≡ true }
@@ -50,7 +50,7 @@ fn is_check(number: u8) -> bool
     }
 }
 
-/// The check of a number, if one has it.
+/// The check with this number, if there is one.
 fn check_named(number: u8) -> Option<Check>
     ensures found { IfSome result (λ check. number ≡ check_number check) }
     ensures all { (check : Check) → number ≡ check_number check → is_some result ≡ true }

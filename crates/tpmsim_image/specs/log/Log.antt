@@ -55,7 +55,7 @@ LogsTellAll = (old : Written) (executions : List Execution) (new : Written)
 
 -- ---- a log, if there is one
 
--- An execution was appended to a log, if there is one.
+-- An execution was appended to the log, if there is a log.
 abbrev pub AddsWhereKept : {W : Type 0} → (W → Option (List ℕ)) → Option (Log W) → Execution
     → Option (Log W) → Type 0
 AddsWhereKept contents None one new = new ≡ None

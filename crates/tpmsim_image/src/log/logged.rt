@@ -41,7 +41,7 @@ impl<W: Write, S: Witness> Witness for Logged<W, S> {
     }
 }
 
-/// Notes an event in a log, if there is one.
+/// Adds an event to the log, if there is one.
 fn note_where_kept<W: Write, K: Keep>(
     log: &mut Option<Log<W>>,
     machine: &Machine<K>,

@@ -1,4 +1,5 @@
--- The calls between a box and the pointer to it: what each requires, and what it gives.
+-- The calls that convert between a box and the pointer to it: what each requires, and what it
+-- returns.
 use mathlib.Core.List.{List, [], ◌∷◌}
 use mathlib.Core.Path.{◌≡◌, refl, ap, ◌∙◌}
 use mir.Syntax.{Args, Dict, Dicts, a_type, impl, tnil, tcons, dnil, dcons}
@@ -48,11 +49,11 @@ use Rattle.std.specs.declared.option.Option.TheVariants.{Some}
 use Rattle.tpmsim_library.proofs.Boxes.Words.{Heap, heap_laws, heap_word, heap_made, word, word_told}
 use Rattle.tpmsim_library.specs.Held.{held}
 
--- the drop of a type that has nothing to free
+-- dropping a type that has nothing to free
 abbrev pub plain_drop : RattleType → Dict
 plain_drop R = impl ("tpmsim_library::Destruct++none::drop" ∷ []) (tcons (layout R) tnil) dnil
 
--- the two types of a call, next to the tables that come with them
+-- the two type arguments of a call, and the tables that accompany them
 abbrev types_of : RattleType → Dicts → Args
 types_of T = bounded (a_type ∷ a_type ∷ []) (T, (Heap, tt))
 
@@ -60,7 +61,7 @@ types_of T = bounded (a_type ∷ a_type ∷ []) (T, (Heap, tt))
 abbrev pub BoxRow : RattleType → RattleType
 BoxRow T = box.the_row (param 0 T) global.the_row ghosts
 
--- what is owned at a pointer to such a box
+-- the memory that is owned through a pointer to such a box
 abbrev pub boxed_at : (T : RattleType) → Global → Ptr → T.Denot → Fml
 boxed_at T alloc at value = held (param 0 T) alloc at (Some value)
 
@@ -79,7 +80,7 @@ module _ (T : RattleType) (drop_of : Dict) {M : Type 1} {𝓤 : Ura M} (𝓛 : L
   abbrev pub Whole : Contract 𝓤
   Whole = triple_of 𝓛 (from_raw.signature T Heap ghosts dict (plain_drop Heap)) (from_raw.spec T Heap ghosts dict (plain_drop Heap) 𝓛 at_mem run)
 
-  -- the value's type outlives a lifetime, which is alive
+  -- The type of the value outlives a lifetime that has not ended.
   module _ (κ : Lft) (q : Share) where
     abbrev Outlives : SProp 𝓤
     Outlives = fact 𝓤 (κ ⊑ T.lives)
@@ -95,7 +96,7 @@ module _ (T : RattleType) (drop_of : Dict) {M : Type 1} {𝓤 : Ura M} (𝓛 : L
           nothing ! $ use0 𝓛 (raw (fact 𝓤 ([] ⊑ Heap.lives))) (heap_outlives 𝓛) $ join ! $ move ! (2 ∷ 0 ∷ []) $ join ! $
           move ! (1 ∷ 0 ∷ []) $ join ! $ done !
 
-      -- what the box owned, at a pointer
+      -- what the box owned, now owned through a pointer
       abbrev Apart_at : Val → Ptr → SProp 𝓤
       Apart_at u at = guard 𝓤 (u ≡ word at boxed.alloc) (sep 𝓤 (A.lft κ q) (sem 𝓛 (boxed_at T boxed.alloc at boxed.value)))
 
@@ -121,7 +122,7 @@ module _ (T : RattleType) (drop_of : Dict) {M : Type 1} {𝓤 : Ura M} (𝓛 : L
           use0 𝓛 (‵ (Heap.own_val alloc (heap_word alloc ∷ []))) (heap_made 𝓛 alloc) $ fjoin ! $
           nothing ! $ use0 𝓛 (‵ (flft [] full_share)) (𝓛.lfts.lft-nil full_share) $ join ! $ move ! (3 ∷ 0 ∷ []) $ join ! $ join ! $ join ! $ done !
 
-      -- the box, and its word
+      -- the resulting box, and its machine word
       abbrev Whole_as : Val → (BoxRow T).Denot → SProp 𝓤
       Whole_as u boxed = guard 𝓤 ((boxed.value ≡ value) × (u ≡ word boxed.ptr boxed.alloc)) (sep 𝓤 (A.lft κ q) (sem 𝓛 ((BoxRow T).own_val boxed (u ∷ []))))
 
@@ -136,7 +137,7 @@ module _ (T : RattleType) (drop_of : Dict) {M : Type 1} {𝓤 : Ura M} (𝓛 : L
           move ! (1 ∷ 0 ∷ []) $ join ! $ now ! $ show ! (Whole_as u) boxed $
           check ! (same, ap only (word_told boxed.ptr boxed.alloc (u ∷ []) is.0)) $ done !))))
 
--- what a program that calls them has to be linked with
+-- the code that a program must link to make these calls
 pub record Linked (γ : Env) : Type 0 where
   pub allocate : Wired γ allocate.code
   pub deallocate : Wired γ deallocate.code
@@ -145,7 +146,7 @@ pub record Linked (γ : Env) : Type 0 where
   pub drop : Wired γ drops.code
 
 module _ (T : RattleType) (L : Laws T) (drop_of : Dict) {M : Type 1} {𝓤 : Ura M} (𝓛 : Logic 𝓤) (𝓜 : Model 𝓤 𝓛.H) (𝓡 : Running 𝓤 𝓛.H 𝓜) (glued : Glued 𝓛 𝓜 𝓡 𝓡.env T drop_of) (linked : Linked 𝓡.env) where
-  -- both calls meet their contracts, for std's allocator and the drop of the value
+  -- `into_raw` and `from_raw` meet their contracts, with std's allocator and a value of any type.
   pub apart_met : Wired 𝓡.env into_raw_symbol.code
       → Triple 𝓤 ((tables 𝓤 𝓛.H 𝓜 𝓡 𝓡.env).C (into_raw_symbol.name (types_of T (dcons dict (dcons (plain_drop Heap) (dcons drop_of dnil)))))) (Apart T drop_of 𝓛 𝓜.mem 𝓡.returns)
   apart_met call = into_raw_met.met 𝓤 𝓛 𝓜 𝓡 call T Heap L heap_laws ghosts dict (plain_drop Heap) drop_of

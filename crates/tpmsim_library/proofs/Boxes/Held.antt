@@ -1,5 +1,5 @@
--- A holder owns nothing at null, or else the box of its device. Walks over holders open and make
--- them by these lemmas.
+-- A holder owns nothing if it is null, and otherwise the box of its device. Proofs about holders
+-- use these lemmas to open and to make them.
 use mathlib.Core.List.{List, [], ◌∷◌}
 use mathlib.Core.Path.{◌≡◌, refl}
 use Prim.Native.Nat.{ℕ}
@@ -44,7 +44,7 @@ module _ (T : RattleType) {M : Type 1} {𝓤 : Ura M} (𝓛 : Logic 𝓤) where
     abbrev Boxed : SProp 𝓤
     Boxed = sem 𝓛 (owns_at T alloc at (Some value))
 
-    -- no box lies at null
+    -- a box is never at null
     boxed_in_block : ent 𝓤 Boxed (guard 𝓤 (InBlock at) Boxed)
     boxed_in_block = fact_use 𝓤 (InBlock at) (qed 𝓛 (‵ (owns_at T alloc at (Some value)) ∷ []) ∵ fsplit ! $ keep ! (0 ∷ []) $
         by ! (lies_in_block 𝓛 T full_share at value)) (guard_i 𝓤 (InBlock at) Boxed)
@@ -54,7 +54,7 @@ module _ (T : RattleType) {M : Type 1} {𝓤 : Ura M} (𝓛 : Logic 𝓤) where
     boxed_testable = fact_use 𝓤 (Testable at) (qed 𝓛 (‵ (owns_at T alloc at (Some value)) ∷ []) ∵ fsplit ! $ drop ! $
         by ! (dealloc_token-Testable 𝓛 alloc (bare (layout T)) at)) (guard_i 𝓤 (Testable at) Boxed)
 
--- Either nothing is held, and the pointer is null; or there is a value, in a box, and its pointer
+-- Either the holder is empty, and its pointer is null; or it has a value in a box, and the pointer
 -- may be compared with null.
 module _ (T : RattleType) {M : Type 1} {𝓤 : Ura M} {𝓛 : Logic 𝓤} {K : Type 0} {Γ : List (Item 𝓤)} {G : Goal 𝓤 𝓛.H} where
   pub by_held : K → (alloc : Global) (at : Ptr) (found : Option T.Denot)

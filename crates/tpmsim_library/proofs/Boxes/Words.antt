@@ -1,6 +1,6 @@
--- A pointer next to an allocator. A box, a holder and a pair have these two fields, so one word of
--- the machine stands for each of them. Neither an allocator nor a pointer owns anything, so these
--- fields own nothing.
+-- A pointer and an allocator as two fields. A box, a holder and a pair consist of these fields, so
+-- each is one machine word. Neither an allocator nor a pointer owns anything, so these fields own
+-- nothing.
 use mathlib.Core.List.{List, [], ◌∷◌}
 use mathlib.Core.Path.{◌≡◌, refl}
 use lib.Dec.{T, lit<}
@@ -22,21 +22,21 @@ use Rattle.std.proofs.alloc.Global.TheLaws as global_laws
 use Rattle.std.specs.contracts.alloc.Global as global
 use Rattle.std.specs.declared.alloc.Global.{Global}
 
--- the allocator, as a generic function takes it
+-- the allocator, as the argument of a generic function
 abbrev pub Heap : RattleType
 Heap = arg (bare (layout global.the_row)) no global.the_row
 
 pub heap_laws : Laws Heap
 heap_laws = arg_laws (bare (layout global.the_row)) no global.the_row global_laws.the_row_laws refl
 
--- the word of an allocator, and of a pointer next to one
+-- the word of an allocator; and the word of a pointer together with an allocator
 abbrev pub heap_word : Global → Val
 heap_word alloc = global_laws.lowered alloc
 
 abbrev pub word : Ptr → Global → Val
 word at alloc = vstruct (vcons (ptr_val at) (vcons (heap_word alloc) vnil))
 
--- an allocator owns that its word is this one, and no other word is an allocator's
+-- an allocator owns only the fact that its word is this one, and no allocator has another word
 pub heap_is : (alloc : Global) → Is Heap alloc (heap_word alloc ∷ [])
 heap_is alloc = ((vstruct (vcons vunit vnil) ∷ [], tt), (refl, (((vunit ∷ [], tt), (refl, (refl, tt))), tt)))
 
@@ -46,17 +46,17 @@ heap_told alloc words is = global_laws.the_told.tells alloc words is
 pub heap_typed : (alloc : Global) → T (has_ty (layout Heap) (heap_word alloc)) × WT (heap_word alloc)
 heap_typed alloc = (tt, ((tt, tt), tt))
 
--- a pointer is of its type, null or not
+-- a pointer has its type, whether it is null or not
 pub pointer_typed : (at : Ptr) → T (has_ty ty_ptr (ptr_val at)) × WT (ptr_val at)
 pointer_typed (block_ptr b o) = (tt, tt)
 pointer_typed null_ptr = (tt, record { fits = lit< tt })
 
--- a word is of the type of each struct that has these two fields, since no name is read
+-- a word has the type of any struct with these two fields, because names are ignored
 pub word_typed : (at : Ptr) (alloc : Global) → T (has_ty (ty_struct [] (tcons ty_ptr (tcons (layout Heap) tnil))) (word at alloc)) × WT (word at alloc)
 word_typed (block_ptr b o) alloc = (tt, (tt, ((heap_typed alloc).1, tt)))
 word_typed null_ptr alloc = (tt, (record { fits = lit< tt }, ((heap_typed alloc).1, tt)))
 
--- the two fields in the form of a struct without a name
+-- the two fields as a struct without a name
 abbrev pub Fields : Shape
 Fields = record { name = []; args = []; types = []; fields = RawPtr ∷ Heap ∷ [] }
 

@@ -141,7 +141,7 @@ pub record Linked (γ : Env) : Type 0 where
   pub drop : Wired γ drops.code
 
 module _ {M : Type 1} {𝓤 : Ura M} (𝓛 : Logic 𝓤) (𝓜 : Model 𝓤 𝓛.H) (𝓡 : Running 𝓤 𝓛.H 𝓜) (linked : Linked 𝓡.env) where
-  -- both calls meet their contracts, for std's allocator and types whose drop frees nothing
+  -- `into_raw` and `from_raw` meet their contracts, with the page's allocator and a device.
   pub apart_met : Wired 𝓡.env into_raw_symbol.code
       → Triple 𝓤 ((tables 𝓤 𝓛.H 𝓜 𝓡 𝓡.env).C (into_raw_symbol.name (types_of (dcons dict (dcons (plain_drop Source) (dcons (plain_drop Content) dnil)))))) (Apart 𝓛 𝓜.mem 𝓡.returns)
   apart_met call = into_raw_met.met 𝓤 𝓛 𝓜 𝓡 call Content Source content_laws source_laws ghosts dict (plain_drop Source) (plain_drop Content)

@@ -12,13 +12,12 @@ use Rattle.tpm_kept_device.specs.declared.command.Command.{Command}
 use Rattle.tpm_kept_device.specs.declared.parts.Parts.{Parts}
 use Rattle.tpm_kept_device.proofs.device.KeptDeviceDevice.leap.Goals as goal
 
--- the command that was read
 read_so : (text : List ℕ) (c : KeptCommand) (field : Command) → command_of text ≡ Ok (plain_command field) → plain_command field ≡ c → command_of text ≡ Ok c
 read_so text c field read is =
     let done : KeptCommand → Result KeptCommand Malformed = λ (c : KeptCommand). Ok c in
     read ∙ ap done is
 
--- the state to which a command has led, and the response to it
+-- the state after the command that a text encodes, and the response to it
 led : (old : Parts) (text : List ℕ) (c : KeptCommand) (new : DeviceState) → IsDeviceState (state_of old) → command_of text ≡ Ok c
     → new ≡ moved (state_of old) c → bytes_of new ≡ device_journal.after (spot_in old).state text
 led old text c new is read same = ap bytes_of same ∙ after_is old.journal (slot_record old.machine.keep) is text c read
@@ -27,7 +26,6 @@ told : (old : Parts) (text : List ℕ) (c : KeptCommand) → IsDeviceState (stat
     → answer (state_of old) c ≡ device_journal.response (spot_in old).state text
 told old text c is read = response_is old.journal (slot_record old.machine.keep) is text c read
 
--- what follows where it is done
 on_ok : {A E P Q : Type 0} (r : Result A E) → OnOk r P → (P → Q) → OnOk r Q
 on_ok (Ok a) p f = f p
 on_ok (Err e) p f = tt

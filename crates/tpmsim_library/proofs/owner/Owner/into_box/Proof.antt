@@ -1,5 +1,4 @@
--- `into_box` tests the pointer, and makes a box of what the holder owned where the pointer is not
--- null.
+-- `into_box` tests the pointer. If it is not null, the call makes a box of what the owner owned.
 use mathlib.Core.List.{[], ◌∷◌}
 use mathlib.Core.Path.{◌≡◌, ◌∙◌, refl, sym, ap, subst}
 use lib.Dec.{T as T-type, lit<}
@@ -42,7 +41,7 @@ pub into_box_spec : {M : Type 1} → statement M
 into_box_spec 𝓤 𝓛 𝓜 𝓡 wired T L drop_of glued =
     let clauses = promise.clauses T drop_of 𝓛 𝓜.mem 𝓡.returns in let ended = promise.ended T drop_of in let 𝓣 = tables 𝓤 𝓛.H 𝓜 𝓡 𝓡.env in
     let types = bounded (a_type ∷ []) (T, tt) (dcons drop_of dnil) in let function = inst_fn types code.function in let Row = OwnerRow (param 0 T) in
-    -- nothing is left of the holder that was passed
+    -- nothing remains of the owner that was passed
     let stays : Stays ended.signature.params ended.kept = (stay_dropped (plain (λ _. Row)) no, tt) in
     let linked : Linked 𝓡.env = record {
       allocate = code.calls-std_heap::GlobalAllocator::allocate 𝓡.env wired;
@@ -56,7 +55,7 @@ into_box_spec 𝓤 𝓛 𝓜 𝓡 wired T L drop_of glued =
     (code.unfolded 𝓤 𝓛.H 𝓜 𝓡 wired (T, tt) drop_of) (λ κs. ((λ h. word h.at h.alloc ∷ []), tt)) (λ κs. ((λ h ws is. word_told h.at h.alloc ws is.0), tt)) (λ κs qs bounds a _ are.
     let h = a.0 in let w : Val = word h.at h.alloc in let W = walk_of 𝓛 ended stays clauses in let Out : RattleType = type_at ended.signature.result κs in
     let κ = κs.0 in let q = qs.0 in let y : W.Ghost = ((κs, qs, bounds, a, (w ∷ [], tt)), tt) in
-    -- [what the holder owned; that the type is alive, and outlives the lifetime]
+    -- [what the owner owned; the type has not ended, and outlives the lifetime]
     qed 𝓛 (((‵ (flft κ q) ⊛ ‵ ftrue) ⊛ ‵ (fsep (Row.own_val h (w ∷ [])) ftrue)) ∷ (raw (fact 𝓤 (κ ⊑ T.lives)) ⊛ ‵ ftrue) ∷ []) ∵
     split ! $ split ! $ move ! (2 ∷ []) $ fsplit ! $ move ! (4 ∷ []) $ split ! $ keep ! (2 ∷ 4 ∷ 0 ∷ []) $
     use1 𝓛 (‵ (owns_at (param 0 T) h.alloc h.at h.value)) (owner_opened (param 0 T) 𝓛 h (w ∷ [])) $
@@ -87,7 +86,7 @@ into_box_spec 𝓤 𝓛 𝓜 𝓡 wired T L drop_of glued =
     move ! (1 ∷ 2 ∷ 0 ∷ []) $ use3 𝓛 (raw (part.pre at_part)) (whole_asks T drop_of 𝓛 𝓜.mem 𝓡.returns κ q h.alloc (block_ptr b o) value) $
     calls_at_last ! (framed 𝓤 𝓛.H 𝓜 𝓣) part met at_part
     (and_then ! (get ! refl) (and_then ! (get ! refl) (no_more !))) (λ u.
-    -- [that the type is alive; the box]
+    -- [the type has not ended; the box]
     use1 𝓛 (later (some (λ (boxed : (BoxRow T).Denot). given ((boxed.value ≡ value) × (u ≡ word boxed.ptr boxed.alloc)) (‵ (flft κ q) ⊛ ‵ ((BoxRow T).own_val boxed (u ∷ []))))))
     (whole_gives T drop_of 𝓛 𝓜.mem 𝓡.returns κ q h.alloc (block_ptr b o) value u) $ await ! tt $ pick ! (λ boxed. learn ! (λ same. split ! $ move ! (1 ∷ 0 ∷ []) $
     let typed : T-type (has_ty (layout (BoxRow T)) u) × WT u = subst (λ (v : Val). T-type (has_ty (layout (BoxRow T)) v) × WT v) (sym same.1) (word_typed boxed.ptr boxed.alloc) in
