@@ -12,8 +12,8 @@ use tpm_types::{ActionCheck, Check};
 /// Returns the row of an answer that can be traced: the command, and the check that refused it. None
 /// if no device answers so.
 pub fn traced_row(answer: Answer<'_>) -> Option<Row>
-    ensures found { IfSome result (λ row. IsTraceable answer × (row ≡ row_of answer)) }
-    ensures all { IsTraceable answer → is_some result ≡ true }
+    ensures found { IfSome result (λ row. IsTraceable answer.entry × (row ≡ row_of answer.entry)) }
+    ensures all { IsTraceable answer.entry → is_some result ≡ true }
 {
     let Answer {
         code,
