@@ -2,6 +2,7 @@
 
 ghost use Rattle.std.specs.Prelude.{◌≡◌, IfSome, is_some, true};
 ghost use Rattle.tpm_types.specs.Check.{check_number};
+ghost use Rattle.tpm_types.specs.declared.check.Check.{Check};
 ghost use Rattle.tpmsim.specs.kept.Tracing.{IsCheck, IsCode, IsTraceable, row_of};
 
 use tpm_commands::CommandCode;
@@ -9,8 +10,8 @@ use tpm_kept_device::answer::Answer;
 use tpm_step::Row;
 use tpm_types::{ActionCheck, Check};
 
-/// Returns the row of an answer that can be traced: the command, and the check that refused it. None
-/// if no device answers so.
+/// Returns the row of an answer that can be traced: the command, and the check that refused it.
+/// None if no device answers so.
 pub fn traced_row(answer: Answer<'_>) -> Option<Row>
     ensures found { IfSome result (λ row. IsTraceable answer.entry × (row ≡ row_of answer.entry)) }
     ensures all { IsTraceable answer.entry → is_some result ≡ true }
