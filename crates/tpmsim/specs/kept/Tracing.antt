@@ -4,6 +4,7 @@ use Rattle.tpm_commands.specs.CommandCode.{code_number}
 use Rattle.tpm_commands.specs.declared.command_code.CommandCode.{CommandCode}
 use Rattle.tpm_kept_device.specs.declared.answer.Answer.{Answer}
 use Rattle.tpm_step.specs.declared.event.Row.{Row}
+use Rattle.tpm_text.specs.Trace.{IsRow}
 use Rattle.tpm_types.specs.Check.{check_number}
 use Rattle.tpm_types.specs.declared.check.Check.{Check}
 
@@ -21,4 +22,4 @@ IsCheck number = (number ≡ 0) ⊎ ((check : Check) × (number ≡ check_number
 -- An answer can be traced: it has a row of the table, and a response of at least ten bytes, the
 -- size of a header.
 abbrev pub IsTraceable : Answer → Type 0
-IsTraceable a = IsCode a.code × IsCheck a.check × (10 ≤ length a.response.now)
+IsTraceable a = IsRow (row_of a) × (10 ≤ length a.response.now)

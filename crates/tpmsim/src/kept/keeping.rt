@@ -1,5 +1,8 @@
 //! A device that is kept in a folder: a keeper, and its host.
 
+ghost use Rattle.std.specs.Prelude.{◌≤◌, IfOk, length};
+ghost use Rattle.tpm_types.specs.Limits.{buffer_limit};
+
 use crate::kept::said::said_of_text;
 use crate::kept::tail::Tail;
 use tpm_journal_text::{CONTENT_LIMIT, read_head};
@@ -94,14 +97,18 @@ impl<'a> Kept<'a> {
         locality: Locality,
         random: &[u8; 256],
         buffer: &[u8],
-    ) -> Result<Answer<'_>, KeptFault> {
+    ) -> Result<Answer<'_>, KeptFault>
+        ensures { IfOk result (λ answer. length answer.response.now ≤ buffer_limit) }
+    {
         let alloc = self.rt.alloc();
         let command = command_after(alloc, elapsed_ms, locality, false, random, buffer)?;
         self.execute(&command)
     }
 
     /// Executes a command of the standard, given its text for the keeper.
-    fn execute(&mut self, command: &[u8]) -> Result<Answer<'_>, KeptFault> {
+    fn execute(&mut self, command: &[u8]) -> Result<Answer<'_>, KeptFault>
+        ensures { IfOk result (λ answer. length answer.response.now ≤ buffer_limit) }
+    {
         self.perform(Job::Execute, command)?;
         match read_answer(self.keeper.response()) {
             Ok(answer) => Ok(answer),

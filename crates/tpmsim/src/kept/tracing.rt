@@ -2,6 +2,7 @@
 
 ghost use Rattle.std.specs.Prelude.{◌≡◌, IfSome, is_some, true};
 ghost use Rattle.tpm_types.specs.Check.{check_number};
+ghost use Rattle.tpm_types.specs.declared.check.Check.{Check};
 ghost use Rattle.tpmsim.specs.kept.Tracing.{IsCheck, IsCode, IsTraceable, row_of};
 
 use tpm_commands::CommandCode;
@@ -12,8 +13,8 @@ use tpm_types::{ActionCheck, Check};
 /// Returns the row of an answer: the command, and the check that refused it. None if the answer
 /// cannot be traced, which no device's answer causes.
 pub fn traced_row(answer: Answer<'_>) -> Option<Row>
-    ensures found { IfSome result (λ row. IsTraceable answer × (row ≡ row_of answer)) }
-    ensures all { IsTraceable answer → is_some result ≡ true }
+    ensures found { IfSome result (λ row. IsTraceable answer.entry × (row ≡ row_of answer.entry)) }
+    ensures all { IsTraceable answer.entry → is_some result ≡ true }
 {
     let Answer {
         code,
