@@ -97,8 +97,8 @@ class Heads(unittest.TestCase):
                 text.replace(b"54504d49", b"54504d48", 1),
                 "line 1 begins with what is no image: Magic",
             ),
-            (text[:100], "line 2: the head is incomplete"),
-            (text[:77], "line 2: the head is incomplete"),
+            (text[:100], "line 2: the head is not whole"),
+            (text[:77], "line 2: the head is not whole"),
         ):
             self.assertEqual(played(bent)[0].fault, fault)
         bent = text.replace(b"# tpmsim journal 1 00", b"# tpmsim journal 1 01", 1)

@@ -195,7 +195,7 @@ class Auditor:
 
 def bad_words(step: records.Bad) -> str:
     if isinstance(step, records.BadHead):
-        return f"script line {step.line}: the head is incomplete"
+        return f"script line {step.line}: the head is not whole"
     if step.line > LINES:
         return f"the script has more than {LINES} lines; the log agrees up to there"
     return f"script line {step.line} is not a line of a script; the log agrees up to it"
