@@ -88,7 +88,7 @@ pub record Replays (can : Bool) (before : Journal) (old : Record) (text : List â
     pub repeats : Repeats can before old text followed.taken followed.fault after new
     pub ends : EndsIn followed.fault after.sum (drop followed.taken text)
 
--- ---- one entry
+-- ---- executing a single entry again
 
 -- The entry at the beginning of a text was executed again. `Holds` relates the sum of its response
 -- to the sum in the entry.

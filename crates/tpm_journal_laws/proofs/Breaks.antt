@@ -16,7 +16,7 @@ pub unbroken_joined : (front back : List ℕ) → Unbroken front → Unbroken ba
 unbroken_joined [] back f b = b
 unbroken_joined (byte ∷ front) back f b = (f.0, unbroken_joined front back f.1 b)
 
--- a text that contains the end of a line begins with that line
+-- If a text contains the end of a line, its first line is the text before this end.
 pub line_first : (line rest : List ℕ) → Unbroken line → lines_of (line ++ 10 ∷ rest) ≡ line ∷ lines_of rest
 line_first [] rest h = refl
 line_first (byte ∷ line) rest h =

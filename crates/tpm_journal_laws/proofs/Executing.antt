@@ -16,8 +16,7 @@ use Rattle.std.specs.Prelude.{Result, Ok, Err}
 use Rattle.tpmsim_script.specs.Script.{repeated}
 use Rattle.tpm_journal_laws.specs.Playing.{PlaysAsExecuted}
 
--- a list that is computed by position begins with another list, if they agree at every position
--- of that list
+-- If two lists agree at every position of the second, the first begins with the second.
 made_front : (byte : ℕ → ℕ) (front : List ℕ) (from count : ℕ) → length front ≤ count → ((i : ℕ) → i < length front → byte (from + i) ≡ get_or front i 0)
     → take (length front) (map byte (range_with_len from count)) ≡ front
 made_front byte [] from count few each = refl

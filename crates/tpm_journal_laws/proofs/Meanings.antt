@@ -20,7 +20,7 @@ use Rattle.tpm_journal_laws.specs.Meanings.{EntryMeansIt, HeadMeansNothing, Jour
 use Rattle.tpm_journal_laws.proofs.Breaks.{Unbroken, hex_unbroken, line_first, unbroken_joined}
 use Rattle.tpm_journal_laws.proofs.Numbers.{ten_digits_read}
 
--- ---- the lines, without their ends
+-- ---- the lines of entries and heads, without their ends
 
 unfoldable pub mark_front : (word bytes : List ℕ) (sum : ℕ) → List ℕ
 mark_front word bytes sum = word ++ (encode_lower bytes ++ (32 ∷ encode_lower (to_be_bytes w64 sum)))
@@ -37,7 +37,7 @@ entropy_line e = codes "entropy " ++ encode_lower (shown e.drawn)
 unfoldable pub cmd_line : PlainEntry → List ℕ
 cmd_line e = codes "cmd " ++ encode_lower e.buffer
 
--- ---- none of their bytes ends a line
+-- ---- no byte of these lines is the end of a line
 
 no_feed : (d : ℕ) → (48 + d == 10) ≡ false
 no_feed d = grind (arith, nat_tests)
@@ -94,9 +94,8 @@ unfolding mark_front
 mark_unbroken word bytes sum h =
     unbroken_joined word _ h (unbroken_joined (encode_lower bytes) _ (hex_unbroken bytes) (refl, hex_unbroken (to_be_bytes w64 sum)))
 
--- ---- what they mean
+-- ---- the meanings of single lines
 
--- the first space of a text, which is at this offset
 spaced : (text : List ℕ) (place : ℕ) → position_or_len (λ byte. byte == 32) text ≡ place → place < length text
     → position (λ byte. byte == 32) text ≡ Some place
 spaced text place e l =
@@ -135,7 +134,7 @@ comment_means : (text : List ℕ) → line_meaning (35 ∷ text) ≡ Some DoesNo
 unfolding line_reading
 comment_means text = refl
 
--- ---- an entry
+-- ---- the meaning of an entry
 
 regrouped : (word bytes space sum feed rest : List ℕ) → (word ++ bytes ++ space ++ sum ++ feed) ++ rest ≡ (word ++ (bytes ++ (space ++ sum))) ++ (feed ++ rest)
 regrouped word bytes space sum feed rest = simp append_assoc refl
@@ -178,7 +177,7 @@ entry_means_it sum e rest is =
     ap (map line_meaning) (entry_lines sum e rest)
     ∙ rw (mark_means sum e, wait_means e is, loc_means e is, entropy_means e, cmd_means e) refl
 
--- ---- a head
+-- ---- the meaning of a head
 
 head_front : (kind : HeadKind) (bytes : List ℕ) (sum : ℕ) → Unbroken (mark_front (head_word kind) bytes sum)
 head_front Image bytes sum = mark_unbroken (head_word Image) bytes sum (refl, (refl, (refl, (refl, (refl, (refl, (refl, (refl, (refl, (refl, (refl, (refl, (refl, (refl, (refl, (refl, (refl, (refl, (refl, tt)))))))))))))))))))
@@ -224,7 +223,7 @@ head_means_nothing kind clock content rest =
     ap (map line_meaning) (head_lines kind clock content rest)
     ∙ rw (head_front_means kind (head_mark clock content) (head_sum clock content), content_means content) refl
 
--- ---- a journal
+-- ---- the meaning of a journal
 
 entries_mean : (sum : ℕ) (entries : List PlainEntry) → AllByRecursion IsEntry entries
     → meanings_of (entries_text sum entries) ≡ entries_meanings entries []

@@ -7,7 +7,6 @@ use Rattle.std.proofs.lemmas.Bool.Decides.{nat_tests}
 use Rattle.tpm_journal_text.specs.Entry.{digit_at, ten_digits}
 use Rattle.tpm_number.specs.Number.{at_most, decimal_of, is_digit, numeral}
 
--- a digit has its value
 value_at : (number place : ℕ) → digit_value (digit_at number place) ≡ number / place % 10
 value_at number place = digit (number / place % 10) (omega arith)
   where
@@ -17,7 +16,7 @@ value_at number place = digit (number / place % 10) (omega arith)
 digit_holds : (number place : ℕ) → is_digit 10 (digit_at number place) ≡ true
 digit_holds number place = lt-ltb _ 10 (omega (arith, value_at number place))
 
--- the digits read so far make this number, and one more is read
+-- After one more digit is read, the digits read so far still make this number.
 one_more : (number place tens : ℕ) → tens ≡ number / (place * 10) → number / (place * 10) * 10 + number / place % 10 ≡ number / place
     → tens * 10 + digit_value (digit_at number place) ≡ number / place
 one_more number place tens so step = omega (arith, so, step, value_at number place)

@@ -22,7 +22,7 @@ use Rattle.tpmsim_script.specs.Script.{Effect, Playing, at_first, execute, outpu
 use Rattle.tpm_journal_laws.specs.Playing.{JournalPlays, printed_answers, scripted}
 use Rattle.tpm_journal_laws.proofs.Meanings.{cmd_line, cmd_means, content_line, content_means, entropy_line, entropy_means, entry_lines, head_front_means, head_lines, loc_line, loc_means, mark_front, mark_means, wait_line, wait_means}
 
--- ---- a line that means something
+-- ---- performing a single line
 
 performed : (p : Playing) (line : List ℕ) (m : Meaning) → length line ≤ 65536 → line_meaning line ≡ Some m → perform_line p line ≡ perform p m
 unfolding perform_line
@@ -30,7 +30,7 @@ performed p line m short means =
     ap (λ (b : Bool). if b then option_and_then (perform p) (line_meaning line) else None) (le-leb (length line) 65536 short)
     ∙ ap (option_and_then (perform p)) means
 
--- a line that prints nothing
+-- A line that prints nothing only changes the state of the script.
 quiet : (p next : Playing) (number : ℕ) (line : List ℕ) (lines : List (List ℕ)) → perform_line p line ≡ Some (silence next)
     → play p number (line ∷ lines) ≡ play next (number + 1) lines
 quiet p next number line lines e = ap (λ (effect : Option Effect). output_with effect number (λ p. play p (number + 1) lines)) e
@@ -84,7 +84,7 @@ shown_bytes (byte ∷ drawn) are i = are i
 digits_are : (bytes : List ℕ) → AreBytes bytes → bytes_of (encode_lower bytes) ≡ Some bytes
 digits_are bytes are = ap result_ok (decode_of-encode_lower bytes are)
 
--- ---- an entry
+-- ---- playing an entry
 
 -- a script that is played without traces, and has not waited since its last command
 abbrev playing_at : (locality : ℕ) (random : List ℕ) (device : Record) → Playing
@@ -151,7 +151,7 @@ module _ (locality : ℕ) (random : List ℕ) (r : Record) (sum number : ℕ) (e
       ∙ quiet there ready (number + 1 + 1 + 1) (entropy_line e) (cmd_line e ∷ lines) drawn
       ∙ ap (λ (effect : Option Effect). output_with effect (number + 1 + 1 + 1 + 1) (λ p. play p (number + 1 + 1 + 1 + 1 + 1) lines)) (commanded ∙ ap Some answered)
 
--- ---- entries
+-- ---- playing several entries
 
 entries_play : (locality : ℕ) (random : List ℕ) (r : Record) (sum number : ℕ) (entries : List PlainEntry) → AllByRecursion IsEntry entries
     → play (playing_at locality random r) number (lines_of (entries_text sum entries)) ≡ record { text = printed_answers r entries; bad = None }
@@ -164,7 +164,7 @@ entries_play locality random r sum number (e ∷ entries) are =
     ∙ ap (output_before (printed_response (step r (scripted e)).response))
     (entries_play e.locality (repeated (shown e.drawn)) (step r (scripted e)).after (sum_after sum e) (number + 1 + 1 + 1 + 1 + 1) entries are.1)
 
--- ---- a journal
+-- ---- playing a journal
 
 head_short : (kind : HeadKind) (clock : ℕ) (content : List ℕ) → length (mark_front (head_word kind) (head_mark clock content) (head_sum clock content)) ≤ 65536
 unfolding head_mark

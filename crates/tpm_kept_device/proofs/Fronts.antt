@@ -38,7 +38,7 @@ pub entry_some : (sum size : ℕ) (text : List ℕ) (e : PlainEntry) → size �
 entry_some sum size text e within front =
     omega (arith, ap length front, length-take-le size text within, entry_text_some sum e)
 
--- ---- a text that is read an entry at a time
+-- ---- reading a text entry by entry
 
 -- The entries in the first `taken` bytes are read; the remaining text contains the later entries.
 abbrev pub Takes : (sum after taken : ℕ) → (text : List ℕ) → Type 0
@@ -68,7 +68,7 @@ entry_taken sum after taken text left size next e takes is finds =
     ap (entries_size (sum_after after e)) rest ∙ ap (λ (n : ℕ). entries_size n (drop (taken + size) text)) (sym finds.3) in
     omega (arith, takes, ap (entries_size after) is, more, same)
 
--- ---- a text with its head
+-- ---- reading a text with its head
 
 pub no_front : (text : List ℕ) → head_at text ≡ None → 0 ≡ whole_size text
 unfolding whole_size

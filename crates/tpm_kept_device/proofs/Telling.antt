@@ -17,7 +17,7 @@ use Rattle.tpm_kept_journal.specs.State.{DeviceState, IsDeviceState, bytes_of, s
 use Rattle.tpm_kept_journal.proofs.Following.{Tells, followed_so}
 use Rattle.tpm_kept_journal.proofs.Shown.{head_shown, sum_shown}
 
--- ---- a text that was followed
+-- ---- following a text
 
 module _ (before : Journal) (old : Record) (text : List ℕ) (followed : Followed) (after : Journal) (new : Record) (is : IsDeviceState (state_in before old))
     (replays : Replays false before old text followed after new) where
@@ -39,7 +39,7 @@ module _ (before : Journal) (old : Record) (text : List ℕ) (followed : Followe
       subst (λ (f : Option FollowFault). Tells f found there (0 + followed.taken)) fault
       (followed_so before old text 0 followed after new is replays)
 
--- ---- a head that was written
+-- ---- writing a head
 
 module _ (s : DeviceState) (is : IsDeviceState s) (text : List ℕ) (same : text ≡ state_text (whole_of s)) where
   pub text_fits : length text ≤ content_limit State

@@ -59,7 +59,6 @@ locality_read locality rest few = rw (byte_read locality rest (omega (arith, few
 bytes_read : (random buffer : List ℕ) → length random ≡ 256 → bytes_in 256 (random ++ buffer) ≡ Ok (random, buffer)
 bytes_read random buffer many = ap (λ (r : Result (List ℕ × List ℕ) _). or_fault r malformed) (bytes_again random buffer 256 many)
 
--- If a command is decoded from a text of bytes, the text is that of this command.
 read_by : (text : List ℕ) (c : KeptCommand) → AreBytes text → command_in text ≡ Ok c → command_of text ≡ Ok c
 unfolding command_of
 read_by text c are is = rw ((are_bytes-Decides text).1 are) is
@@ -91,7 +90,7 @@ module _ (locality : ℕ) (completes : Bool) (random buffer : List ℕ) (few : l
       (byte_before 3 (to_be_bytes w32 elapsed ++ given_text locality completes random buffer) (omega arith) (joined (to_be_bytes w32 elapsed) (given_text locality completes random buffer) (short_bytes elapsed) given_bytes))
       (rw (byte_read 3 (to_be_bytes w32 elapsed ++ given_text locality completes random buffer) (omega arith), short_read elapsed (given_text locality completes random buffer) small) (given_read (After elapsed)))
 
--- ---- a power cycle, and a new beginning
+-- ---- power cycles, and commands that replace the device
 
 cycled_read : (now start : ℕ) (text : List ℕ) → now < 2 ^ 64 → number_in w64 text ≡ Ok (start, [])
     → command_in (1 ∷ (to_be_bytes w64 now ++ text)) ≡ Ok (Cycles now start)

@@ -14,10 +14,10 @@ use Rattle.tpm_kept_journal.specs.Command.{After, At, Begins, Cycles, Executes, 
 use Rattle.tpm_kept_journal.specs.Seed.{begun_in}
 use Rattle.tpm_kept_journal.specs.State.{DeviceState, bytes_of, state_of_bytes}
 
--- ---- on a state
+-- ---- the effect of a command on a state
 
--- the time of the host's clock at a moment, given the time of the command before it; at most 2^64 -
--- 1
+-- the time of the host's clock at a moment, given the time of the command before it; it fits in 64
+-- bits
 abbrev pub clock_at : Moment → (time : ℕ) → ℕ
 clock_at (At now) time = now
 clock_at (After elapsed) time = time_after time elapsed
@@ -83,7 +83,7 @@ entered s (Executes moment locality completes random buffer) =
     Some (entry_of c (effect s c))
 entered s c = None
 
--- ---- on texts
+-- ---- the same effect, on the texts of the state and the command
 
 -- the result of a function of a state and a command; `other` if one of the texts is not that of a
 -- state or a command

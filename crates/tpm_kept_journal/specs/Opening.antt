@@ -16,7 +16,7 @@ use Rattle.tpm_kept_journal.specs.texts.HeadAt.{PlainHead, head_at, text_of_head
 use Rattle.tpm_kept_journal.specs.texts.NextAt.{Damaged, PlainNext, Torn, Whole, next_at}
 use Rattle.tpm_kept_journal.specs.texts.Parts.{are_bytes, where_so}
 
--- ---- entries
+-- ---- executing entries again
 
 -- the effect of an entry whose command is executed again
 abbrev pub performance : DeviceState → PlainEntry → Seen
@@ -64,7 +64,7 @@ walk (suc bound) p taken text = elim (found_at p text) [
 unfoldable pub walked : Spot → (taken : ℕ) → List ℕ → Option (Spot × ℕ)
 walked p taken text = walk (suc (length text)) p taken text
 
--- ---- heads
+-- ---- the heads of journals
 
 -- whether a text is that of a state, and fits in a head
 unfoldable pub is_state_text : List ℕ → Bool
@@ -113,7 +113,7 @@ whole_head size None = None
 unfoldable pub after_head_text : List ℕ → Option Spot
 after_head_text text = whole_head (length text) (started_at text)
 
--- ---- journals
+-- ---- opening whole journals
 
 abbrev pub opened_behind : List ℕ → Option (Spot × ℕ) → Option (Spot × ℕ)
 opened_behind text (Some found) = walked found.0 found.1 (drop found.1 text)

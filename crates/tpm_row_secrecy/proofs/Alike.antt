@@ -17,7 +17,7 @@ alike_same see x = record { is = refl }
 pub alike_err : {A B E : Type 0} (see : A → B) (e : E) → Alike see (Err e) (Err e)
 alike_err see e = record { is = refl }
 
--- ---- steps
+-- ---- comparing two rows after a step
 
 pub alike_step : {A B C E : Type 0} (see : B → C) (x : Result A E) (f g : A → Result B E) → ((a : A) → Alike see (f a) (g a)) → Alike see (x >>= f) (x >>= g)
 alike_step see (Ok a) f g more = more a
@@ -76,7 +76,7 @@ fault_outcome see refused (Err e) = refl
 pub alike_fault : {A B F : Type 0} (see : A → B) (refused : Refused) (x y : Result A F) → Alike see x y → Alike see (or_fault x refused) (or_fault y refused)
 alike_fault {B = B} {F = F} see refused x y alike = record { is = fault_outcome see refused x ∙ ap (λ (z : Result B F). or_fault z refused) alike.is ∙ sym (fault_outcome see refused y) }
 
--- ---- successes without a visible part
+-- ---- comparing only whether rows succeed
 
 -- the visible part of a success, if only the fact that it is a success is visible
 abbrev pub success : {A : Type 0} → A → Unit {0}

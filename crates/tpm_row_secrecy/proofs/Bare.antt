@@ -29,7 +29,7 @@ unless_none true = refl
 unless_none false = refl
 
 module _ (s : Secrecy) where
-  -- ---- erasing twice is erasing once
+  -- ---- erasing the secrets twice
 
   pub object_again : (o : Object) → bare_object s (bare_object s o) ≡ bare_object s o
   object_again o = rw (unless_again _ o.auth_value, unless_again _ o.seed_value, unless_again _ o.sensitive) refl

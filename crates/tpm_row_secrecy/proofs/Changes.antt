@@ -33,14 +33,12 @@ use Rattle.tpm_nv.specs.declared.fault.LockFault.TheVariants as lock_fault
 use Rattle.tpm_types_nv.specs.declared.nv_attributes.NvAttribute.TheVariants as attribute
 use Rattle.tpm_types_nv.specs.declared.nv_type.NvType.TheVariants as type
 
--- Erasing secret bytes before and after new bytes are computed from them gives the same result as
--- erasing only the new bytes.
 unless_made : (b : Bool) (make : List ℕ → List ℕ) (bytes : List ℕ) → unless b (make (unless b bytes)) ≡ unless b (make bytes)
 unless_made true make bytes = refl
 unless_made false make bytes = refl
 
 module _ (s : Secrecy) where
-  -- ---- one index
+  -- ---- erasing the secrets of an index
 
   abbrev with_parts : NvIndex → (auth_value bytes : List ℕ) → NvIndex
   with_parts i auth_value bytes = record i { auth_value = auth_value; bytes = bytes }
@@ -67,7 +65,7 @@ module _ (s : Secrecy) where
       ap (λ (value : List ℕ). with_parts (started_index i) value (unless (s.index_data i.public.nv_index.number) (started_index (bare_index s i)).bytes)) (unless_again _ i.auth_value)
       ∙ ap (with_parts (started_index i) (unless (s.index_values i.public.nv_index.number) i.auth_value)) (start_bytes _ (has (kept_written i.public.attributes) attribute.Written) i.bytes)
 
-  -- ---- all indices
+  -- ---- erasing the secrets of all indices
 
   pub started_same : (n : NvContents) → bare_nv s (started (bare_nv s n)) ≡ bare_nv s (started n)
   unfolding started
@@ -173,7 +171,8 @@ module _ (s : Secrecy) where
         alike_step (bare_nv s) (refused_if (nat_le (2 ^ 64) (number_or n.max_count i + 1)) write_fault.Exhausted) _ _ (λ fits.
         alike_end (bare_nv s) _ _ (ap (λ (m : NvContents). counted m (number_or n.max_count i + 1)) (changed_same n handle _ _ (count_same i (to_be_bytes w64 (number_or n.max_count i + 1)))))))
 
-    -- If an index is not a counter, an increment of it is refused in the same way on both devices.
+    -- If an index is not a counter, a device refuses its increment in the same way as the device
+    -- with its secrets erased.
     no_counter : (locked counter : Bool) (f g : Unit {0} → Result NvContents WriteFault) → counter ≡ false → NvAlike ((refused_if locked write_fault.Locked >>= λ unlocked. refused_if (not counter) write_fault.Attributes) >>= f) ((refused_if locked write_fault.Locked >>= λ unlocked. refused_if (not counter) write_fault.Attributes) >>= g)
     no_counter true counter f g is = record { is = refl }
     no_counter false true f g is = absurd (false≢true (sym is))
@@ -211,7 +210,8 @@ module _ (s : Secrecy) where
         alike_step success (refused_if (nat_lt i.public.data_size (offset + size)) read_fault.PastData) _ _ (λ inside.
         alike_end success _ _ refl)))
 
-    -- If the data of an index is not secret, a read returns the same on both devices.
+    -- If the data of an index is not secret, a read of it returns the same bytes with and without
+    -- the device's secrets erased.
     pub read_shown : (offset size : ℕ) → option_map_or (is_secret_index s) (index_at n handle) false ≡ false → read_at (bare_nv s n) handle offset size ≡ read_at n handle offset size
     unfolding read_at
     read_shown offset size shown = ap (λ (found : Option NvIndex). ok_or found read_fault.Undefined >>= reading offset size) (index_at_bare s n handle) ∙ by (index_at n handle) shown

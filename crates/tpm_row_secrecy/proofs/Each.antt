@@ -52,7 +52,6 @@ module _ {X Y : Type 0} (f : X → Y) where
   length_each [] = refl
   length_each (e ∷ es) = ap (λ (n : ℕ). suc n) (length_each es)
 
--- Applying one function and then another to all values of a map equals applying their composition.
 pub each_twice : {X Y Z : Type 0} (g : Y → Z) (f : X → Y) (h : X → Z) → ((x : X) → g (f x) ≡ h x) → (es : Entries X) → each g (each f es) ≡ each h es
 each_twice g f h same [] = refl
 each_twice {Z = Z} g f h same (e ∷ es) =
@@ -137,7 +136,7 @@ places_twice {Z = Z} g f h same (Some x ∷ xs) =
     ap (λ (z : Z). Some z ∷ places g (places f xs)) (same x)
     ∙ ap (λ (others : List (Option Z)). Some (h x) ∷ others) (places_twice g f h same xs)
 
--- ---- functions that change nothing when applied again
+-- ---- functions that have no effect when applied a second time
 
 module _ {X : Type 0} (f : X → X) (again : (x : X) → f (f x) ≡ f x) where
   pub places_again : (xs : List (Option X)) → places f (places f xs) ≡ places f xs

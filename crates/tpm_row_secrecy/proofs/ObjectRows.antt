@@ -145,7 +145,8 @@ module _ (s : Secrecy) (r : Record) (q : Request) where
   place_same : (check : ActionCheck) → place_for check (without_secrets s r) ≡ place_for check r
   place_same check = ap (λ (found : Option ℕ). ok_or found (action_refusal check (plain code.ObjectMemory))) (lowest_free_each (bare_object s) r.objects)
 
-  -- Putting a new object into a slot looks the same on both devices.
+  -- Storing a new object in a slot looks the same on a device and on the device with its secrets
+  -- erased.
   placed : (one other : ℕ → AnswerParts) (check : ActionCheck) (o : Object) → ((n : ℕ) → one n ≡ other n) → Same s (place_for check (without_secrets s r) >>= λ n. Ok (record { answer = one n; after = record (without_secrets s r) { objects = with_object (places (bare_object s) r.objects) n o } })) (place_for check r >>= λ n. Ok (record { answer = other n; after = record r { objects = with_object r.objects n o } }))
   placed one other check o same =
       same_both s (place_for check (without_secrets s r)) (place_for check r) _ _ (place_same check) (λ n.
@@ -235,8 +236,8 @@ module _ (s : Secrecy) (r : Record) (q : Request) where
 
   -- ---- sealed data and keys
 
-  -- If the data of the first handle's object is not secret, it is enough to compare the rows for
-  -- the object with at most its authorization value erased.
+  -- If the data of the first handle's object is not secret, at most its authorization value is
+  -- erased. So it is enough to compare the rows for such objects.
   shown_object : (f g : Object → Result Success Refused) → handle_passes (names_secret_object s r) (first_handle q.handles) ≡ false → ((o : Object) → Same s (f (other_value o)) (g o)) → Same s (first_handle q.handles >>= λ handle. loaded_at (without_secrets s r) handle >>= f) (first_handle q.handles >>= λ handle. loaded_at r handle >>= g)
   shown_object f g shown more =
       alike_step_is (bare_success s) (first_handle q.handles) _ _ (λ handle named.

@@ -66,8 +66,6 @@ module _ (s : Secrecy) (r : Record) (q : Request) where
   abbrev kept_after : CommandCode → Record → List (Option Session) → Result Success Refused
   kept_after c t sessions = Ok (record { answer = answer_of (body_of c); after = record t { sessions = sessions } })
 
-  -- If an assertion has the same result on the session with its secrets erased, the last steps of
-  -- the rows look the same.
   asserted_end : (c : CommandCode) (handle : Handle) (a b : Session → Assertion) → ((x : Session) → session_at r.sessions handle ≡ Some x → asserted x.hash (is_trial x.kind) (a (bare_session s x)) x.policy ≡ asserted x.hash (is_trial x.kind) (b x) x.policy) → Same s (with_assertion (places (bare_session s) r.sessions) handle a >>= kept_after c (without_secrets s r)) (with_assertion r.sessions handle b >>= kept_after c r)
   asserted_end c handle a b same =
       alike_after (places (bare_session s)) (bare_success s) _ _ _ _
@@ -76,8 +74,6 @@ module _ (s : Secrecy) (r : Record) (q : Request) where
       alike_end (places (bare_session s)) _ _ (policy_set handle policy))))
       (λ xs ys alike. same_end s _ _ _ (with_sessions s r xs ys alike))
 
-  -- If a command decodes its parameters, and its assertion does not depend on the session's
-  -- secrets, its rows on both devices look the same.
   by_parameters : {P : Type 0} (c : CommandCode) (x : Result P Refused) (f : P → Session → Assertion) → ((p : P) (y : Session) → f p (bare_session s y) ≡ f p y) → Same s (session_handle c q.handles >>= λ handle. (x >>= λ p. Ok (f p)) >>= λ a. with_assertion (places (bare_session s) r.sessions) handle a >>= kept_after c (without_secrets s r)) (session_handle c q.handles >>= λ handle. (x >>= λ p. Ok (f p)) >>= λ a. with_assertion r.sessions handle a >>= kept_after c r)
   by_parameters c x f same =
       same_step s (session_handle c q.handles) _ _ (λ handle.
@@ -148,8 +144,7 @@ module _ (s : Secrecy) (r : Record) (q : Request) where
       ap (λ (name : List ℕ). parts_with target p name (compared (without_secrets s r) target p)) (name_bare s r target.handle)
       ∙ ap (λ (bytes : Result (List ℕ) ReadFault). parts_with target p (name_of r target.handle) (reading_passes target >>= λ readable. or_fault bytes (plain_fault action.Fourth code.NvRange))) (read_shown s r.nv target.handle p.offset (length p.operand) shown)
 
-  -- On a trial session TPM2_PolicyNV compares nothing, so its assertion has the same result on both
-  -- devices.
+  -- On a trial session TPM2_PolicyNV compares nothing, so its assertion does not depend on secrets.
   trial_same : (trial : Bool) (hash : HashAlg) (target : Target) (p : of_index.Parameters) (policy : Policy) → trial ≡ true → nv_asserted hash trial (nv_parts_of (without_secrets s r) target p) policy ≡ nv_asserted hash trial (nv_parts_of r target p) policy
   unfolding nv_asserted
   trial_same true hash target p policy is = ap (λ (name : List ℕ). nv_asserted hash true (record (nv_parts_of (without_secrets s r) target p) { name = name }) policy) (name_bare s r target.handle)
@@ -158,8 +153,6 @@ module _ (s : Secrecy) (r : Record) (q : Request) where
   is_trial_session : (handle : Handle) (x : Session) → session_at r.sessions handle ≡ Some x → names_policy_session r handle ≡ false → is_trial x.kind ≡ true
   is_trial_session handle x is free = not-false (is_trial x.kind) (sym (ap (λ (found : Option Session). option_map_or (λ (y : Session). not (is_trial y.kind)) found false) is) ∙ free)
 
-  -- If the assertions have the same result on both devices, the rows of TPM2_PolicyNV look the
-  -- same.
   nv_row : ((handle : Handle) → third_handle q.handles ≡ Ok handle → (target : Target) → second_handle q.handles ≡ Ok target.handle → (p : of_index.Parameters) (x : Session) → session_at r.sessions handle ≡ Some x → nv_asserted x.hash (is_trial x.kind) (nv_parts_of (without_secrets s r) target p) x.policy ≡ nv_asserted x.hash (is_trial x.kind) (nv_parts_of r target p) x.policy) → Same s (assertion_row command.PolicyNv (without_secrets s r) q) (assertion_row command.PolicyNv r q)
   unfolding assertion_row
   nv_row same =

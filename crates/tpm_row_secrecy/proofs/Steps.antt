@@ -28,7 +28,7 @@ use Rattle.tpm_row_secrecy.proofs.Entities.{index_at_bare, object_of_bare, sessi
 use Rattle.tpm_row_secrecy.specs.Alike.{Same, bare_success}
 use Rattle.tpm_row_secrecy.specs.Secrecy.{Secrecy, bare_index, bare_nv, bare_object, bare_session, without_secrets}
 
--- ---- the ends of rows
+-- ---- the last steps of rows
 
 pub same_end : (s : Secrecy) (answer : AnswerParts) (a b : Record) → without_secrets s a ≡ without_secrets s b → Same s (Ok (record { answer = answer; after = a })) (Ok (record { answer = answer; after = b }))
 same_end s answer a b same = alike_end (bare_success s) _ _ (ap (λ (r : Record). let x : Success = record { answer = answer; after = r } in x) same)
@@ -50,7 +50,7 @@ same_changed s r refusal x y alike =
     alike_after (bare_nv s) (bare_success s) _ _ _ _ (alike_refusal (bare_nv s) refusal x y alike)
     (λ n m same. same_end s nothing _ _ (with_nv s r n m same))
 
--- ---- the steps of rows
+-- ---- other steps of rows
 
 pub same_step : {A : Type 0} (s : Secrecy) (x : Result A Refused) (f g : A → Result Success Refused) → ((a : A) → Same s (f a) (g a)) → Same s (x >>= f) (x >>= g)
 same_step s x f g more = alike_step (bare_success s) x f g more

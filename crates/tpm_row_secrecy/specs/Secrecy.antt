@@ -102,7 +102,7 @@ bare_session s x = record x {
   binding = option_map (bare_binding s) x.binding;
 }
 
--- ---- the device
+-- ---- erasing the secrets of a device
 
 -- the record with its secrets erased. Everything else is unchanged: the entities with their public
 -- areas and Names, the sessions and their policies, the PCRs, the number of failed tries, the seeds
@@ -119,7 +119,7 @@ without_secrets s r = record {
 abbrev pub DifferInSecrets : Secrecy → Record → Record → Type 0
 DifferInSecrets s one other = without_secrets s one ≡ without_secrets s other
 
--- ---- what may be secret
+-- ---- entities and sessions with secrets
 
 -- whether the authorization value of a handle's entity is secret
 abbrev pub entity_has_secret_value : Secrecy → Handle → Entity → Bool

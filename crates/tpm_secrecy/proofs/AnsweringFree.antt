@@ -115,7 +115,7 @@ first_of_one n hs place h (inr one) is = by hs place (ap (λ (m : ℕ). slice_ge
     by (k ∷ m ∷ ks) (suc place) is = absurd cc
 
 module _ (s : Secrecy) (r new : Record) where
-  -- ---- one entry
+  -- ---- the session of a single entry
 
   authorizes_still : (hs : List Handle) (g : Option Grant) → IfSome g (λ g. first_handle hs ≡ Ok g.handle) → ((h : Handle) → first_handle hs ≡ Ok h → StaysOpen s r new h) → authorizes_secret s r g ≡ false → authorizes_secret s new g ≡ false
   authorizes_still hs None named stays free = refl
@@ -151,7 +151,7 @@ module _ (s : Secrecy) (r new : Record) where
   kind_still kind.Session e g has keeps still free = found_still (session_of r e) (session_of new e) e g has (keeps e.session has) still free
   kind_still kind.Other e g has keeps still free = refl
 
-  -- ---- all entries
+  -- ---- the sessions of all entries
 
   all_still : (hs : List Handle) (es : List Entry) (gs : List (Option Grant)) → HaveSessions r es → SessionsKeep r.sessions new.sessions → ((h : Handle) → first_handle hs ≡ Ok h → StaysOpen s r new h) → ((place : ℕ) (e : Entry) (g : Option Grant) → slice_get es place ≡ Some e → slice_get gs place ≡ Some g → IfSome g (λ g. first_handle hs ≡ Ok g.handle)) → NoneUses s r (zip es gs) → NoneUses s new (zip es gs)
   all_still hs [] gs have keeps stays named none = tt

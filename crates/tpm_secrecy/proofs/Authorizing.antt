@@ -49,7 +49,6 @@ use Rattle.tpm_types.specs.declared.handle.SessionKind.TheVariants as kind
 use Rattle.tpm_types.specs.declared.session_type.SessionType.TheVariants as type
 use Rattle.tpm_record.specs.declared.entity.Means.TheVariants as means
 
--- two computations are equal if their first steps are equal, and so are their later steps
 pub then_same : {A B E : Type 0} (x y : Result A E) (f g : A → Result B E) → x ≡ y → ((a : A) → f a ≡ g a) → (x >>= f) ≡ (y >>= g)
 then_same {A} {B} {E} x y f g first same = ap (λ (z : Result A E). z >>= f) first ∙ by y
   where
@@ -76,7 +75,7 @@ session_shown s x shown =
     ap (λ (key : List ℕ). record x { key = key; binding = option_map (bare_binding s) x.binding }) (unless_open _ x.key shown)
     ∙ ap (λ (b : Option Binding). record x { binding = b }) (bare_bindings s x.binding shown)
 
--- ---- values that are not used
+-- ---- authorization values that an entry does not use
 
 no_value_in_key : (k : SessionType) (bound : Bool) (d : Demand) → is_hmac_session k ≡ false → is_demanding d ≡ false → has_value_in_key k bound d ≡ false
 no_value_in_key type.Hmac bound d hmac free = absurd (false≢true (sym hmac))
@@ -114,7 +113,7 @@ module _ (s : Secrecy) (covers : CoversKeys s) (r : Record) where
   abbrev bare : Record
   bare = without_secrets s r
 
-  -- ---- facts that are the same on both devices
+  -- ---- facts that do not depend on secrets
 
   pub seen_session : {X : Type 0} (see : Option Session → X) → ((found : Option Session) → see (option_map (bare_session s) found) ≡ see found) → (h : Handle) → see (session_at bare.sessions h) ≡ see (session_at r.sessions h)
   seen_session see same h = ap see (session_at_bare s r.sessions h) ∙ same (session_at r.sessions h)

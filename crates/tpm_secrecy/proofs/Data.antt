@@ -130,7 +130,7 @@ module _ (indices : ℕ → Bool) (objects : Public → Bool) where
   event_keeps r Cycled free = tt
   event_keeps r (Placed object) free = tt
 
-  -- ---- an event reads the data on both devices, or on neither
+  -- ---- whether an event reads data does not depend on the data
 
   module _ (r t : Record) (differ : DifferInSecrets data_alone r t) where
     granted_both : (c : Whole) (locality : ℕ) (random : List ℕ) (x : Result (List (Option Grant)) Refused) → granted_reads data_alone r c locality random x ≡ granted_reads data_alone t c locality random x

@@ -187,7 +187,7 @@ pub first_viewed : (r : Record) (handles : List Handle) (handle : Handle) → fi
 first_viewed r [] handle first = absurd (no_first handle first)
 first_viewed r (h ∷ hs) handle first = ap (λ (x : Handle). Some (view_of r x)) (first_is h handle hs first)
 
--- neither TPM2_Unseal nor TPM2_HMAC ever needs memory
+-- neither TPM2_Unseal nor TPM2_HMAC ever allocates memory
 pub never_grows : (b : Bool) → (shape_of (if b then command.Hmac else command.Unseal)).grows ≡ false
 unfolding shape_of
 never_grows true = refl

@@ -76,7 +76,7 @@ module _ (objects : Public → Bool) (r : Record) (buffer : List ℕ) (locality 
   unfolding accepted acceptance
   accepted_so c grants x decoded granted row = rw (decoded, granted, row) refl
 
--- a command that never needs memory returns a success, even if an allocation would fail
+-- a command that never allocates memory returns a success, even if an allocation would fail
 answered : (refused : Bool) (r : Record) (random : List ℕ) (a : Accepted) → (shape_of a.command.code).grows ≡ false → (answer_where refused r random (Ok a)).row.check ≡ 0
 answered false r random a none = refl
 answered true r random a none = rw none refl
@@ -175,7 +175,7 @@ followed_data_need_policy objects can old history follows event x executes =
       | inr free ↦ inl (unread_tells_nothing objects can old event x executes.steps free)
     ]
 
--- ---- until a command reads the data
+-- ---- executions before a command reads the data
 
 module _ (objects : Public → Bool) (can : Bool) (Holds : History → AcceptedCommand → Type 0) (so : (history : History) (c : AcceptedCommand) → ReadsSealed objects history c → Holds history c) where
   one_stays : (old : Record) (history : History) → Follows old history → (event : PlainEvent) (x : Stepped) → Executes can old event x → ((c : AcceptedCommand) → recorded old event x.row.check history ≡ Done c ∷ history → Holds history c → ⊥) → TellsNothingSealed objects can old event x
@@ -203,7 +203,7 @@ pub followed_data_stay_until_read : FollowedDataStayUntilRead
 followed_data_stay_until_read objects can old history follows executions new led none =
     all_stay objects can (ReadsSealed objects) (λ past c reads. reads) old history follows executions new led none
 
--- ---- devices since their manufacture
+-- ---- devices that were manufactured
 
 pub history_followed : (can : Bool) (random : List ℕ) (executions : List Execution) (old : Record) → Leads can (manufactured random) executions old → Follows old (history_after [] executions)
 history_followed can random executions old leads = (stretch_follows can (manufactured random) executions old [] leads (manufactured_follows random)).follows

@@ -243,10 +243,8 @@ module _ (s : Secrecy) (covers : CoversKeys s) where
       ∙ ap (λ (z : Result Accepted RefusedCommand). bare_step (answer_where refused (without_secrets s t) random z)) alike.is
       ∙ answered_bare refused t random y other
 
-  -- ---- steps
+  -- ---- the steps of events
 
-  -- placing two objects that differ only in secrets, on two devices that differ only in secrets,
-  -- leaves two devices that differ only in secrets
   placed_bare : (a b : Object) → bare_object s a ≡ bare_object s b → (r : Record) → without_secrets s (placed (without_secrets s r) a) ≡ without_secrets s (placed r b)
   placed_bare a b same r =
       with_objects s r _ _ (ap (λ (found : Option ℕ). places (bare_object s) (placed_at found a (places (bare_object s) r.objects))) (lowest_free_each (bare_object s) r.objects) ∙ by (lowest_free r.objects))
@@ -273,8 +271,8 @@ module _ (s : Secrecy) (covers : CoversKeys s) where
   event_same refused one other (Placed object) differ keeps also =
       ap (λ (after : Record). record (bare_step (step_where refused other Cycled)) { after = after }) (placed_same one other object object differ refl)
 
-  -- two events that are the same except for secrets are equal, or place two objects that differ
-  -- only in secrets
+  -- Two events that differ only in secrets are equal, or place two objects that differ only in
+  -- secrets.
   pub same_event : (event also : PlainEvent) → EventsAlike s event also → (event ≡ also) ⊎ (a : Object) × (b : Object) × (event ≡ Placed a) × (also ≡ Placed b) × (bare_object s a ≡ bare_object s b)
   same_event (Given buffer locality elapsed random) (Given others from later bytes) alike = inl alike
   same_event (Given buffer locality elapsed random) Cycled alike = absurd cc

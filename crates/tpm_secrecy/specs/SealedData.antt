@@ -84,7 +84,7 @@ SealedDataNeedPolicy =
     ⊎ (c : AcceptedCommand) × (recorded old event x.row.check history ≡ Done c ∷ history)
     × ReadsSealed objects history c
 
--- ---- until a command reads the data
+-- ---- executions before a command reads the data
 
 -- Among the commands that are accepted in these executions, after this history, none has this
 -- property.
@@ -94,7 +94,7 @@ NoneIs Holds history (one ∷ executions) =
     ((c : AcceptedCommand) → with_execution one history ≡ Done c ∷ history → Holds history c → ⊥)
     × NoneIs Holds (with_execution one history) executions
 
--- From another device the same events lead, with the same responses and rows, to a device that
+-- The same events also lead from another device, with the same responses and rows, to a device that
 -- differs from this one only in sealed data. Objects that the events place on the other device may
 -- differ in this data.
 abbrev pub LeadsAlike : (Public → Bool) → Bool → Record → List Execution → Record → Type 0

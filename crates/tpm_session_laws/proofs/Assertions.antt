@@ -56,7 +56,7 @@ changed_bare change adds handle other live bare =
     (λ same. bare_changed change adds (live handle) (subst (λ (h : Handle). IsBare (live h)) (same_handle other handle same) bare))
     bare
 
--- ---- entries
+-- ---- the effect of entries on assertions
 
 used_none : AddsNone used
 used_none s bare = by s.kind
@@ -85,7 +85,7 @@ rolls_bare live (e ∷ es) left handle bare =
     rolls_bare first.sessions es first.left handle
     (changed_bare (with_nonce (take (nonce_size (live e.session)) left)) (λ s none. none) e.session handle live bare)
 
--- ---- commands
+-- ---- the effect of commands on assertions
 
 begun_bare : (p : Result Parameters Refused) (bound : Option Bound) (random : List ℕ) → IsBare (started_by p bound random)
 begun_bare (Ok p) bound random = refl

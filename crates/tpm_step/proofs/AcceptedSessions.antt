@@ -32,7 +32,7 @@ module _ (r : Record) (a : Accepted) (locality : ℕ) (random : List ℕ) (histo
   abbrev c : AcceptedCommand
   c = command_of r a
 
-  -- the assertions of a session that survived a row met their conditions
+  -- If a session still exists after a command, its assertions met their conditions.
   stayed_find : (handle : Handle) (old mid : LiveSession) → sessions_of history handle ≡ Some old → mid.kind ≡ type.Policy → Keeps old mid → AllFind mid.hash mid.assertions
   stayed_find handle old mid lived policy keeps = by keeps.asserted
     where
@@ -41,7 +41,7 @@ module _ (r : Record) (a : Accepted) (locality : ℕ) (random : List ℕ) (histo
       by (inl same) =
           subst (AllFind mid.hash) (sym same) (subst (λ (h : HashAlg). AllFind h old.assertions) (sym keeps.continues.hash) (before handle old lived (sym keeps.continues.kind ∙ policy)))
 
-  -- the command's assertion on the device's session met its condition
+  -- The assertion that the command makes on the device's session met its condition.
   told_finds : (handle : Handle) (old : LiveSession) (told : Assertion) → asserts c.command.code ≡ true → session_handle c.command.code c.request.handles ≡ Ok handle → sessions_of history handle ≡ Some old → old.kind ≡ type.Policy → assertion_by c.command.code c history old.hash old.nonce_tpm ≡ Ok told → Finds told (policy_in old) × HasWidths old.hash told
   told_finds handle old told it_does names lived kind tells = by (session_at r.sessions handle) refl (has.live handle)
     where

@@ -32,7 +32,6 @@ Kept old new = (value : List ℕ) → new ≡ Some value → old ≡ Some value
 pub same_kept : {old new : Option (List ℕ)} → new ≡ old → Kept old new
 same_kept same value is = sym same ∙ is
 
--- an entity that is unchanged or was removed has no new value
 found_kept : {X : Type 0} (shown : X → List ℕ) (old new : Option X) → (new ≡ old) ⊎ (new ≡ None) → Kept (option_map shown old) (option_map shown new)
 found_kept shown old new (inl same) = same_kept (ap (option_map shown) same)
 found_kept shown old new (inr gone) = λ value is. absurd (none-some value (sym (ap (option_map shown) gone) ∙ is))
@@ -99,7 +98,7 @@ transient_seen r h is =
     ∙ cond-false (is_persistent h) _ _ (other_type 0x80 0x81 h is refl)
     ∙ cond-true (is_transient h) _ _ is
 
--- ---- another index or object at a handle
+-- ---- replacing the index or object at a handle
 
 pub index_set : (r : Record) (nv : NvContents) (handle : Handle) (index : NvIndex) → is_nv_index handle ≡ true → index_at nv handle ≡ Some index → ((n : ℕ) → n ≢ handle.number → at_key nv.indices n ≡ at_key r.nv.indices n) → Sets handle index.auth_value r (record r { nv = nv })
 index_set r nv handle index named found others = record {

@@ -18,7 +18,7 @@ use Rattle.tpm_record.specs.rows.Rows.{all_read, only, parameter}
 use Rattle.tpm_nvactions.specs.NvDefineSpace as definition
 use Rattle.tpm_step.proofs.Binding.{asked, ok_bind, ok_bind_is, ok_then}
 
--- ---- steps that pass on a parameter that was read
+-- ---- later steps after a parameter was read
 
 pub parameter_then : {X B : Type 0} (P : X → Type 0) (Q : B → Type 0) (n : ℕ) (x : Result X Rc) (f : X → Result B Refused) → IfOk x P → ((a : X) → P a → IfOk (f a) Q) → IfOk (parameter n x >>= f) Q
 parameter_then P Q n (Ok a) f holds next = next a holds
@@ -38,7 +38,7 @@ filled_holds P read text holds =
     ok_then (λ x. P x.0) _ (or_size (read buffer.0)) _ (size_holds (λ x. P x.0) (read buffer.0) (holds buffer.0)) (λ content is.
     ok_bind _ (refused_if (not (length content.1 == 0)) (plain code.Size)) _ (λ whole. is)))
 
--- ---- values
+-- ---- authorization values
 
 -- This value does not end in a zero.
 abbrev pub IsTrimmed : List ℕ → Type 0
@@ -51,7 +51,7 @@ value_trimmed text = search (rules, ok_bind, trimmed_twice)
 pub only_trimmed : (text : List ℕ) → IfOk (only (auth_value_at text)) IsTrimmed
 only_trimmed text = only_holds IsTrimmed (auth_value_at text) (value_trimmed text)
 
--- ---- handles
+-- ---- types of handles
 
 index_named : (text : List ℕ) → IfOk (nv_index_at text) (λ x. is_nv_index x.0 ≡ true)
 unfolding nv_index_at

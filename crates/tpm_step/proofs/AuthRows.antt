@@ -89,7 +89,7 @@ use Rattle.tpm_step.proofs.AuthParts.{KeepsAll, Sets, auth_handle, hierarchy_set
 use Rattle.tpm_step.proofs.AuthReadings.{IsDefinition, definition_read, wanted_named}
 use Rattle.tpm_step.proofs.rows.HandleRules.{first_fits, second_fits}
 
--- ---- parts whose change keeps the authorization values
+-- ---- parts of the state that contain no authorization value
 
 index_keys : IsSortedMap NvIndex
 index_keys = is_map
@@ -169,12 +169,10 @@ flush_keeps r q = search (rules, ok_bind, flushed_keeps)
 
 -- ---- the value that a row sets
 
--- if a row sets this value for this handle, the record still has the values of the history
 set_is : (old new : Record) (values : AuthValues) (handle : Handle) (value : List ℕ) (set : Result (Handle × List ℕ) Refused) → set ≡ Ok (handle, value) → Sets handle value old new → HaveValues old values → HaveValues new (with_value set values)
 set_is old new values handle value set is sets have =
     subst (λ (x : Result (Handle × List ℕ) Refused). HaveValues new (with_value x values)) (sym is) (set_values old new values handle value sets have)
 
--- if a step that refuses an existing entity did not refuse, the entity does not exist
 absent : {X E : Type 0} (found : Option X) (fault : E) (u : Unit {0}) → refused_if (is_some found) fault ≡ Ok u → found ≡ None
 absent None fault u is = refl
 absent (Some x) fault u is = absurd (false≢true (sym (passed true fault u is)))
@@ -304,7 +302,6 @@ object_seen r handle object named =
           | inr is ↦ absurd (false≢true (sym other ∙ is))
         ]
 
--- setting a value that is already set changes nothing
 set_again : (values : AuthValues) (to from : Handle) → to.number ≡ from.number → (h : Handle) → with_at to (values from) values h ≡ values h
 set_again values to from same h =
     cond_both (h.number == to.number) (values from) (values h) (λ v. v ≡ values h)
@@ -389,7 +386,8 @@ cleared_or_same objects n = by (at_number transient_byte objects n) refl
           | inr stays ↦ inl (are_cleared.stays objects n object there stays)
         ]
 
--- after TPM2_Clear three values are empty, and the removed objects and indices have no value
+-- After TPM2_Clear, ownerAuth, endorsementAuth and lockoutAuth are empty, and the removed objects
+-- and indices have no authorization value.
 all_cleared : (r : Record) (after : Fixed) (values : AuthValues) → Ascends r.nv.indices → Ascends r.persistent → HaveValues r values → HaveValues (record r { fixed = emptied r.fixed after; objects = cleared_objects r.objects; persistent = cleared_persistent r.persistent; nv = cleared r.nv }) (cleared_values values)
 unfolding object_at with_hierarchy_auth cleared
 all_cleared r after values up also have =

@@ -40,7 +40,8 @@ use Rattle.tpm_auth.specs.Grant.{authorize, authorized, grant, grant_by, grants_
 use Rattle.tpm_auth.specs.SessionGrant.{comparison, comparison_holds, demand_by, demanded, entry_nonce, entry_parts, entry_protection, granted_value, has_value_in_key, hashed_command, is_authentic, is_bound_to, nonce_where, session_grant, takes_value, use_of, used_auth_value}
 use Rattle.tpm_auth.specs.declared.session_grant.Grant.{Grant}
 
--- Two devices agree about each handle, each session, the failed tries and the updates of PCRs.
+-- Two devices have the same sessions, failed tries and number of PCR updates, and the same facts
+-- about the entity of each handle.
 pub record HaveSame (r t : Record) : Type 0 where
   pub sessions : (handle : Handle) → session_at r.sessions handle ≡ session_at t.sessions handle
   pub updates : r.fixed.banks.update_count ≡ t.fixed.banks.update_count
@@ -52,7 +53,6 @@ pub record HaveSame (r t : Record) : Type 0 where
   pub written : (handle : Handle) → written_of r handle ≡ written_of t handle
   pub available : (handle : Handle) (means : Means) (nv_use : NvUse) → is_available r handle means nv_use ≡ is_available t handle means nv_use
 
--- if two steps are equal, and so are their continuations, the whole computations are equal
 bind_same : {A B : Type 0} {E : Type 0} (x y : Result A E) (f g : A → Result B E) → x ≡ y → ((a : A) → f a ≡ g a) → (x >>= f) ≡ (y >>= g)
 bind_same {A} {B} {E} x y f g first then = ap (λ (z : Result A E). z >>= f) first ∙ by y
   where

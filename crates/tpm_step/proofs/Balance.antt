@@ -16,7 +16,8 @@ use Rattle.tpm_step.specs.Tries.{is_try}
 
 -- ---- changes that keep the failed tries
 
--- Two states are equal except that lockoutAuth may be disabled in only one of them.
+-- Two states are equal, except that lockoutAuth may be disabled in one of them and enabled in the
+-- other.
 abbrev pub SameTries : LockoutState → LockoutState → Type 0
 SameTries old new =
     (new.fields.recovery_time ≡ old.fields.recovery_time) × (new.fields.max_tries ≡ old.fields.max_tries)
@@ -88,8 +89,6 @@ forgiven_pays elapsed s counts =
       within = inl refl;
     })
 
--- A change that satisfies `Pays`, followed by a change that keeps the failed tries, together
--- satisfy `Pays`.
 then_same : (a b c : LockoutState) (elapsed : ℕ) → Pays a b 0 elapsed → SameTries b c → Pays a c 0 elapsed
 then_same a b c elapsed pays same = record {
   recovery_time = same.0 ∙ pays.recovery_time;
@@ -111,7 +110,7 @@ cycle_pays s = record {
   within = inl refl;
 }
 
--- a counted failed try satisfies `Pays`, if the device is not in lockout
+-- A counted failed try satisfies `Pays`, if the device is not in lockout.
 failure_pays : (s : LockoutState) → s.fields.recovery_time ≢ 0 → is_locked s.fields ≡ false → Pays s (after_failure s) 1 0
 unfolding after_failure
 failure_pays s counts unlocked =
@@ -133,7 +132,7 @@ refusal_pays s counted.None counts unlocked = same_pays s s (refl, refl, refl, r
 refusal_pays s counted.Try counts unlocked = failure_pays s counts (unlocked refl)
 refusal_pays s counted.Lockout counts unlocked = same_pays s (closed_by_failure s) (closing_same s)
 
--- ---- all steps of a stretch
+-- ---- a stretch of events
 
 -- Either no try failed since this state, or no more tries failed than maxTries and the passed
 -- milliseconds allow.

@@ -102,9 +102,9 @@ history_within (Done c ∷ history) handle n some =
 history_within (PowerCycled ∷ history) handle n some = history_within history handle n some
 history_within (ObjectPlaced at object ∷ history) handle n some = history_within history handle n some
 
--- ---- while no index is defined again
+-- ---- events that do not define the index again
 
--- The counter has a value, which is at least this one.
+-- The counter has a value, which is at least `least`.
 abbrev Since : (least : ℕ) → (now : Option ℕ) → Type 0
 Since least now = (n : ℕ) × (now ≡ Some n) × (least ≤ n)
 
@@ -123,9 +123,9 @@ never_down old (one ∷ new) handle n some none =
     one_since n before after handle
     (subst (λ defined. Moves before after defined handle) none.0 (event_moves (new ++ old) one handle)) (never_down old new handle n some none.1)
 
--- ---- since a counter had no value
+-- ---- events after a counter had no value
 
--- The counter has no value, or a value above all of these.
+-- The counter has no value, or a value greater than `most`.
 abbrev Above : (most : ℕ) → (now : Option ℕ) → Type 0
 Above most now = (now ≡ None) ⊎ ((n : ℕ) × (now ≡ Some n) × (most < n))
 
@@ -156,9 +156,8 @@ first_exceeds old new handle n none some = by (all_above old new handle none)
     by (inl still) = absurd (some_none n (sym still ∙ some))
     by (inr (m, at, low)) = let same : m ≡ n = some_same m n (sym at ∙ some) in all_below (counts_of old) n (omega (arith, same, low))
 
--- ---- a definition
+-- ---- the definition of an index
 
--- if a command names this handle, it names a handle with the same number
 named_is : (named : Result Handle Refused) (handle : Handle) → is_named named handle ≡ true → (h : Handle) × (named ≡ Ok h) × (h.number ≡ handle.number)
 named_is (Ok h) handle is = (h, refl, eqb-true h.number handle.number is)
 named_is (Err e) handle is = absurd (false≢true is)

@@ -45,7 +45,6 @@ use Rattle.tpm_step.proofs.Indices.{OthersStay, changed_each, cleared_each, defi
 abbrev Counts : (Handle → Option ℕ) → Handle → NvIndex → Type 0
 Counts at handle index = IsCounter index → IsCounted index (at handle)
 
--- if the map has another value for one handle, all other counters still have their values
 others_count : (handle : Handle) (count : Option ℕ) (at : Handle → Option ℕ) → OthersStay (Counts at) (Counts (with_at handle count at)) handle
 others_count handle count at other index apart counts counter =
     let was = counts counter in
@@ -134,7 +133,7 @@ none_in [] n none = refl
 none_in (test ∷ tests) zero none = (or_parts test (list_any (λ wrong. wrong) tests) none).0
 none_in (test ∷ tests) (suc n) none = none_in tests n (or_parts test (list_any (λ wrong. wrong) tests) none).1
 
--- an index that passes the checks of a definition is not a counter that a startup clears
+-- An index that passes the checks of TPM2_NV_DefineSpace is not a counter that a startup clears.
 stays_is : (by_platform : Bool) (a : NvAttributes) → list_any (λ wrong. wrong) (index_attribute_conflicts by_platform a) ≡ false → index_type a ≡ Some type.Counter → has a attribute.ClearStClear ≡ false
 stays_is by_platform a passes counter =
     let fifth : (is_of a type.Counter && has a attribute.ClearStClear) ≡ false = none_in (index_attribute_conflicts by_platform a) 4 passes in
@@ -169,7 +168,7 @@ clear_counted : (contents : NvContents) (c : Counters) → Ascends contents.indi
 unfolding cleared
 clear_counted contents c up are = record { most = are.most; each = cleared_each (Counts c.at) contents up are.each }
 
--- ---- a startup
+-- ---- the effect of a startup
 
 -- Two sets of attributes have the same WRITTEN, CLEAR_STCLEAR and type of the index.
 abbrev Alike : NvAttributes → NvAttributes → Type 0
@@ -221,7 +220,7 @@ starts_counted : (old new : NvContents) (c : Counters) → StartsNv old new → 
 starts_counted old new c (inl same) are = same_counted old new c same are
 starts_counted old new c (inr starts) are = same_counted (started old) new c starts (startup_counted old c are)
 
--- ---- rows
+-- ---- the rows of all commands
 
 -- whether a success that touches this part of the state keeps the counters of the history
 abbrev keeps_counters : Part → Bool

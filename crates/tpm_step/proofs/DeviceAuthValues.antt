@@ -40,7 +40,7 @@ use Rattle.tpm_step.proofs.AuthParts.{kept_values, object_kept, parts_keep, set_
 use Rattle.tpm_step.proofs.AuthRows.{placed_sets, row_sets}
 use Rattle.tpm_containers.proofs.FoundNumbers.{free_found}
 
--- ---- one event
+-- ---- the effect of an event
 
 pub auth_values_done : (r : Record) (a : Accepted) (locality : ℕ) (random : List ℕ) (history : History) → IsAcceptance r locality random a → length r.objects ≡ object_limit → Ascends r.nv.indices → Ascends r.persistent → HasAuthValues r history → HasAuthValues (success_step a random).after (Done (command_of r a) ∷ history)
 auth_values_done r a locality random history accepts all up also has =
@@ -90,13 +90,12 @@ manufactured_auth_values random h v = by (is_nv_index h) (is_persistent h) (is_t
 
 -- ---- the value of an existing entity
 
--- a handle of the type of an index or an object is not of the type of a session
 no_session : (t : ℕ) → (t == 0x01 || t == 0x80 || t == 0x81) ≡ true → (t == 0x02 || t == 0x03) ≡ false
 no_session t kept = grind (arith, nat_tests)
 
 module _ (r : Record) (h : Handle) where
-  -- if a handle of an object's or an index's type passes the check that its entity exists, the
-  -- object or index exists
+  -- If a handle has the type of an object or an index, and its entity exists, it names an object or
+  -- an index.
   pub kept_there : is_present r h ≡ true → names_kept h ≡ true → is_kept (entity_at r h) ≡ true
   unfolding is_present
   kept_there present kept =
@@ -115,7 +114,6 @@ module _ (r : Record) (h : Handle) where
   object_there (Some object) kept = refl
   object_there None kept = absurd (false≢true kept)
 
-  -- a handle that is not of the type of a transient object names none
   none_transient : is_transient h ≡ false → object_at r.objects h ≡ None
   unfolding object_at at_number
   none_transient other = none (at_place r.objects (place_of h.number))

@@ -75,7 +75,6 @@ row_saves : (r : Record) (code : CommandCode) (q : Request) (history : History) 
 row_saves r command.Shutdown q history has = shutdown_saves r q history has
 row_saves r _ q history has = other_saves r _ q history refl has
 
--- after a command that discards the saved state, nothing is saved
 settled_saved : (keeps : Bool) (r : Record) (values : PcrValues) → IsSavedAs r.fixed.saved values → IsSavedAs (cond keeps r (with_saved r Nothing)).fixed.saved values
 settled_saved true r values is = is
 settled_saved false r values is = tt

@@ -44,7 +44,6 @@ cycled_sessions r history = record { live = none_live; asleep = λ asleep handle
 
 -- ---- accepted commands
 
--- the sessions are the same whether or not the saved state is kept
 settled_live : (keeps : Bool) (live : LiveSessions) (r : Record) → AreLive r.sessions live → AreLive (cond keeps r (with_saved r Nothing)).sessions live
 settled_live true live r are = are
 settled_live false live r are = are
@@ -107,7 +106,7 @@ module _ (r : Record) (a : Accepted) (locality : ℕ) (random : List ℕ) (histo
     asleep = λ asleep. absurd (false≢true (sym asleep ∙ is_started r a locality random is));
   }
 
-  -- enough random bytes are left after the nonces
+  -- After the new nonces were drawn, at least 64 random bytes are left.
   pub left_enough : 64 ≤ length (device.entries_rolled a.success.after a.command.entries (drop a.success.answer.drawn random)).left → 64 ≤ length (rolled_by (command_of r a) history (sessions_of history)).left
   left_enough some = by drew (subst (λ (bytes : List ℕ). 64 ≤ length bytes) (entries_roll a.success.after a.command.entries (drop a.success.answer.drawn random) effect after_row).1 some)
     where

@@ -97,12 +97,11 @@ not_kept : (kept : Bool) → (kept ≡ true → false ≡ true) → not kept ≡
 not_kept true kept = absurd (false≢true (kept refl))
 not_kept false kept = refl
 
--- if a device has a session, the history has a session with the same facts
 told_of : (found : Session) (told : Option LiveSession) → option_map session_facts (Some found) ≡ option_map facts_of told → (l : LiveSession) × (told ≡ Some l) × (session_facts found ≡ facts_of l)
 told_of found (Some l) same = (l, refl, same_Some (session_facts found) (facts_of l) same)
 told_of found None same = absurd cc
 
--- ---- a device and its history
+-- ---- facts that a device shares with its history
 
 module _ (r : Record) (c : AcceptedCommand) (history : History) (locality : ℕ) (from : c.request.locality ≡ locality) (viewed : c.views ≡ map (view_of r) c.command.handles) (valued : map (auth_value_of r) c.command.handles ≡ map (auth_of history) c.command.handles) (pcrs : HasPcrs r history) (live : AreLive r.sessions (sessions_of history)) (updates : AllRecordUpdates history) (present : (place : ℕ) (handle : Handle) → slice_get c.command.handles place ≡ Some handle → is_present r handle ≡ true) where
   there : (place : ℕ) (handle : Handle) → used_in c.command place ≡ Some handle → is_there (view_of r handle) ≡ true
@@ -131,8 +130,8 @@ module _ (r : Record) (c : AcceptedCommand) (history : History) (locality : ℕ)
     kind_same : s.kind ≡ l.kind
     kind_same = ap (λ (f : SessionFacts). f.start.kind) same
 
-    -- the assertions of a session about PCRs hold if the session's recorded counter is that of the
-    -- device
+    -- If the update counter that a session recorded is the device's counter, the session's
+    -- assertions about PCRs hold.
     holds_pcrs : RecordsUpdates e.session history l → is_other s.policy.update_count r.fixed.banks.update_count ≡ false → HoldsPcrs e.session history l
     holds_pcrs records counter =
         let recorded : s.policy.update_count ≡ Some records.count = ap (λ (p : Policy). p.update_count) policy_same ∙ records.recorded in
@@ -204,7 +203,7 @@ module _ (r : Record) (c : AcceptedCommand) (history : History) (locality : ℕ)
         by true one = password_told r c history viewed valued live place handle e at (by_password r c.command (place + 1) (granted_by d) e s one holds)
         by false none = has_hmac d (λ is_bound. ap (has_value_in_key s.kind is_bound) demanded) none holds
 
-    -- ---- by the type of the session
+    -- ---- the ground of an entry, by the type of its session
 
     value_first : IfOk (demand_by type.Hmac r c.command locality (place + 1) handle s) (λ d. (d ≡ demand.None) × (allows_in means.AuthValue c place ≡ true))
     value_first =
@@ -240,7 +239,7 @@ module _ (r : Record) (c : AcceptedCommand) (history : History) (locality : ℕ)
     unfolding session_grant demanded
     session_ground = by_type s.kind refl
 
-  -- ---- the kinds of entries
+  -- ---- the ground of an entry, by its kind
 
   password_ground : (place : ℕ) (handle : Handle) (e : Entry) → used_in c.command place ≡ Some handle → session_kind e.session ≡ kind.Password → IfOk (password_grant r c.command.code (place + 1) (Some handle) e) (λ g. Ground history c place e)
   unfolding password_grant
@@ -253,8 +252,6 @@ module _ (r : Record) (c : AcceptedCommand) (history : History) (locality : ℕ)
       ByPassword is (taken means.AuthValue place handle at (asked available _ u may))
       (password_told r c history viewed valued live place handle e at (asked holds _ v same)))))
 
-  -- If the grant of an entry has a property for every session that the entry may name, it has the
-  -- property.
   with_session : (P : Option Grant → Type 0) (place : ℕ) (used : Option Handle) (e : Entry) → ((s : Session) (l : LiveSession) → sessions_of history e.session ≡ Some l → session_facts s ≡ facts_of l → IfOk (session_grant r c.command locality (place + 1) used e s) P) → IfOk (session_grant_if r c.command locality (place + 1) used e (session_of r e)) P
   with_session P place used e each = by (session_of r e) (live e.session)
     where
@@ -282,7 +279,7 @@ module _ (r : Record) (c : AcceptedCommand) (history : History) (locality : ℕ)
       (ok_weaker _ (λ g. HasHmac history c place e other) (comparison r c.command (place + 1) None e s) (compared r c.command (place + 1) None e s) (λ g holds.
       authentic_told r c history viewed valued live s other same place None e (nothing_used r s ∙ sym (ap (value_in_key history c place other) none)) (by_hmac r c.command (place + 1) None e s refl holds)))))
 
-  -- ---- every entry
+  -- ---- the grounds of all entries
 
   of_ground : (place : ℕ) (e : Entry) (l : LiveSession) → Ground history c place e → session_kind e.session ≡ kind.Session → sessions_of history e.session ≡ Some l → l.kind ≡ type.Hmac → HasHmac history c place e l
   of_ground place e l (ByPassword is takes password) names lives hmac = absurd (let never : kind.Password ≡ kind.Session = sym is ∙ names in let no : ⊥ = cc in no)

@@ -37,7 +37,7 @@ use Rattle.tpm_step.proofs.LiveSessions.{of_both}
 use Rattle.tpm_step.proofs.TrimmedValues.{told_values_are_trimmed}
 use Rattle.tpm_step.proofs.Views.{view_named}
 
--- ---- positions
+-- ---- positions of entries and handles
 
 pub got_map : {X Y : Type 0} (f : X → Y) (xs : List X) (n : ℕ) (x : X) → slice_get xs n ≡ Some x → slice_get (map f xs) n ≡ Some (f x)
 got_map f [] n x is = absurd cc
@@ -56,7 +56,7 @@ names_viewed r (handle ∷ handles) =
     ap (λ (name : List ℕ). name ∷ map view_name (map (view_of r) handles)) (view_named r handle)
     ∙ ap (λ (names : List (List ℕ)). name_of r handle ∷ names) (names_viewed r handles)
 
--- ---- comparisons
+-- ---- comparisons of byte strings
 
 no_bytes : (xs : List ℕ) → (length xs == 0) ≡ true → xs ≡ []
 no_bytes [] is = refl
@@ -70,7 +70,7 @@ by_test key hmac mac is = by (length key == 0) (length hmac == 0) refl refl is
     by true false k h is = inl ((bytes_eq-Decides hmac mac).0 is)
     by false b k h is = inl ((bytes_eq-Decides hmac mac).0 is)
 
--- ---- a device and its history
+-- ---- facts that a device shares with its history
 
 module _ (r : Record) (c : AcceptedCommand) (history : History) (viewed : c.views ≡ map (view_of r) c.command.handles) (valued : map (auth_value_of r) c.command.handles ≡ map (auth_of history) c.command.handles) (live : AreLive r.sessions (sessions_of history)) where
   -- ---- the entity at a position

@@ -162,11 +162,9 @@ fifth_executes : Executes false (tried 3 999999 999999) (wrong_after 1) (step (t
 unfolding code_number general body_of sessions_pass present_handle_at accepted acceptance entry_passes authorize grant password_grant trimmed area_at entry_at allowed_handle_at header_at code_named shape_of opened_after after_failure forgiven_after auth_value_of entity_at is_available is_present protection_of
 fifth_executes = executes_so (tried 3 999999 999999) 1 failed (tried 3 0 1000000) (omega arith) (is_tried 3 0 1000000 (omega arith) (omega arith) (omega arith)) fifth_step refl refl refl
 
--- This is the record after a refused try of the run.
 left : (r after : Record) (elapsed : ℕ) (e : Refused) → step r (wrong_after elapsed) ≡ refused_with e after → after ≡ (step r (wrong_after elapsed)).after
 left r after elapsed e is = sym (ap (λ (x : Stepped). x.after) is)
 
--- The next step of the run is an execution on the record that the step before it left.
 abbrev then_executes : (r s : Record) (elapsed : ℕ) → r ≡ s → Executes false r (wrong_after elapsed) (step r (wrong_after elapsed)) → Executes false s (wrong_after elapsed) (step r (wrong_after elapsed))
 then_executes r s elapsed same executes = subst (λ (old : Record). Executes false old (wrong_after elapsed) (step r (wrong_after elapsed))) same executes
 

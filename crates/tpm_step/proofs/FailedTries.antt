@@ -82,7 +82,6 @@ use_other : (policy : Policy) (u : UseParts) → IfErr (use_passes policy u) IsO
 unfolding use_passes
 use_other policy u = search (rules, err_bind, err_if) depth 16
 
--- if no code of a check is AUTH_FAIL, a property of the other codes holds for each of its refusals
 err_other : {X : Type 0} (Q : Refused → Type 0) (check : Check) (x : Result X Rc) → IfErr x IsOther → ((rc : Rc) → IsOther rc → Q (refusal check rc)) → IfErr (checked check x) Q
 err_other Q check (Ok x) others h = tt
 err_other Q check (Err rc) other h = h rc other
@@ -132,8 +131,6 @@ password_at r c locality n used e password =
     comparison_at r c locality n used e granted (used_protection r used) (is_password_of (granted_value r granted) e.hmac) (same_check used)
     (ap (λ k. touched_by k r c locality n used e) password))
 
--- If the refusal of a session's demand counts a failed try or is AUTH_FAIL, it is the refusal of
--- entry n.
 demand_at : (k : SessionType) (r : Record) (c : Whole) (locality n : ℕ) (handle : Handle) (s : Session) (used : Option Handle) (e : Entry) → IfErr (demand_by k r c locality n handle s) (IfFailsAt r c locality n used e)
 demand_at type.Hmac r c locality n handle s used e = search (rules, err_bind, err_if, other_at)
 demand_at _ r c locality n handle s used e = search (rules, err_other, use_other, other_at)
@@ -233,8 +230,6 @@ IfTryOf r locality buffer e = is_try e.counted ≡ true → FailsTry r locality 
 plain_of : (r : Record) (locality : ℕ) (buffer : List ℕ) (e : Refused) → IsPlain e → IfTryOf r locality buffer e
 plain_of r locality buffer e plain tries = absurd (false≢true (sym (ap is_try plain) ∙ tries))
 
--- if the refusal of a step has a property, and so has each refusal after it, each refusal of the
--- whole computation has it
 err_bind_at : {A B E : Type 0} (Q : E → Type 0) (x : Result A E) (f : A → Result B E) → ((e : E) → x ≡ Err e → Q e) → ((a : A) → IfErr (f a) Q) → IfErr (x >>= f) Q
 err_bind_at Q (Ok a) f here after = after a
 err_bind_at Q (Err e) f here after = here e refl
@@ -314,7 +309,7 @@ fails_where r (Placed object) f = absurd f
 pub try_tells : (old : Record) (event : PlainEvent) → (fails_try old event ≡ true → IsRefusedTry old event) × (IsRefusedTry old event → fails_try old event ≡ true)
 try_tells old event = (fails_if old event, fails_where old event)
 
--- the response to a refusal is the same whether memory is refused or not
+-- The response to a refusal does not depend on whether allocations fail.
 answer_refused : (refused : Bool) (r : Record) (random : List ℕ) (x : Result Accepted RefusedCommand) (e : RefusedCommand) → x ≡ Err e → answer_where refused r random x ≡ refusal_step r e
 answer_refused false r random x e is = ap (λ y. stepped_of r random y) is
 answer_refused true r random x e is = ap (λ y. answer_without_memory r random y) is

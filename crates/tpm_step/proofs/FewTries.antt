@@ -30,7 +30,7 @@ use Rattle.tpm_step.proofs.Leading.{history_apart}
 done_pays : (r : Record) (a : Accepted) (locality : ℕ) (random : List ℕ) → IsAcceptance r locality random a → HasNoReset (with_command r (Ok a) 0 []) → Pays r.fixed.lockout (success_step a random).after.fixed.lockout 0 0
 done_pays r a locality random is quiet = same_pays r.fixed.lockout (success_step a random).after.fixed.lockout (same_done r a locality random is quiet.0)
 
--- a command that is accepted, or that returns MEMORY instead, satisfies `Pays`
+-- A command that is accepted, or that returns MEMORY instead of succeeding, satisfies `Pays`.
 starved_pays : (grows : Bool) (r : Record) (a : Accepted) (locality : ℕ) (random : List ℕ) → IsAcceptance r locality random a → let x : Stepped = cond grows (refusal_without_memory r a.command) (success_step a random) in HasNoReset (with_command r (Ok a) x.row.check []) → Pays r.fixed.lockout x.after.fixed.lockout 0 0
 starved_pays true r a locality random is quiet = same_pays r.fixed.lockout r.fixed.lockout (refl, refl, refl, refl)
 starved_pays false r a locality random is quiet = done_pays r a locality random is quiet
@@ -41,8 +41,8 @@ answer_pays true r (Ok a) locality random counts unlocked is quiet = starved_pay
 answer_pays false r (Err e) locality random counts unlocked is quiet = refusal_pays r.fixed.lockout e.refused.counted counts unlocked
 answer_pays true r (Err e) locality random counts unlocked is quiet = refusal_pays r.fixed.lockout e.refused.counted counts unlocked
 
--- An event keeps recoveryTime. If the events after it keep the bound on failed tries, so do all of
--- them together.
+-- An event keeps recoveryTime. If the later events keep the bound on failed tries, this event
+-- together with the later ones keeps the bound.
 pub record PaysFor (old new : LockoutState) (fails : Bool) (elapsed : ℕ) : Type 0 where
   pub recovery_time : new.fields.recovery_time ≡ old.fields.recovery_time
   pub more : (failed rest : ℕ) → IsPaid new failed rest → IsPaid old (cond fails 1 0 + failed) (elapsed + rest)
@@ -95,7 +95,6 @@ all_parts : {X : Type 0} (P : X → Type 0) (xs ys : List X) → AllByRecursion 
 all_parts P [] ys all = (tt, all)
 all_parts P (x ∷ xs) ys all = let rest = all_parts P xs ys all.1 in ((all.0, rest.0), rest.1)
 
--- if a stretch has no reset, neither its first event nor the events after it have one
 quiet_parts : (one : Execution) (executions : List Execution) → HasNoReset (history_after [] (one ∷ executions)) → HasNoReset (history_after [] executions) × HasNoReset (with_execution one [])
 quiet_parts one executions quiet =
     all_parts (λ (p : PastEvent). is_reset p ≡ false) (history_after [] executions) (with_execution one [])

@@ -26,11 +26,10 @@ abbrev pub EachIndex : (Handle → NvIndex → Type 0) → NvContents → Type 0
 EachIndex Is contents = (handle : Handle) (index : NvIndex) → index_at contents handle ≡ Some index → Is handle index
 
 module _ (Was Is : Handle → NvIndex → Type 0) where
-  -- The old property of an index at another handle than this one implies the new property.
+  -- If an index whose handle is not this one had the property `Was`, it has the property `Is`.
   abbrev pub OthersStay : Handle → Type 0
   OthersStay handle = (other : Handle) (index : NvIndex) → other.number ≢ handle.number → Was other index → Is other index
 
-  -- if this index exists now, and all others are unchanged, each index has the property
   but_one : (old new : NvContents) (handle : Handle) (index : NvIndex) → index_at new handle ≡ Some index → ((other : Handle) → other.number ≢ handle.number → index_at new other ≡ index_at old other) → Is handle index → OthersStay handle → EachIndex Was old → EachIndex Is new
   but_one old new handle index here apart is stay was other found there =
       elim (cases_eq other.number handle.number) [

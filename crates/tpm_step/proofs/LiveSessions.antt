@@ -1,5 +1,5 @@
 -- If a device and its history have the same sessions, they still have the same sessions after the
--- same change of both.
+-- session at one handle changes in both.
 use Rattle.std.proofs.Common.{◌≡◌, ◌≢◌, ℕ, ◌^◌, ◌<◌, ◌==◌, arith, false, List, [], length, Option, Some, None, option_map, slice_set, refl, ap, sym, subst, ◌∙◌, inl, inr}
 use Rattle.std.specs.Prelude.{option_and_then}
 use Rattle.std.proofs.lemmas.Bool.{cases_eq, or_parts}
@@ -25,7 +25,7 @@ use Rattle.tpm_step.specs.HandleMap.{with_at}
 use Rattle.tpm_step.specs.Sessions.{LiveSession, LiveSessions, changed_session, without_session}
 use Rattle.tpm_step.proofs.HandleMap.{at_other, at_same}
 
--- ---- a session and its counterpart
+-- ---- a device's session and the history's session
 
 -- The device and the history have a session with the same facts, or both have none.
 abbrev Matches : Option Session → Option LiveSession → Type 0
@@ -42,10 +42,8 @@ of_both P some none None (Some l) same = absurd cc
 pub of_one : (P : Session → Type 0) (found : Option Session) (one : Session) → found ≡ Some one → P one → (s : Session) → found ≡ Some s → P s
 of_one P found one is holds s also = subst P (same_Some one s (sym is ∙ also)) holds
 
--- ---- another session at one handle
+-- ---- replacing the session at a handle
 
--- the device and the history still agree, if they have the same facts at one handle and the
--- device's sessions at other handles are unchanged
 replaced : (new old : List (Option Session)) (handle : Handle) (told : Option LiveSession) (live : LiveSessions) → Matches (session_at new handle) told → ((other : Handle) → other.number ≢ handle.number → session_at new other ≡ session_at old other) → AreLive old live → AreLive new (with_at handle told live)
 replaced new old handle told live here elsewhere are other =
     elim (cases_eq other.number handle.number) [
@@ -82,7 +80,6 @@ of_kind type.Hmac handle not = (or_parts _ _ not).0
 of_kind type.Policy handle not = (or_parts _ _ not).1
 of_kind type.Trial handle not = (or_parts _ _ not).1
 
--- a handle of another kind names no session
 absent : (places : List (Option Session)) (handle : Handle) → is_session handle ≡ false → session_at places handle ≡ None
 unfolding session_at at_number
 absent places handle not = by (at_place places (place_of handle.number))

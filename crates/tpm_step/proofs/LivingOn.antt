@@ -27,7 +27,7 @@ use Rattle.tpm_step.specs.Replays.{starts_under}
 use Rattle.tpm_step.specs.Sessions.{Bound, LiveSession, LiveSessions, asserted_by, bound_in, changed_session, entries_ended, entries_rolled, entry_ended, entry_rolled, nonce_size, restarted, rolled_by, sessions_by, sessions_of, started, started_by, started_with, used, used_by, with_asserted, with_nonce, with_started, without_session}
 use Rattle.tpm_step.proofs.HandleMap.{at_other, at_same, same_handle}
 
--- ---- one session at two times
+-- ---- the same session at two times
 
 -- all nonces that a session has had
 abbrev pub all_nonces : LiveSession → List (List ℕ)
@@ -74,7 +74,8 @@ keeps_then a b c first then = record { continues = continues_then a b c first.co
     by (inl was) (inl same) = inl (same ∙ was)
     by (inr none) (inl same) = inr (same ∙ none)
 
--- There was a session before, and the relation holds between this session and the new one.
+-- There was a session before the event, and the relation R holds between that session and the new
+-- one.
 abbrev pub Was : (LiveSession → LiveSession → Type 0) → Option LiveSession → LiveSession → Type 0
 Was R found new = (old : LiveSession) × (found ≡ Some old) × R old new
 
@@ -88,7 +89,7 @@ was_then : (found : Option LiveSession) (later : Option LiveSession) (new : Live
 was_then found later new back (mid, is, keeps) =
     let (old, was, before) = back mid is in (old, was, keeps_then old mid new before keeps)
 
--- ---- another session at one handle
+-- ---- replacing the session at a handle
 
 put_came : (P : Type 0) (handle other : Handle) (x : Option LiveSession) (live : LiveSessions) (new : LiveSession) → (other.number ≡ handle.number → x ≡ Some new → P) → (live other ≡ Some new → P) → with_at handle x live other ≡ Some new → P
 put_came P handle other x live new here elsewhere is =
@@ -115,7 +116,7 @@ ended_kept handle other live new is = put_came (Kept (live other) new) handle ot
 restarts : (s : LiveSession) → Keeps s (restarted s)
 restarts s = record { continues = record { kind = refl; hash = refl; size = refl; latest = inl refl; earlier = λ nonce among. among }; asserted = inr refl }
 
--- ---- a session after one entry
+-- ---- the effect of a single entry on sessions
 
 uses : (kind : SessionType) (s : LiveSession) → Keeps s (used_by kind s)
 uses type.Hmac s = keeps_self s
@@ -136,7 +137,8 @@ ends_kept live (g ∷ granted) handle new is =
     let first = entry_ended live g.0 g.1 in
     was_then (live handle) (first handle) new (entry_end_kept live g.0 g.1 handle) (ends_kept first granted handle new is)
 
--- a session with a new nonce is the same session, if no byte of the nonce is missing
+-- A session with a new nonce is still the same session, if enough random bytes were left for the
+-- whole nonce.
 renews : (s : LiveSession) (size : ℕ) (left : List ℕ) → size ≡ length s.nonce_tpm → size ≤ length left → Keeps s (with_nonce (take size left) s)
 renews s size left is enough = record {
   continues = record {
@@ -164,7 +166,7 @@ rolled_less live (e ∷ es) left =
     let first = entry_rolled live e left in
     omega (arith, rolled_less first.sessions es first.left, length-drop (nonce_size (live e.session)) left)
 
--- if some bytes are left after all nonces, there were enough for the first nonce
+-- If some random bytes are left after all nonces, enough bytes were left for the first nonce.
 enough_first : (live : LiveSessions) (e : Entry) (es : List Entry) (left : List ℕ) → 1 ≤ length (entries_rolled live (e ∷ es) left).left → nonce_size (live e.session) ≤ length left
 enough_first live e es left some =
     let first = entry_rolled live e left in
@@ -233,7 +235,7 @@ module _ (c : AcceptedCommand) (history : History) (some : 1 ≤ length (rolled_
       let (old, found, keeps, among) = rolls_renewed effect c.command.entries left place e mid at some (ap rolled names ∙ was) in
       (old, ap effect (sym names) ∙ found, keeps_then old mid new keeps later, later.continues.earlier old.nonce_tpm among)
 
--- ---- the effects of a row
+-- ---- the effects of a command's row
 
 -- Where the session at a handle comes from, after the command's row took effect: the command
 -- started it, without assertions; or it existed before, and has the same assertions or none; or the

@@ -72,7 +72,6 @@ record IsMade (pcr : ℕ) (new : HashAlg → ℕ → List ℕ) (count : ℕ) (ol
 plus_none : (n : ℕ) → n ≡ n + 0
 plus_none n = omega arith
 
--- if the number is not that of a PCR, each value is unchanged
 other_pcr : (number n : ℕ) (x old : List ℕ) → n < 24 → nat_lt number 24 ≡ false → old ≡ cond (number == n) x old
 other_pcr number n x old below e = grind (arith, nat_tests)
 

@@ -75,7 +75,6 @@ module _ (history : History) (c : AcceptedCommand) (place : ℕ) (handle : Handl
       let (e, given, ground, meets) = meet place handle used in
       by_ground e given ground meets
 
--- If a use by a policy session has a property, it has each property that follows from it.
 follows_so : (history : History) (c : AcceptedCommand) (place : ℕ) (hash : HashAlg) (policy : PolicyExpression) (P Q : PolicyUse → Type 0) → ((u : PolicyUse) → u.history ≡ history → u.command ≡ c → u.place ≡ place → u.session.hash ≡ hash → P u → Q u) → IsUsedBySession history c place hash policy P → IsUsedBySession history c place hash policy Q
 follows_so history c place hash policy P Q so by = record {
   handle = by.handle;

@@ -197,7 +197,6 @@ module _ (u : PolicyUse) (used : used_in u.command.command u.place ≡ Some u.ha
       }
   met_by written one among says = absurd says
 
-  -- the entity's nameAlg is the session's hash, and its authPolicy is the session's digest
   its_policy : (found : Option EntityParts) (entity : EntityParts) → IsPolicyOf u.session found → found ≡ Some entity → (hash ≡ entity.hash) × (session_digest hash assertions ≡ entity.digest)
   its_policy None entity its is = absurd cc
   its_policy (Some other) entity its is =
@@ -215,7 +214,7 @@ module _ (u : PolicyUse) (used : used_in u.command.command u.place ≡ Some u.ha
       by (inl met) = inl (met_so (IsAsserted assertions) (IsMetBy u) (λ written asserted. met_by written asserted.0 asserted.1 asserted.2) policy met)
       by (inr broken) = inr broken
 
--- ---- every use of a command
+-- ---- all uses of a command
 
 ground_meets : (history : History) (c : AcceptedCommand) (place : ℕ) (handle : Handle) (e : Entry) → SessionsFind history → AllAskForTheirHandles history → AllShowHmacs history → AllHaveGrounds history → used_in c.command place ≡ Some handle → (ground : Ground history c place e) → MeetsPolicies history c place handle e ground
 ground_meets history c place handle e find asked shows grounds used (ByPassword names takes has) = tt

@@ -86,7 +86,6 @@ leads_on can old [] mid then new leads on = subst (λ (r : Record). Leads can r 
 leads_on can old (one ∷ first) mid then new leads on =
     (leads.0, leads.1, leads_on can one.seen.after first mid then new leads.2 on)
 
--- an execution in which no memory can be refused is also one in which it can
 executes_too : (can : Bool) (old : Record) (event : PlainEvent) (x : Stepped) → Executes false old event x → Executes can old event x
 executes_too can old event x executes = record {
   happens = executes.happens;

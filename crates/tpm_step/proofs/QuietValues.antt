@@ -21,7 +21,6 @@ use Rattle.tpm_step.proofs.Digests.{AgreeBelow, digests_agree}
 
 -- ---- commands that write no PCR
 
--- If a command counts no write, it does not name this PCR, or it would count 0 writes for any PCR.
 unwritten : (handles : List Handle) (count pcr : ℕ) → pcr < 24 → if_pcr handles count ≡ 0 → (names_pcr handles pcr ≡ false) ⊎ (count ≡ 0)
 unwritten [] count pcr below is = inl refl
 unwritten (handle ∷ handles) count pcr below is = by (nat_lt handle.number 24) refl is
@@ -42,8 +41,6 @@ extended_none bank (Ok []) old is = refl
 extended_none bank (Ok (digest ∷ digests)) old is = absurd (omega (arith, is))
 extended_none bank (Err e) old is = refl
 
--- A command that writes two values of the PCR that it names, but counts no write, leaves each value
--- unchanged.
 never_two : (handles : List Handle) (pcr : ℕ) (new old : List ℕ) → pcr < 24 → if_pcr handles 2 ≡ 0 → cond (names_pcr handles pcr) new old ≡ old
 never_two handles pcr new old below is =
     elim (unwritten handles 2 pcr below is) [
@@ -68,13 +65,12 @@ quiet_event (Done c) history quiet bank pcr below = sym (unchanged c.command.cod
 quiet_event PowerCycled history quiet bank pcr below = absurd quiet
 quiet_event (ObjectPlaced at object) history quiet bank pcr below = refl
 
--- ---- since TPM2_PolicyPCR
+-- ---- quiet events after a TPM2_PolicyPCR
 
 quiet_events : (since before : History) → AllByRecursion IsQuiet since → AgreeBelow (pcr_of before) (pcr_of (since ++ before))
 quiet_events [] before quiet bank pcr below = refl
 quiet_events (event ∷ since) before quiet bank pcr below = quiet_events since before quiet.1 bank pcr below ∙ quiet_event event (since ++ before) quiet.0 bank pcr below
 
--- TPM2_PolicyPCR itself is quiet
 pcr_quiet : (c : AcceptedCommand) → c.command.code ≡ command.PolicyPcr → IsQuiet (Done c)
 pcr_quiet c is = (ap is_startup is, ap (λ (code : CommandCode). writes code c.request) is)
 

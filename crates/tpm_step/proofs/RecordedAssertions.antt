@@ -12,7 +12,6 @@ use Rattle.tpm_policy_meaning.specs.Asserted.{IsAmong, evaluated}
 use Rattle.tpm_types.specs.Buffer.{is_given}
 use Rattle.tpm_step.specs.AcceptedAssertions.{AllFind, Finds}
 
--- a value that was recorded before is asserted again only if it is the same
 same_again : {X : Type 0} (recorded : Option X) (x y : X) → recorded ≡ Some x → IfSome recorded (λ z. z ≡ y) → Some y ≡ Some x
 same_again (Some z) x y is same = ap (λ w. Some w) (sym same) ∙ is
 same_again None x y is same = absurd cc
@@ -63,7 +62,6 @@ module _ (hash : HashAlg) where
       by (assertion.Pcr parts) found is = is
       by _ found is = is
 
-  -- a locality that two assertions allow together is allowed by each of them
   both_bits : (a b i : ℕ) → bit_at (bit_and a b) i ≡ 1 → (bit_at a i ≡ 1) × (bit_at b i ≡ 1)
   both_bits a b i is = by (bit_at a i) (bit_at b i) (bit_at-lt a i) (bit_at-lt b i) (sym (bit_at_and a b i) ∙ is)
     where

@@ -142,7 +142,6 @@ other_holds : (history : History) (hash : HashAlg) (assertion : Assertion) → i
 other_holds history hash (Pcr parts) is = absurd cc
 other_holds history hash _ is = tt
 
--- if a session has no assertion about PCRs, all of them hold
 none_hold : (history : History) (hash : HashAlg) (assertions : List Assertion) → list_any is_pcr assertions ≡ false → AllByRecursion (HoldsOf history hash) assertions
 none_hold history hash [] none = tt
 none_hold history hash (assertion ∷ assertions) none = let parts = or_parts _ _ none in (other_holds history hash assertion parts.0, none_hold history hash assertions parts.1)
@@ -159,7 +158,6 @@ other_same (Ok assertion) s other = record {
     by true is = absurd cc
 other_same (Err e) s other = same_updates s
 
--- a session with the same type, hash and assertions recorded the same update counter
 kept_updates : (old new : LiveSession) → new.hash ≡ old.hash → new.kind ≡ old.kind → new.assertions ≡ old.assertions → SameUpdates old new
 kept_updates old new hash kind assertions = record {
   count = ap (λ (h : HashAlg). (evaluated h (is_trial new.kind) new.assertions).update_count) hash
@@ -195,8 +193,6 @@ one_more handle event history has quiet since = record {
 
 -- ---- accepted commands
 
--- if the assertions about PCRs of one session hold, so do those of a session with the same
--- assertions about PCRs
 holds_as : {history : History} (handle : Handle) (old new : LiveSession) → SameUpdates old new → HoldsPcrs handle history old → HoldsPcrs handle history new
 holds_as {history} handle old new same holds = record { quiet = holds.quiet; hold = same.holds history holds.hold }
 
@@ -226,7 +222,6 @@ module _ (r : Record) (a : Accepted) (locality : ℕ) (random : List ℕ) (histo
     hold = all_hold_on (Done c) history s.hash s.assertions quiet holds.hold;
   }
 
-  -- a counter that a session recorded before a command is still right after it
   stays_recorded : (handle : Handle) (old new : LiveSession) → sessions_of history handle ≡ Some old → has_pcrs (Done c ∷ history) handle ≡ true → SameUpdates old new → RecordsUpdates handle history old → RecordsUpdates handle (Done c ∷ history) new
   stays_recorded handle old new lived now same records =
       let plain : is_startup c.command.code ≡ false = no_startup handle old lived in
@@ -245,7 +240,6 @@ module _ (r : Record) (a : Accepted) (locality : ℕ) (random : List ℕ) (histo
   same_request : a.command.handles ≡ a.request.handles
   same_request = sym (ap (λ (q : Request). q.handles) is.requested)
 
-  -- the device's session is not a trial session, and records the counter of the history
   agrees_told : (code : Code) → a.command.code ≡ code → is_policy_pcr code ≡ true → (handle : Handle) (old : LiveSession) (count : ℕ) → first_handle a.request.handles ≡ Ok handle → sessions_of history handle ≡ Some old → old.kind ≡ type.Policy → (policy_in old).update_count ≡ Some count → count ≡ updates_of history
   agrees_told command.PolicyPcr named one handle old count first lived kind recorded = by (session_at r.sessions handle) refl (has.live handle)
     where
@@ -270,8 +264,8 @@ module _ (r : Record) (a : Accepted) (locality : ℕ) (random : List ℕ) (histo
     quiet_pcr : IsQuiet (Done c)
     quiet_pcr = (ap is_startup code, ap (λ (x : Code). writes x c.request) code)
 
-    -- a first TPM2_PolicyPCR begins a quiet period; at a later one, the earlier assertions about
-    -- PCRs hold
+    -- The first TPM2_PolicyPCR on a session begins a period in which no PCR changes. At a later
+    -- one, the earlier assertions about PCRs hold.
     holds_first : (asserts : Bool) → asserts_pcrs old ≡ asserts → AreQuietSince handle (Done c ∷ history) × AllByRecursion (HoldsOf history old.hash) old.assertions
     holds_first false asserts = (
       record {
@@ -318,8 +312,6 @@ module _ (r : Record) (a : Accepted) (locality : ℕ) (random : List ℕ) (histo
         stays_recorded handle old mid lived now same
         (before handle old lived (sym same_kind ∙ kind) (sym same.asserts ∙ asserts_some))
 
-    -- if a session existed before the row, and has its assertions or none, the counter that it
-    -- recorded is right
     kept_recorded : (old : LiveSession) → sessions_of history handle ≡ Some old → Keeps old mid → RecordsUpdates handle (Done c ∷ history) mid
     kept_recorded old lived keeps = by keeps.asserted
       where

@@ -23,10 +23,8 @@ use Rattle.tpm_step.specs.Replays.{HasNonceAgain, HaveOneHmac, IsReplay, LivesTh
 use Rattle.tpm_step.specs.Sessions.{LiveSession, rolled_by, sessions_of}
 use Rattle.tpm_step.proofs.LivingOn.{Asserted, Begun, Came, Continues, Stayed, Was, continues_self, continues_then, entries_kept, entries_renewed, row_came}
 
--- ---- single events
+-- ---- a session before and after an event
 
--- a session that existed before a row, and that the row does not start, is the same session after
--- it
 came_continues : (c : AcceptedCommand) (history : History) (handle : Handle) (new : LiveSession) → starts (Done c) handle ≡ false → Came c.command.code c history (sessions_of history handle) handle new → Was Continues (sessions_of history handle) new
 came_continues c history handle new unstarted (Begun begun none) = absurd (false≢true (sym unstarted ∙ begun))
 came_continues c history handle new unstarted (Stayed was) = (was.0, was.1, was.2.continues)
@@ -56,7 +54,7 @@ done_renews c history place e old new shows unstarted entry before after =
     by mid (inl same) earlier among = subst (λ (nonce : List ℕ). IsAmong nonce new.earlier_nonces) (sym same) among
     by mid (inr had) earlier among = earlier old.nonce_tpm had
 
--- ---- stretches of events
+-- ---- a session before and after a stretch of events
 
 lived_on : (handle : Handle) (events before : History) (new : LiveSession) → AllShowHmacs (events ++ before) → LivesThrough handle events before → sessions_of (events ++ before) handle ≡ Some new → Was Continues (sessions_of before handle) new
 lived_on handle [] before new shows through lives = (new, lives, continues_self new)
@@ -71,7 +69,6 @@ there_is : (found : Option LiveSession) → found ≢ None → (s : LiveSession)
 there_is (Some s) some = (s, refl)
 there_is None some = absurd (some refl)
 
--- If a session survives a stretch of events, it survives the first event and the events after it.
 first_apart : (handle : Handle) (between : History) (first : PastEvent) (before : History) → LivesThrough handle (between ++ first ∷ []) before → (starts first handle ≡ false) × (sessions_of (first ∷ before) handle ≢ None) × LivesThrough handle between (first ∷ before)
 first_apart handle [] first before through = (through.0, through.1, tt)
 first_apart handle (event ∷ between) first before through =
@@ -125,7 +122,6 @@ shows_before (Done c ∷ events) history shows = shows_before events history sho
 shows_before (PowerCycled ∷ events) history shows = shows_before events history shows
 shows_before (ObjectPlaced at object ∷ events) history shows = shows_before events history shows
 
--- an HMAC that is not empty is the HMAC of its key and text
 hmac_is : (history : History) (c : AcceptedCommand) (place : ℕ) (e : Entry) (s : LiveSession) → e.hmac ≢ [] → HasHmac history c place e s → e.hmac ≡ hmac_in history c place e s
 hmac_is history c place e s some (inl is) = is
 hmac_is history c place e s some (inr empty) = absurd (some empty.1)

@@ -79,7 +79,6 @@ accepted_recorded can old buffer locality elapsed random x executes passes =
 
 -- ---- executions one after another
 
--- an execution among others starts from the record that the executions before it left
 executed : (can : Bool) (old : Record) (earlier : List Execution) (one : Execution) (later : List Execution) (new : Record) → Leads can old (earlier ++ one ∷ later) new → Executes can one.before one.event one.seen × Leads can one.seen.after later new
 executed can old [] one later new leads = (subst (λ (r : Record). Executes can r one.event one.seen) (sym leads.0) leads.1, leads.2)
 executed can old (first ∷ earlier) one later new leads = executed can first.seen.after earlier one later new leads.2

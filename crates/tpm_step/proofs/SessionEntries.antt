@@ -57,7 +57,7 @@ entries_roll r (e ∷ es) left live are =
     subst (RollAs first.after es first.left told.sessions) (entry_leaves r e left live are)
     (entries_roll first.after es first.left told.sessions (entry_rolls r e left live are))
 
--- ---- policies that return to their start, and sessions that end
+-- ---- resetting policies, and ending sessions
 
 used_told : (kind : SessionType) (s : Session) (l : LiveSession) → s.kind ≡ kind → session_facts s ≡ facts_of l → facts_of (used_by kind l) ≡ facts_of (used l)
 used_told kind s l is same = ap (λ (k : SessionType). facts_of (used_by k l)) (sym is ∙ ap (λ (f : SessionFacts). f.start.kind) same)

@@ -14,7 +14,7 @@ pub record Execution : Type 0 where
   pub seen : Stepped
 
 -- Executing these events one after another led from the old record to the new one. `can` says
--- whether memory can be refused.
+-- whether an allocation can fail.
 abbrev pub Leads : Bool → Record → List Execution → Record → Type 0
 Leads can old [] new = new ≡ old
 Leads can old (one ∷ executions) new =

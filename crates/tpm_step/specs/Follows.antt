@@ -63,7 +63,7 @@ pub record Follows (r : Record) (history : History) : Type 0 where
   pub sized : AreSized r
   pub indices : AreIndices r.nv.indices
 
--- ---- one event, on a device that follows a history
+-- ---- an event on a device that follows a history
 
 -- If a device follows a history before this event, the property holds for the device and the
 -- history after it.
@@ -72,7 +72,7 @@ After Holds old event x =
     (history : History) → Follows old history
     → Holds x.after (recorded old event x.row.check history)
 
--- ---- a stretch of events, on a device that follows a history
+-- ---- a stretch of events on a device that follows a history
 
 -- Executions led from a device that follows a history to one that follows the history after them.
 -- No counter went down unless an index was defined again under its handle. The first value of a
@@ -93,7 +93,7 @@ pub record StretchFollows (can : Bool) (old : Record) (executions : List Executi
     pub fail_within : FailsWithin can old executions new
     pub replays : RunReplaysRepeat history executions
 
--- ---- a run, on a device that follows a history
+-- ---- a run on a device that follows a history
 
 -- A closure was called with the outcome of each of these executions, once each and in order. Its
 -- state was p before and q after.

@@ -90,7 +90,7 @@ pub record IsUsedBySession (history : History) (c : AcceptedCommand) (place : �
       session = session;
     }) ⊎ BreaksHash hash policy session.assertions
 
--- ---- every policy
+-- ---- policies of any kind
 
 -- Only policy sessions use an object without userWithAuth, and each use meets the object's
 -- policy.
@@ -100,7 +100,7 @@ NeedsItsPolicy history c =
     → IsPolicyExpression public.name_alg policy
     → IsUsedBySession history c place public.name_alg policy (λ u. IsMet (IsMetBy u) policy)
 
--- ---- PCRs
+-- ---- policies of PCRs
 
 -- the written policy that the selected PCRs have these concatenated values
 abbrev pub by_pcrs : HashAlg → List BankSelection → (values : List ℕ) → PolicyExpression
@@ -134,7 +134,7 @@ NeedsPcrsAndPin history c =
     → IsUsedBySession history c place public.name_alg policy
     (λ u. HavePcrValues history public.name_alg selection values × ShowsAuthValue u)
 
--- ---- a PIN, or a recovery secret
+-- ---- policies of a PIN or a recovery secret
 
 -- the written policy that requires the entity's own authorization value, or that of the entity with
 -- this Name
@@ -153,7 +153,7 @@ NeedsPinOrSecret history c =
     → IsUsedBySession history c place public.name_alg policy
     (λ u. ShowsAuthValue u ⊎ ShowsSecret history u.entry.session name reference)
 
--- ---- an index that is written once
+-- ---- the policy of an index that is written once
 
 -- If an NV index has the policy that it is not WRITTEN, commands write the index only while it is
 -- not WRITTEN.
@@ -165,7 +165,7 @@ IsWrittenOnce history c =
     → IsUsedBySession history c place public.name_alg policy
     (λ u. index_has public.attributes mark.Written ≡ false)
 
--- ---- a counter that is not below a number
+-- ---- the policy of a counter that has reached a number
 
 -- If an object's policy is that a counter, the NV index with this Name, is at least a number, the
 -- object is used only after an accepted TPM2_PolicyNV that compared the two.

@@ -68,7 +68,7 @@ IsMetBy u (PolicySecret name reference) =
 IsMetBy u (PolicyNv name operand offset operation) =
     ComparesIndex u.history u.entry.session name operand offset operation
 
--- ---- every use
+-- ---- the policies that each use meets
 
 -- The entity at this position of a command's handles has this policy: its nameAlg is the hash, and
 -- its authPolicy is the policy's digest.

@@ -9,8 +9,8 @@ use Rattle.tpm_step.specs.Step.{outcome_step, step}
 use Rattle.tpm_step.specs.declared.event.Outcome.{Outcome}
 
 -- Executing the events one after another led from the old record to the new one. A closure was
--- called with each outcome, in order; its state was p before and q after. `can` says whether memory
--- can be refused.
+-- called with each outcome, in order; its state was p before and q after. `can` says whether an
+-- allocation can fail.
 abbrev pub Runs : {F : Type 0} → Mut F (Bor Outcome × Unit {0}) (Unit {0})
     → Bool → Record → F → List PlainEvent → Record → F → Type 0
 Runs g can old p [] new q = (new ≡ old) × (q ≡ p)

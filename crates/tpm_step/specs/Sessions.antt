@@ -213,7 +213,7 @@ used_by type.Trial s = s
 abbrev pub used : LiveSession → LiveSession
 used s = used_by s.kind s
 
--- the live sessions after an entry; an entry without continueSession ends its session
+-- the live sessions after an entry of a command; without continueSession, the entry's session ends
 abbrev pub entry_ended : LiveSessions → Entry → Option Grant → LiveSessions
 entry_ended live e grant =
     if continues_session e.attributes

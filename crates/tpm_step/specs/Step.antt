@@ -67,7 +67,7 @@ acceptance r c locality random = do
   success ← row_of r c.code q
   Ok (record { command = c; grants = grants; request = q; success = success })
 
--- The refusal is that of the command's acceptance. Or memory can be refused, and the refusal is
+-- The refusal is that of the command's acceptance. Or an allocation can fail, and the refusal is
 -- MEMORY instead of the success of a command that grows something.
 abbrev pub RefusesOrWantsMemory : Bool → Whole → Result Accepted Refused → Refused → Type 0
 RefusesOrWantsMemory can c (Err refused) e = e ≡ refused
@@ -137,30 +137,31 @@ stepped_of r random (Err e) = refusal_step r e
 abbrev pub outcome_step : Record → Outcome → Stepped
 outcome_step r o = record { response = o.response.items; row = o.row; after = r }
 
--- the step of a command to which memory is refused: MEMORY, check M, and the record unchanged
+-- the step of a command for which an allocation fails: MEMORY, check M, and the record unchanged
 abbrev pub refusal_without_memory : Record → Whole → Stepped
 refusal_without_memory r c =
     refusal_step r (record { code = code_number c.code; refused = memory_refusal })
 
--- the step of an accepted command when memory is refused: MEMORY if the command grows something,
--- and otherwise its success
+-- the step of an accepted command when allocations fail: MEMORY if the command grows something, and
+-- otherwise its success
 abbrev pub success_without_memory : Record → List ℕ → Accepted → Stepped
 success_without_memory r random a =
     if (shape_of a.command.code).grows then refusal_without_memory r a.command
     else success_step a random
 
--- the step of a command when memory is refused; a refused command needs no memory
+-- the step of a command when allocations fail; a refused command allocates nothing
 abbrev pub answer_without_memory : Record → List ℕ → Result Accepted RefusedCommand → Stepped
 answer_without_memory r random (Ok a) = success_without_memory r random a
 answer_without_memory r random (Err e) = refusal_step r e
 
--- the step of a command, when memory is refused (true) or not (false)
+-- the step of a command, when allocations fail (true) or succeed (false)
 abbrev pub answer_where : Bool → Record → List ℕ → Result Accepted RefusedCommand → Stepped
 answer_where false r random a = stepped_of r random a
 answer_where true r random a = answer_without_memory r random a
 
--- the step of an event, when memory is refused (true) or not (false); the elapsed time of a command
--- passes first. A placed object has no response, and it changes nothing if all slots are taken
+-- the step of an event, when allocations fail (true) or succeed (false); the elapsed time of a
+-- command passes first. A placed object has no response, and it changes nothing if all slots are
+-- taken
 abbrev pub step_where : Bool → Record → PlainEvent → Stepped
 step_where refused r (Given buffer locality elapsed random) =
     let t = ticked r elapsed in answer_where refused t random (accepted t buffer locality random)
@@ -169,16 +170,16 @@ step_where refused r Cycled =
 step_where refused r (Placed object) =
     record { response = []; row = record { code = 0; check = 0 }; after = placed r object }
 
--- the step of an event when no memory is refused
+-- the step of an event when all allocations succeed
 abbrev pub step : Record → PlainEvent → Stepped
 step r event = step_where false r event
 
--- This is the step of the command, and memory is refused only if `can` is true.
+-- This is the step of the command, and an allocation fails only if `can` is true.
 abbrev pub Answers : Bool → Record → List ℕ → Result Accepted RefusedCommand → Stepped → Type 0
 Answers can r random a x =
     (refused : Bool) × (refused ≡ true → can ≡ true) × (x ≡ answer_where refused r random a)
 
--- This is the step of the event, and memory is refused only if `can` is true.
+-- This is the step of the event, and an allocation fails only if `can` is true.
 abbrev pub Steps : Bool → Record → PlainEvent → Stepped → Type 0
 Steps can r event x =
     (refused : Bool) × (refused ≡ true → can ≡ true) × (x ≡ step_where refused r event)

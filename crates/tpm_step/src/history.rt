@@ -59,9 +59,8 @@ ghost use Rattle.tpm_step.specs.Views.{TellsOf};
 
 use crate::event::Outcome;
 
-/// A manufactured device follows the empty history. Every execution of an event leads from a
-/// history to the same history with this event, if the event was accepted. A power cycle does so
-/// too.
+/// A manufactured device follows the empty history. Every execution of an event, and every power
+/// cycle, leads from a history to the same history with this event, if the event was accepted.
 #[inline(always)]
 pub fn following_laws()
     ensures manufactured { (random : List ℕ) → Follows (manufactured random) [] }
@@ -73,8 +72,8 @@ pub fn following_laws()
 
 /// A stretch of events is a list of executions, one after another. A power cycle is a stretch by
 /// itself, and so is placing an object that satisfies the invariant of loaded objects. Two
-/// stretches make one if the second begins where the first ended. A stretch in which no memory can
-/// be refused is also one in which it can.
+/// stretches make one if the second begins where the first ended. A stretch in which no allocation
+/// can fail is also one in which allocations can fail.
 #[inline(always)]
 pub fn stretch_laws()
     ensures power_cycle { (can : Bool) (r : Record)

@@ -183,8 +183,8 @@ pub fn row_memory_laws()
     ensures { (r : Record) (c : CommandCode) (q : Request) → Passes check.Memory (row_of r c q) }
 {}
 
-/// No step reports check M if memory is not refused to it. No execution reports it if memory cannot
-/// be refused.
+/// No step reports check M unless an allocation fails. No execution reports it unless an allocation
+/// can fail.
 #[inline(always)]
 #[tactic(auto, using(crate::proofs::rows::Memory::step_wants, crate::proofs::rows::Memory::execution_wants))]
 pub fn step_memory_laws()
@@ -294,7 +294,7 @@ pub fn answer_size_laws()
         → AreSized (answer_to c grants a effect random).after }
 {}
 
-/// Sessions keep their sizes in every event, whether memory is refused or not: 256 random bytes are
+/// Sessions keep their sizes in every event, whether or not allocations fail: 256 random bytes are
 /// enough for each command.
 #[inline(always)]
 pub fn step_size_laws()

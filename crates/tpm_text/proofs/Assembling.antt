@@ -26,7 +26,7 @@ use Rattle.tpm_text.specs.Line.{assembled, ended, entry_tokens_in, handles_in, n
 use Rattle.tpm_text.specs.Pieces.{Token, tokens_of}
 use Rattle.tpm_text.proofs.Growing.{fits, grown-grown, none_grows, spills, too_much}
 
--- ---- the text of a part of a line
+-- ---- the encoding of a part of a line
 
 pub reads_tokens_ok : {A E : Type 0} (read : Result (A × List Token) E) (result : Result A E) (x : A) (left : List Token) → result ≡ Ok x → ReadsTokens (λ a. a) read result left → read ≡ Ok (x, left)
 reads_tokens_ok (Ok read) (Ok y) x left e h = let same : y ≡ x = cc in ap (λ a. Ok (a, read.1)) (h.0 ∙ same) ∙ ap (λ l. Ok (x, l)) (sym h.1)
@@ -68,8 +68,8 @@ sessions_err (Err other) old new (Err found) fault left e h = ap Err (sym h ∙ 
 
 -- ---- the authorization area
 
--- If an area is written to a draft of its own and then added, the other draft is extended by the
--- size of the entries and the entries.
+-- Suppose that an authorization area is written to its own draft, and then added to another draft.
+-- The other draft is then extended by the size of the entries, and by the entries.
 area_is : (old area : Option (List ℕ)) (text : List ℕ) → area ≡ grown (Some []) text → with_area old area ≡ grown old (to_be_bytes w32 (length text) ++ text)
 unfolding with_area
 area_is old area text e = by (nat_le (length text) buffer_limit) refl
@@ -96,7 +96,7 @@ sessions_laid (token ∷ tokens) left old area new result first done h e =
     by (Err fault) others (Ok done) d h = absurd h
     by (Err fault) others (Err found) d h = absurd cc
 
--- ---- the text of a whole line
+-- ---- the encoding of a whole line
 
 fitting : (tag : Tag) (code : CommandCode) (ten body : List ℕ) → length ten ≡ 10 → finished tag code (Some (ten ++ body)) ≡ Ok (header_text tag (10 + length body) code ++ body)
 unfolding finished

@@ -6,7 +6,6 @@ use Rattle.std.proofs.lemmas.List.Sums.{position_or_len_is}
 use Rattle.std.specs.List.{position, position_or_len}
 use Rattle.memchr.specs.Find.{IsFirstByte}
 
--- If a search found this position, it is that of the first byte that passes the test.
 pub first_place : (test : ℕ → Bool) (bytes : List ℕ) (result : Option ℕ) → IsFirstByte test bytes result
     → result ≡ position test bytes
 first_place test bytes None nowhere =

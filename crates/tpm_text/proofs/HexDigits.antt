@@ -14,7 +14,7 @@ use Rattle.tpm_text.specs.Draft.{Drafts, grown}
 use Rattle.tpm_number.specs.declared.fault.TokenFault.{TokenFault}
 use Rattle.tpm_number.specs.declared.fault.TokenFault.TheVariants.{Bad}
 
--- If the number of digits is odd, they are refused.
+-- Hex digits are refused if their number is odd.
 pub odd_is_bad : (digits : List ℕ) → length digits % 2 ≡ 1 → IsChecked (hex_in digits) (Err Bad)
 odd_is_bad digits odd = rw (decode_of-odd digits odd) refl
 

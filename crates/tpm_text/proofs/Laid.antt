@@ -25,7 +25,6 @@ use Rattle.tpm_text.proofs.Growing.{fits, grown-grown, none_grows}
 length-take-le-both : (size : ℕ) (bytes : List ℕ) → length (take size bytes) ≤ size
 length-take-le-both size bytes = grind (arith, common_steps)
 
--- If no bytes are added to a draft, it is unchanged.
 same_size : (bytes : List ℕ) (used : Option ℕ) → ForSome used (λ size. size ≤ buffer_limit) → (let text = option_map (λ size. take size bytes) used in grown text [] ≡ text)
 same_size bytes None h = none_grows []
 same_size bytes (Some size) h = fits (take size bytes) [] (let small = h size refl in omega (arith, small, length-take-le-both size bytes)) ∙ ap Some (append-nil (take size bytes))

@@ -91,7 +91,7 @@ completes done rest byte is = rw is refl
 length-one : (rest : List ℕ) (byte : ℕ) → length (rest ++ byte ∷ []) ≡ length rest + 1
 length-one rest byte = length-append rest (byte ∷ [])
 
--- bytes that complete no buffer leave the cut's buffers unchanged
+-- If more bytes complete no buffer, the buffers of the cut are unchanged.
 grows : (done : List (List ℕ)) (rest more all : List ℕ) → rest ++ more ≡ all → ((n : ℕ) → buffer_size all ≡ Some n → length all < n) → fold with_byte (begun done rest) more ≡ begun done all
 grows done rest [] all is less = ap (begun done) (sym (append-nil rest) ∙ is)
 grows done rest (byte ∷ more) all is less =
@@ -114,7 +114,6 @@ whole_later grown more all n same size less =
     not_whole grown (λ m own.
     let e = some_is m n (sym (size_longer grown more m own) ∙ ap buffer_size same ∙ size) in omega (arith, e, less))
 
--- If these bytes complete a buffer, it is cut off first, and then the buffers after it.
 ends_here : (done : List (List ℕ)) (grown more all : List ℕ) (n : ℕ) → grown ++ more ≡ all → length grown ≡ n → 6 ≤ n → fold with_byte (uncut (done ++ grown ∷ []) (is_last grown)) more ≡ fold with_byte (uncut (done ++ take n all ∷ []) (is_last all)) (drop n all)
 ends_here done grown more all n same here six =
     let front : take n all ≡ grown = rw (← here, ← same) (take-append_seam grown more) in
@@ -122,7 +121,7 @@ ends_here done grown more all n same here six =
     let last : is_last all ≡ is_last grown = rw (← same) (last_shorter grown more (omega (arith, here, six))) in
     rw (front, behind, last) refl
 
--- bytes that complete a buffer add to the cut this buffer and the buffers after it
+-- If more bytes complete a buffer, the cut gets this buffer and the buffers after it.
 completed : (done : List (List ℕ)) (rest more all : List ℕ) (n : ℕ) → rest ++ more ≡ all → buffer_size all ≡ Some n → length rest < n → n ≤ length all → fold with_byte (begun done rest) more ≡ fold with_byte (uncut (done ++ take n all ∷ []) (is_last all)) (drop n all)
 completed done rest [] all n is size less fits = absurd (omega (arith, ap length is, length-append rest []))
 completed done rest (byte ∷ more) all n is size less fits =
@@ -153,7 +152,6 @@ byte_stays c byte = by c.ended
 
 -- ---- the next buffer of a stream
 
--- if the next buffer is complete, cutting the stream cuts off this buffer first
 next_if : (done : List (List ℕ)) (taken : List ℕ) (n : ℕ) (c : Cut) → buffer_size taken ≡ Some n → cut_within n (is_last taken) taken ≡ Some c → cut_with done (record { taken = taken; ended = false }) ≡ cut_with (done ++ c.buffer ∷ []) c.after
 next_if done taken n c size is = by (nat_le n (length taken)) refl is
   where
@@ -189,7 +187,6 @@ stays_ended done rest (byte ∷ bytes) =
     stays_ended done (rest ++ byte ∷ []) bytes
     ∙ ap (λ (l : List ℕ). record { buffers = done; rest = l; ended = true }) (append_assoc rest (byte ∷ []) bytes)
 
--- bytes that do not contain a buffer of this size are fewer than this size
 too_few : (n : ℕ) (taken : List ℕ) → cut_within n (is_last taken) taken ≡ None → length taken < n
 too_few n taken is = by (nat_le n (length taken)) refl is
   where
@@ -210,7 +207,7 @@ cut_last done s none = by s.ended s.taken none
     by true taken e = stays_ended done [] taken
     by false taken e = grows done [] taken taken refl (waits_for taken e)
 
--- if the size of a buffer is unknown, there are fewer than six bytes
+-- If the size of a buffer is unknown, fewer than six of its bytes were received.
 size_known : (bytes : List ℕ) → buffer_size bytes ≡ None → length bytes < 6
 unfolding command_size
 size_known (t ∷ u ∷ a ∷ b ∷ c ∷ d ∷ bytes) is = absurd cc
@@ -230,7 +227,7 @@ next_room s none lives = by s.ended s.taken (buffer_size s.taken) refl none live
     by false taken None size e lives = omega (arith, size_known taken size)
     by false taken (Some n) size e lives = omega (arith, waits_for taken e n size, buffer_bounds taken n size)
 
--- ---- the bytes of a next buffer
+-- ---- the bytes of the next buffer of a stream
 
 cut_shorter : (n : ℕ) (taken : List ℕ) (c : Cut) → 6 ≤ n → cut_within n (is_last taken) taken ≡ Some c → length c.after.taken < length taken
 cut_shorter n taken c six is = by (nat_le n (length taken)) refl is
@@ -248,20 +245,21 @@ next_shorter s c is = by s.ended s.taken (buffer_size s.taken) refl is
     by false taken None size e = absurd (let f = next_is taken None (Some c) size e in cc)
     by false taken (Some n) size e = cut_shorter n taken c (buffer_bounds taken n size).0 (next_is taken (Some n) (Some c) size e)
 
--- ---- streams that continue
+-- ---- reading more bytes of a stream
 
 -- Cutting a stream and then adding bytes to its cut has the same result as cutting the stream with
 -- these bytes.
 pub cut_fed : (done : List (List ℕ)) (s : Stream) (bytes : List ℕ) → fold with_byte (cut_with done s) bytes ≡ cut_with done (fed s bytes)
 cut_fed done s bytes = sym (fold-append with_byte (uncut done s.ended) s.taken bytes)
 
--- If all bytes that were read are cut into these buffers, with this stream left, this also holds
--- after one more read, which adds to the stream.
+-- If the bytes that were read consist of these executed buffers and the bytes of this stream, this
+-- still holds after one more read, which adds to the stream.
 pub read_more : (read bytes : List ℕ) (done : List (List ℕ)) (s : Stream) → cut_of read ≡ cut_with done s → cut_of (read ++ bytes) ≡ cut_with done (fed s bytes)
 read_more read bytes done s is =
     fold-append with_byte (uncut [] false) read bytes ∙ ap (λ (c : Cutting). fold with_byte c bytes) is ∙ cut_fed done s bytes
 
--- cutting off one more buffer continues the cut of a stream
+-- If one more buffer is cut off a stream from which buffers were cut off, all of them are cut off
+-- the original stream.
 pub cuts_one : (s t : Stream) (done : List (List ℕ)) (u : Stream) (c : Cut) → CutsTo s done t → next_of t ≡ Some c → u ≡ c.after → CutsTo s (done ++ c.buffer ∷ []) u
 cuts_one s t done u c to is same before =
     to before ∙ cut_next (before ++ done) t c is
@@ -271,13 +269,13 @@ cuts_one s t done u c to is same before =
 pub cuts_none : (s : Stream) → CutsTo s [] s
 cuts_none s before = ap (λ (l : List (List ℕ)). cut_with l s) (sym (append-nil before))
 
--- if more bytes are read and more buffers are cut off, all of these buffers are cut off the whole
--- stream
+-- Suppose that bytes are read, buffers are executed, more bytes are read, and more buffers are
+-- executed. Then all these buffers are the first ones in the cut of all bytes.
 pub read_on : (read bytes : List ℕ) (done more : List (List ℕ)) (s t u : Stream) → cut_of read ≡ cut_with done s → t ≡ fed s bytes → CutsTo t more u → cut_of (read ++ bytes) ≡ cut_with (done ++ more) u
 read_on read bytes done more s t u is same to =
     read_more read bytes done s is ∙ ap (cut_with done) (sym same) ∙ to done
 
--- More bytes only add buffers after those of a cut.
+-- The cut of a stream keeps its buffers when more bytes are read; new buffers are added after them.
 pub buffers_stay : (c : Cutting) (bytes : List ℕ) → (more : List (List ℕ)) × ((fold with_byte c bytes).buffers ≡ c.buffers ++ more)
 buffers_stay c [] = ([], sym (append-nil c.buffers))
 buffers_stay c (byte ∷ bytes) =

@@ -23,7 +23,7 @@ use Rattle.tpm_wire.specs.declared.host.Host.{Host}
 use Rattle.tpm_wire.proofs.Cutting.{buffers_stay, cut_next, cuts_one, read_on}
 use Rattle.tpm_wire.proofs.Folds.{folds_on}
 
--- ---- executions that follow others
+-- ---- further executions after the first ones
 
 pub buffers_more : (first more : List Execution) → buffers_of (first ++ more) ≡ buffers_of first ++ buffers_of more
 buffers_more first more = map-append (λ (one : Execution). buffer_in one.event) first more
@@ -38,14 +38,14 @@ written_more held mid holds first more written also =
 pub asks_more : {F : Type 0} (g : Asking F) (asked at asking : F) (first more : List Execution) → AsksForEach g asked first at → AsksForEach g at more asking → AsksForEach g asked (first ++ more) asking
 asks_more g asked at asking first more asks also = folds_on (Asks g) asked at asking first more asks also
 
--- If more bytes are read and more buffers are executed, all executed buffers are cut off the
--- whole stream.
+-- If more bytes are read and more buffers are executed, all executed buffers are the first ones in
+-- the cut of all bytes.
 pub cut_more : (read bytes : List ℕ) (first more : List Execution) (s t u : Stream) → cut_of read ≡ cut_with (buffers_of first) s → t ≡ fed s bytes → CutsTo t (buffers_of more) u → cut_of (read ++ bytes) ≡ cut_with (buffers_of (first ++ more)) u
 cut_more read bytes first more s t u is same to =
     read_on read bytes (buffers_of first) (buffers_of more) s t u is same to
     ∙ ap (λ (done : List (List ℕ)). cut_with done u) (sym (buffers_more first more))
 
--- ---- one more execution
+-- ---- a single further execution
 
 pub leads_one : (can : Bool) (old r new : Record) (executions : List Execution) (buffer : List ℕ) (host : Host) (outcome : Outcome) → Leads can old executions r → Executes can r (given buffer host) (outcome_step new outcome) → Leads can old (executions ++ execution_of r buffer host new outcome ∷ []) new
 leads_one can old r new executions buffer host outcome leads executes =
@@ -85,8 +85,6 @@ are_fewer cut done left c is next =
     let first = are_first cut (done ++ c.buffer ∷ []) c.after (is ∙ cut_next done left c next) in
     (c.buffer, first.0, first.1 ∙ append_assoc done (c.buffer ∷ []) first.0)
 
--- If the writer failed at the last response of some executions, it also failed at the last
--- response of these and the earlier ones together.
 loses_behind : (held mid holds : Option (List ℕ)) (first more : List Execution) → Appends held mid (responses_of first) → LosesLast mid holds more → LosesLast held holds (first ++ more)
 loses_behind held mid holds first more written (answered, lost, are, front, rest, cut, also) = (
   first ++ answered,
@@ -100,8 +98,6 @@ loses_behind held mid holds first more written (answered, lost, are, front, rest
       (Appends-trans _ _ _ _ _ written also),
 )
 
--- If the last response of some executions was not written, it is also the last response of these
--- and the earlier ones together.
 holds_back_behind : (held mid holds : Option (List ℕ)) (first more : List Execution) → Appends held mid (responses_of first) → HoldsLastBack mid holds more → HoldsLastBack held holds (first ++ more)
 holds_back_behind held mid holds first more written (answered, last, are, also) = (
   first ++ answered,
@@ -110,7 +106,7 @@ holds_back_behind held mid holds first more written (answered, last, are, also) 
   written_more held mid holds first answered written also,
 )
 
--- If serving ended with a fault after more executions, all executions together ended with that
+-- If serving ended with a fault after further executions, all executions together ended with this
 -- fault.
 pub ends_so : {F : Type 0} (g : Asking F) (held mid holds : Option (List ℕ)) (before after reader : Marks) (cut : Cutting) (asked at : F) (first more : List Execution) (asking : F) (left : Stream) (e : ServeFault) → cut ≡ cut_with (buffers_of (first ++ more)) left → AsksForEach g asked first at → Appends held mid (responses_of first) → Finishes g mid holds before after at more asking left (Err e) → Ends g held holds reader after cut asked (first ++ more) asking (Err e)
 ends_so g held mid holds before after reader cut asked at first more asking left fault.Write is asks written f =
@@ -143,8 +139,8 @@ unanswered g notes failed held mid holds before at after asked asking witness to
 unanswered g notes failed held mid holds before at after asked asking witness told new executions r left buffer host outcome stream fault.Read asks written noted delivers = absurd delivers
 unanswered g notes failed held mid holds before at after asked asking witness told new executions r left buffer host outcome stream fault.Host asks written noted delivers = absurd delivers
 
--- If notifying a witness of more executions ended with a fault, so did notifying it of all
--- executions.
+-- If a witness was notified of further executions, and this ended with a fault, notifying it of all
+-- executions ended with this fault.
 pub notes_so : {S : Type 0} (notes : S → Execution → S → Type 0) (failed : S → Bool) (old mid new : S) (first more : List Execution) (e : ServeFault) → NotesEach notes old first mid → Notes notes failed mid more new (Err e) → Notes notes failed old (first ++ more) new (Err e)
 notes_so notes failed old mid new first more fault.Save told (others, last, are, at, also, fails) =
     (first ++ others, last, ap (λ (l : List Execution). first ++ l) are ∙ sym (append_assoc first others (last ∷ [])), at, notes_more notes old mid at first others told also, fails)

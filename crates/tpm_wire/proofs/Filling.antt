@@ -5,7 +5,6 @@ use Rattle.std.specs.Io.KnownBytes.{Consumes}
 use Rattle.tpm_bytes.specs.Tap.{Marks, after_read}
 use Rattle.tpm_bytes.specs.declared.tap.Failed.{Failed}
 
--- a read of no bytes leaves the reader unchanged
 pub nothing_read : (had has : Option (List ℕ)) (read bytes : List ℕ) → length bytes ≡ 0 → Consumes had has (read ++ bytes) → Consumes had has read
 nothing_read had has read [] none got = subst (Consumes had has) (append-nil read) got
 nothing_read had has read (byte ∷ bytes) none got = absurd (omega arith)

@@ -39,8 +39,6 @@ length-set [] i x = refl
 length-set (y ∷ xs) zero x = refl
 length-set (y ∷ xs) (suc i) x = ap (λ (n : ℕ). suc n) (length-set xs i x)
 
--- Replacing the stream and the life of one connection keeps every connection served, if the new
--- stream and life are a served pair.
 set_served : (streams : List (Option Stream)) (lives : List (Option Life)) (n : ℕ) (stream : Option Stream) (life : Option Life) → Serve streams lives → n < length streams → IsServed stream life → Serve (slice_set streams n stream) (slice_set lives n life)
 set_served streams lives n stream life so below here = record {
   many = length-set lives n life ∙ so.many ∙ sym (length-set streams n stream);
@@ -57,7 +55,6 @@ set_served streams lives n stream life so below here = record {
         let l = at_set-other lives n number life apart in
         subst (λ (x : Option Stream). IsServed x (at_place (slice_set lives n life) number)) (sym s) (subst (λ (y : Option Life). IsServed (at_place streams number) y) (sym l) (so.each number))
 
--- if a connection with this stream is served, it has a life
 life_of : (stream : Stream) (life : Option Life) → IsServed (Some stream) life → (l : Life) × (life ≡ Some l) × IsServed (Some stream) (Some l)
 life_of stream None served = absurd served
 life_of stream (Some l) served = (l, refl, served)
@@ -81,7 +78,7 @@ stays can old new lives so same = record {
   served = rw same so;
 }
 
--- ---- one call
+-- ---- the effect of a single call
 
 opening_led : (can : Bool) (old new : Wire) (lives : List (Option Life)) (connection : ConnectionNumber) → Serve old.streams lives → Does can old (Opening (Ok connection)) new → Led can old new (slice_set lives (number_of connection) (Some new_life)) []
 opening_led can old new lives connection so did = record {
@@ -139,7 +136,7 @@ answering_led can old new lives n host outcome (Some s) is so did = by (next_of 
     by None next d = absurd (waits_not s.ended outcome (Ok (Answer outcome)) (Ok (if s.ended then Ended else Wants)) refl refl d.0)
     by (Some c) next d = answer_led can old new lives n host outcome s c is next so d.0 d.1
 
--- A turn that returns no answer changes nothing.
+-- A turn that finds no complete buffer changes nothing.
 waiting_same : (can : Bool) (old new : Wire) (n : ℕ) (host : Host) (o : Option Stream) → TurnsAt can o old n host (Ok Wants) new → new ≡ old
 waiting_same can old new n host None did = absurd did
 waiting_same can old new n host (Some s) did = by (next_of s) did
@@ -203,7 +200,7 @@ call_led can old new lives (Closing connection (Ok done)) so did =
 call_led can old new lives (Closing connection (Err e)) so did =
     stays can old new lives so (unclosed_same old new (number_of connection) e (at_place old.streams (number_of connection)) did)
 
--- ---- all calls
+-- ---- the effect of all calls of a schedule
 
 schedule_led : (can : Bool) (old new : Wire) (lives : List (Option Life)) (calls : List Call) → Serve old.streams lives → Schedules can old calls new → Led can old new (lives_after_all lives calls) (events_in lives calls)
 schedule_led can old new lives [] so run = stays can old new lives so (sym run)
@@ -215,7 +212,6 @@ schedule_led can old new lives (call ∷ calls) so run =
       served = others.served;
     }
 
--- if all numbers are free, there is no connection to serve
 none_served : (n number : ℕ) → IsServed (at_place (free {X = Stream} n) number) (at_place (free {X = Life} n) number)
 none_served zero number = tt
 none_served (suc n) zero = tt
@@ -224,7 +220,8 @@ none_served (suc n) (suc number) = none_served n number
 new_served : (r : Record) → Serve (new_wire r).streams (free 8)
 new_served r = record { many = refl; each = none_served 8 }
 
--- a schedule leads a new mux through the schedule's events, and each connection is served
+-- After every schedule of calls on a new mux, the schedule's events have led to the present state,
+-- and each connection is served.
 led_anew : (can : Bool) (r : Record) (calls : List Call) (new : Wire) → Schedules can (new_wire r) calls new → Led can (new_wire r) new (lives_after_all (free 8) calls) (events_in (free 8) calls)
 led_anew can r calls new run = schedule_led can (new_wire r) new (free 8) calls (new_served r) run
 

@@ -46,7 +46,7 @@ Does can old (Closing connection result) new = Closes old (number_of connection)
 abbrev pub Schedules : Bool → Wire → List Call → Wire → Type 0
 Schedules can old calls new = FoldsTo (Does can) old calls new
 
--- ---- what follows from the calls and their results only
+-- ---- facts that depend only on the calls and their results
 
 -- the life of a connection: all bytes that it received since it was opened, and all outcomes that
 -- its turns returned, in order
@@ -72,7 +72,7 @@ lives_after lives (Turning connection host (Ok (Answer outcome))) =
 lives_after lives (Closing connection (Ok done)) = slice_set lives (number_of connection) None
 lives_after lives call = lives
 
--- the lives of the open connections after all of these calls
+-- the lives of the open connections after a list of calls
 abbrev pub lives_after_all : List (Option Life) → List Call → List (Option Life)
 lives_after_all lives [] = lives
 lives_after_all lives (call ∷ calls) = lives_after_all (lives_after lives call) calls
@@ -102,7 +102,7 @@ abbrev pub events_in : List (Option Life) → List Call → List Event
 events_in lives [] = []
 events_in lives (call ∷ calls) = events_of lives call ++ events_in (lives_after lives call) calls
 
--- ---- what holds for every schedule
+-- ---- claims about every schedule
 
 -- An execution belongs to an event if it executed the event's buffer with the event's outcome, or
 -- if both are power cycles.

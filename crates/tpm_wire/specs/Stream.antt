@@ -104,7 +104,7 @@ abbrev pub cut_within : ℕ → Bool → List ℕ → Option Cut
 cut_within size last bytes =
     if nat_le size (length bytes) then Some (cut_at size last bytes) else None
 
--- the next buffer, if the bytes received contain all of it
+-- the next buffer, if all its bytes were received
 abbrev pub next_of : Stream → Option Cut
 next_of s =
     if s.ended then None
@@ -118,7 +118,7 @@ IsFront s (Some f) = (f.size ≤ length s.taken) × (next_of s ≡ Some (cut_at 
 
 -- ---- the cut, and what a connection stores
 
--- the cut of a whole stream, if these buffers of it were executed and the stream `s` is left
+-- the cut of a whole stream, after the buffers `done` were executed and the stream `s` is left
 abbrev pub cut_with : List (List ℕ) → Stream → Cutting
 cut_with done s = fold with_byte (uncut done s.ended) s.taken
 

@@ -21,7 +21,7 @@ use tpmsim_script::ScriptFault;
 /// a cause, which [`crate::explaining`] prints on request.
 #[derive(Clone, Copy, PartialEq, Eq)]
 pub enum Fault {
-    /// The command line is not one of the program's.
+    /// The command line is not valid.
     Usage,
     /// The line with this number, counted from 1, is not allowed in a script.
     ScriptLine(u32),

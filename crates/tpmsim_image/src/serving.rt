@@ -116,8 +116,8 @@ fn save_after<K: Keep>(
     }
 }
 
-/// Executes the commands of a connection, and answers each of them after the witness was notified
-/// of it.
+/// Executes the commands of a connection. Notifies the witness of each command before sending its
+/// response.
 fn exchange<K: Keep>(
     rt: &HostRuntime,
     socket: &mut Socket,

@@ -61,7 +61,6 @@ ok_is_no_write done e = false≢true (ap is_write e)
 save_is_no_write : (let save : Result (Unit {0}) LineFault = Err Save in save ≡ Err Write) → ⊥
 save_is_no_write e = false≢true (ap is_write e)
 
--- If two texts were appended one after the other, both together were appended.
 appended_twice : (old mid new : Option (List ℕ)) (first more : List ℕ) → Appends old mid first → Appends mid new more → Appends old new (first ++ more)
 appended_twice None mid new first more h k = tt
 appended_twice (Some old) None new first more h k = absurd h
@@ -102,7 +101,7 @@ cycled p s old (Err Save) new after is printed cut next err = absurd (save_is_no
 
 -- ---- the saver's notifications
 
--- If the saver was notified and only the writer can still fail, the saver was notified whatever the
+-- Only the writer can fail after the saver was notified. So the saver was notified, whatever the
 -- result is.
 pub told_then : {S : Type 0} (tells : S → Type 0) (old : S) (result : Result (Unit {0}) LineFault) (new : S) → OnErr result (result ≡ Err Write) → tells new → Told tells old result new
 told_then tells old (Ok done) new err told = told

@@ -20,7 +20,7 @@ use Rattle.tpmsim_script.specs.declared.line_fault.LineFault.TheVariants as stop
 use Rattle.tpmsim_script.proofs.CutText.{cut_behind, cut_then_kept, cut_twice, cut_within, nothing_printed_yet, printed_on, printed_yet}
 use Rattle.tpmsim_script.proofs.Doing.{lt_none}
 
--- ---- one more line
+-- ---- playing one more line
 
 -- These lines at the beginning of a text were read.
 abbrev pub LosesLines : Option (List ℕ) → List (List ℕ) → Option (List ℕ) → Type 0
@@ -52,7 +52,6 @@ begun saves saves_change text first start = record {
   printed = nothing_printed_yet first;
 }
 
--- If lines are played and then one more, all of these lines are played in order.
 plays_on : {S : Type 0} (saves saves_change : S → Record → S → Type 0) (old : Kept S) (lines : List (List ℕ)) (text : List ℕ) (mid : Kept S) (line more : List ℕ) (new : Kept S)
     → PlaysLines saves saves_change old lines text mid → PlaysLine saves saves_change mid line more new → PlaysLines saves saves_change old (lines ++ line ∷ []) (text ++ more) new
 plays_on saves saves_change old [] text mid line more new h one =
@@ -67,7 +66,7 @@ lost_line (Some text) (Some here) None lines line h k = absurd k
 lost_line (Some text) (Some here) (Some rest) lines line h k =
     h ∙ ap (λ (l : List (List ℕ)). lines ++ l) k ∙ sym (append_assoc lines (line ∷ []) (lines_of rest))
 
--- If a line had its effect and the saver was notified, the line was played.
+-- A line was played if it had its effect and the saver was notified.
 played_line : {S : Type 0} (saves saves_change : S → Record → S → Type 0) (at : Kept S) (line : List ℕ) (effect : Effect) (q : Playing) (t : S)
     → perform_line at.playing line ≡ Some effect → q ≡ effect.next → Tells saves saves_change (line_meaning line) q.device at.saver t → PlaysLine saves saves_change at line effect.text (kept q t)
 played_line saves saves_change at line effect q t did next told = record {
@@ -92,8 +91,6 @@ went_on saves saves_change text here rest first now held mid number start at q t
 
 -- ---- a run that ends at a line
 
--- If lines were read and the remaining text begins with a line, the whole text consists of these
--- lines, that line and more.
 left_from : (text here rest : Option (List ℕ)) (lines : List (List ℕ)) (line : List ℕ) (P : List (List ℕ) → Type 0) → LosesLines text lines here → LosesFirstLine here line rest → ((others : List (List ℕ)) → P (line ∷ others))
     → IfSome text (λ text. (rest : List (List ℕ)) × (lines_of text ≡ lines ++ rest) × P rest)
 left_from None here rest lines line P h k p = tt
@@ -102,7 +99,6 @@ left_from (Some text) (Some here) None lines line P h k p = absurd k
 left_from (Some text) (Some here) (Some rest) lines line P h k p =
     (line ∷ lines_of rest, h ∙ ap (λ (l : List (List ℕ)). lines ++ l) k, p (lines_of rest))
 
--- If lines were read, the whole text consists of these lines and of the lines that remain.
 left_any : (text here : Option (List ℕ)) (lines : List (List ℕ)) (P : List (List ℕ) → Type 0) → LosesLines text lines here → ((rest : List (List ℕ)) → P rest)
     → IfSome text (λ text. (rest : List (List ℕ)) × (lines_of text ≡ lines ++ rest) × P rest)
 left_any None here lines P h p = tt
@@ -147,7 +143,7 @@ stopped saves saves_change text left here rest first now held new writer number 
   last = tt;
 }
 
--- ---- a run that ends without a next line
+-- ---- a run that ends because no next line was found
 
 -- If the first remaining line is too long, it and all later lines were not played.
 left_long : (text here left : Option (List ℕ)) (lines : List (List ℕ)) (p : Playing) (number : ℕ) → LosesLines text lines here → IfSome here BeginsTooLong
@@ -303,8 +299,8 @@ pub told_there : {S : Type 0} (saves saves_change : S → Record → S → Type 
     → said ≡ line → Told (Tells saves saves_change (line_meaning said) device old) old result new → Told (Tells saves saves_change (line_meaning line) device old) old result new
 told_there saves saves_change line said device old result new e told = subst (λ l. Told (Tells saves saves_change (line_meaning l) device old) old result new) e told
 
--- ---- a whole run: nothing was read or in memory at its start, and then the last lines are
--- written and the device is saved
+-- ---- a whole run, which begins with an empty buffer, and ends by writing the last lines and
+-- saving the device
 
 -- If a run kept its device from one start, it also kept the device from any start with the same
 -- text, output and script.

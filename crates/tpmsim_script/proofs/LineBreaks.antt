@@ -22,12 +22,10 @@ IsWithin byte = is_break byte ≡ false
 onto_line : (byte : ℕ) (text : List ℕ) → is_break byte ≡ false → lines_of (byte ∷ text) ≡ onto_first byte (lines_of text)
 onto_line byte text e = ap (λ b. cond b ([] ∷ lines_of text) (onto_first byte (lines_of text))) e
 
--- If a 0a follows bytes that contain none, these bytes are the first line.
 line_ended : (line rest : List ℕ) → IsUnbroken line → lines_of (line ++ 10 ∷ rest) ≡ line ∷ lines_of rest
 line_ended [] rest h = refl
 line_ended (byte ∷ line) rest h = onto_line byte (line ++ 10 ∷ rest) (All-head IsWithin byte line h) ∙ ap (onto_first byte) (line_ended line rest (All-tail IsWithin byte line h))
 
--- If bytes contain no 0a and nothing follows, they are the last line.
 last_line : (byte : ℕ) (line : List ℕ) → IsUnbroken (byte ∷ line) → lines_of (byte ∷ line) ≡ (byte ∷ line) ∷ []
 last_line byte [] h = onto_line byte [] (All-head IsWithin byte [] h)
 last_line byte (next ∷ line) h =
@@ -45,7 +43,6 @@ begun_first : (byte : ℕ) (lines : List (List ℕ)) → (line : List ℕ) × (r
 begun_first byte [] = (byte ∷ [], [], refl, omega arith)
 begun_first byte (line ∷ lines) = (byte ∷ line, lines, refl, omega arith)
 
--- If bytes contain no 0a, they begin a line.
 line_begun : (byte : ℕ) (line more : List ℕ) → IsUnbroken (byte ∷ line) → BeginsWith (byte ∷ line ++ more) (length (byte ∷ line))
 line_begun byte [] more h =
     let first = begun_first byte (lines_of more) in
@@ -54,12 +51,10 @@ line_begun byte (next ∷ line) more h =
     let rest = line_begun next line more (All-tail IsWithin byte (next ∷ line) h) in
     (byte ∷ rest.0, rest.1, onto_line byte (next ∷ line ++ more) (All-head IsWithin byte (next ∷ line) h) ∙ ap (onto_first byte) rest.2, omega (arith, rest.3))
 
--- If the start of a line exceeds the limit, the line is too long.
 too_long : (line more : List ℕ) → IsUnbroken line → 65536 < length line → BeginsTooLong (line ++ more)
 too_long [] more h l = absurd (omega arith)
 too_long (byte ∷ line) more h l = let begun = line_begun byte line more h in (begun.0, begun.1, begun.2, omega (arith, begun.3))
 
--- The bytes before the first 0a contain no 0a.
 before_break : (rest : List ℕ) (at : ℕ) → position is_break rest ≡ Some at → IsUnbroken (take at rest)
 before_break rest at e = λ k d l. let found = position-Some is_break rest at d e in
     let short : k < at = omega (arith, length-take-le at rest (omega (arith, found.0))) in
@@ -74,7 +69,7 @@ at_break rest at e =
 no_break : (rest : List ℕ) → position is_break rest ≡ None → IsUnbroken rest
 no_break rest e = λ k d l. fails_before_first is_break rest k d (grind (arith, common_steps))
 
--- ---- what is found in the bytes that were read after the start of a line, whatever follows them
+-- ---- searching for the end of a line in the bytes that were read
 
 regrouped : (a b c d : List ℕ) → a ++ ((b ++ c) ++ d) ≡ (a ++ b) ++ (c ++ d)
 regrouped a b c d = simp append_assoc

@@ -16,7 +16,6 @@ use Rattle.tpmsim_script.specs.declared.fault.ScriptFault.{ScriptFault}
 use Rattle.tpmsim_script.specs.declared.fault.ScriptFault.TheVariants.{Line, Read, TooManyLines, Write, Save, NoMemory}
 use Rattle.tpmsim_script.specs.Script.{IsOutput, Output, Playing, Plays, Effect, output_with, perform_line, play}
 
--- If two texts were appended, and the first may have been empty, both together were appended.
 appended : (a b c d : Option (List ℕ)) (first more : List ℕ) → Keeps a b → Appends b c first → Appends c d more → Appends a d (first ++ more)
 appended None b c d first more h k m = tt
 appended (Some a) None c d first more h k m = absurd h
@@ -30,7 +29,6 @@ kept None b h = tt
 kept (Some a) None h = absurd h
 kept (Some a) (Some b) h = h ∙ sym (append-nil a)
 
--- If a line had this effect, and then the rest was played, the whole text was played.
 went_on : (left rest old held mid new : Option (List ℕ)) (p : Playing) (number : ℕ) (line : List ℕ) (did : Effect) (bad : Option ℕ)
     → LosesFirstLine left line rest → Keeps old held → perform_line p line ≡ Some did → Appends held mid did.text → Plays rest mid new did.next (number + 1) bad → Plays left old new p number bad
 went_on None rest old held mid new p number line did bad t k e a h = tt
@@ -116,7 +114,6 @@ reached_on left rest old held mid new p q number line done next behind t k did h
 abbrev pub Leads : Option (List ℕ) → Option (List ℕ) → Playing → ℕ → Option (List ℕ) → Option (List ℕ) → Playing → Option (List ℕ) → Type 0
 Leads here old p number start first q new = (next : ℕ) (behind : List (List ℕ)) → PlaysUpTo here old new p number next behind → PlaysUpTo start first new q 1 next behind
 
--- If the reader fails at this point, the script was played up to the reader's failure.
 stopped_by_reader : (here left old new start first : Option (List ℕ)) (p q : Playing) (number : ℕ) → LosesStart here left → Keeps old new → Leads here old p number start first q new → PlaysToFailure start left first new q
 stopped_by_reader here left old new None first p q number t k leads = tt
 stopped_by_reader None left old new (Some text) first p q number t k leads = absurd (let never : ⊥ = omega (arith, (leads 0 [] tt).2) in never)
@@ -166,7 +163,7 @@ stopped_with_memory number stop.Bad fact = tt
 stopped_with_memory number stop.Write fact = tt
 stopped_with_memory number stop.Save fact = tt
 
--- ---- after the last line that a script may have
+-- ---- the end of a script with the largest allowed number of lines
 
 abbrev HasLine : Option (List ℕ) → Type 0
 HasLine left = IfSome left (λ text. (line : List ℕ) × (rest : List (List ℕ)) × (lines_of text ≡ line ∷ rest))
@@ -244,8 +241,7 @@ reads_on false true line rest longer more w e limit n = omega arith
 reads_on false false line rest longer zero w e limit n = absurd (false≢true n)
 reads_on false false line rest longer (suc more) w e limit n = omega arith
 
--- ---- a whole run: nothing was read or in memory at its start, and nothing is in memory at its
--- end
+-- ---- a whole run, which begins and ends with an empty buffer
 
 pub nothing_before : (known : Option (List ℕ)) (read : List ℕ) → read ≡ [] → prepend_known read known ≡ known
 nothing_before None read e = refl

@@ -13,7 +13,6 @@ use Rattle.tpmsim_script.specs.Line.{lines_of}
 abbrev pub left : (waited number : ℕ) → (text : List ℕ) → List Fault
 left waited number text = faults_of waited number (take (1048577 - number) (lines_of text))
 
--- After a line is checked, one line fewer remains.
 pub left_more : (waited number : ℕ) (text line others : List ℕ) → number ≤ 1048576 → lines_of text ≡ line ∷ lines_of others
     → left waited number text ≡ fault_at (line_check waited line) number line ++ left (waited_behind (line_check waited line) waited) (number + 1) others
 left_more waited number text line others small e =

@@ -50,8 +50,8 @@ AreTheirs (Err fault.Save) reader writer unsaved = unsaved ≡ true
 AreTheirs other reader writer unsaved = Unit {0}
 
 -- The lines before the line `next` were played from `p` on; `number` is the number of the first of
--- them. None is bad; their output was written after the old contents of the writer (`old`). `rest`
--- contains the remaining lines.
+-- these lines. No line is bad; their output was written after the old contents of the writer
+-- (`old`). `rest` contains the remaining lines.
 abbrev pub PlaysUpTo : Option (List ℕ) → Option (List ℕ) → Option (List ℕ)
     → Playing → ℕ → ℕ → List (List ℕ) → Type 0
 PlaysUpTo None old new p number next rest = Unit {0}

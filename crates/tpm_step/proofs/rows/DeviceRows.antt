@@ -257,7 +257,6 @@ more_sessions : (r : Record) (place : ℕ) (s : Session) → session_place r.ses
     → taken_in (record r { sessions = slice_set r.sessions place (Some s) }) ≡ taken_in r + 1
 more_sessions r place s is = let more = put_taken session_byte r.sessions place s (some_is _ _ place is) in omega (arith, more)
 
--- if the parameters pass, nonceCaller has an allowed size
 caller_sized : (p : Parameters) (x : Unit {0}) → parameters_pass p ≡ Ok x
     → is_nonce_size p.hash (length p.nonce_caller) ≡ true
 unfolding parameters_pass

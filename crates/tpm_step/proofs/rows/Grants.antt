@@ -110,8 +110,8 @@ grant_grants r c locality n used e = kind_grants (session_kind e.session) r c lo
 
 -- ---- the grants of all entries
 
--- There are at most as many handles that need authorization as entries. So the positions after the
--- last entry have neither a grant nor such a handle.
+-- There are no more handles that need authorization than entries. So the positions after the last
+-- entry have neither a grant nor such a handle.
 all_fit : (r : Record) (c : Whole) (locality : ℕ) (grants : List (Option Grant)) → IsGranting r c locality grants → GrantsFit c grants
 all_fit r c locality grants all = record { entries = all.as_many; handles = fit_at }
   where

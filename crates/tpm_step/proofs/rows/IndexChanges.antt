@@ -161,7 +161,6 @@ keeps_count NvCounter = true
 keeps_count NvAuthValue = true
 keeps_count _ = false
 
--- changing an index keeps the number of indices
 changed_count : (old new : NvContents) (handle : Handle) (index : NvIndex)
     → new ≡ changed_index old handle index → SameCount old new
 changed_count old new handle index is =
@@ -191,7 +190,6 @@ target_names r q =
     ok_bind_is _ (second_handle q.handles) _ (λ handle is.
     ok_bind _ (attributes_of r handle) _ (λ attributes. is)))
 
--- a property of each success still holds if faults are replaced by refusals
 ok_or_refusal : {X F : Type 0} (P : X → Type 0) (refusal : F → Refused) (x : Result X F) → IfOk x P
     → IfOk (or_refusal refusal x) P
 ok_or_refusal P refusal (Ok x) holds = holds

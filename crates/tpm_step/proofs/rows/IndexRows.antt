@@ -75,8 +75,6 @@ use Rattle.tpm_row_secrecy.proofs.IndexRows as index_secrets
 
 -- ---- how the rows of NV indices refuse
 
--- a step of a change has only late refusals, if all faults of the step and of the steps after it
--- are late refusals
 late_step : {A B F : Type 0} (Fit : Type 0) (refusal : F → Refused) (x : Result A F)
     (f : A → Result B F) → Late Fit (or_refusal refusal x)
     → ((a : A) → Late Fit (or_refusal refusal (f a))) → Late Fit (or_refusal refusal (x >>= f))
@@ -88,7 +86,8 @@ late_if : {F : Type 0} (Fit : Type 0) (refusal : F → Refused) (b : Bool) (faul
 late_if Fit refusal true fault late = late
 late_if Fit refusal false fault late = tt
 
--- looking up the index to change has only late refusals: the index exists if the handles fit
+-- A command looks up the index that it changes. If the index is missing, the refusal comes late;
+-- but the index exists if the handles fit.
 late_index : {X F : Type 0} (Fit : Type 0) (refusal : F → Refused) (nv : NvContents) (h : Handle)
     (absence : F) (f : NvIndex → Result X F) → refusal absence ≡ handle_refusal
     → (Fit → is_some (index_at nv h) ≡ true) → ((i : NvIndex) → Late Fit (or_refusal refusal (f i)))
@@ -137,8 +136,8 @@ late_read_locked : (Fit : Type 0) (nv : NvContents) (h : Handle)
 unfolding read_locked
 late_read_locked Fit nv h there = search changes
 
--- setting a new authorization value of the index that is the command's only handle has only late
--- refusals
+-- If a command sets a new authorization value of its only handle, an NV index, all refusals of this
+-- step come late.
 late_auth_value : (Fit : Type 0) (r : Record) (role : Option Role) (h : Handle) (value : List ℕ)
     → (Fit → FitsRule r (record { kind = handle_kind.NvIndex; role = role }) h)
     → Late Fit (or_refusal (λ absence. handle_refusal) (with_auth_value r.nv h value))
@@ -175,8 +174,8 @@ defined_grows : (r : Record) (h : Handle) (i : NvIndex)
     → Grows true r (record r { nv = with_index r.nv h i })
 defined_grows r h i = let more = put_length r.nv.indices h.number i in omega (arith, more)
 
--- TPM2_NV_DefineSpace reads parameters of these kinds: its authorization value is read as a buffer,
--- and zeros at its end are removed afterwards
+-- TPM2_NV_DefineSpace reads parameters of these kinds. It reads its authorization value as a
+-- buffer, and removes zeros at the end afterwards.
 define_reads : (text : List ℕ)
     → outcome (parameters_in text) ≡ spelled 1 (kind.Buffer 32 ∷ kind.NvPublic ∷ []) text
 unfolding parameters_in
@@ -231,7 +230,6 @@ nv_undefine_space_laws = record {
 
 -- ---- changing an index
 
--- A success that keeps the number of indices satisfies the laws of rows.
 changed_success : {F : Type 0} (c : CommandCode) (r : Record) (q : Request)
     (refusal : F → Refused) (x : Result NvContents F) → leaves_sessions (part_of c) ≡ true
     → keeps_count (part_of c) ≡ true

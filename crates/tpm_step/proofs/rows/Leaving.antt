@@ -18,7 +18,6 @@ use Rattle.tpm_step.specs.Granted.{Granted, granted_entries}
 use Rattle.tpm_step.specs.Step.{Accepted, success_step}
 use Rattle.tpm_step.specs.rows.Acceptance.{LeavesEffect, OnlySessions}
 
--- two changes of only sessions are together a change of only sessions
 then_only : (a b c : Record) → OnlySessions a b → OnlySessions b c → OnlySessions a c
 then_only a b c first second = second ∙ ap (λ (r : Record). record r { sessions = c.sessions }) first
 

@@ -1,4 +1,4 @@
--- If no memory is refused, no check reports MEMORY.
+-- If no allocation fails, no check reports MEMORY.
 use Rattle.std.proofs.Common.{arith, rules, ◌≡◌, ◌≢◌, ◌⊎◌, ℕ, ◌<◌, Bool, false, List, [], Result, Ok, Err, IfErr, refl, subst, sym}
 use Rattle.std.proofs.lemmas.Result.{IfErr-weaker}
 use Rattle.tpm_bytes.specs.Reading.{refused_if}

@@ -77,7 +77,7 @@ use Rattle.tpm_row_secrecy.proofs.ObjectRows as object_secrets
 
 -- ---- how the rows of objects refuse
 
--- a handle of an object's type that passes the check that its entity exists names an object
+-- If a handle has the type of an object, and its entity exists, it names an object.
 object_there : (type : ℕ) (session : Bool) (index : Entity) (o : Option Object)
     → (type == 0x80 || type == 0x81) ≡ true
     → IsThere type session (if type == 0x01 then index else option_map_or AnObject o Permanent)
@@ -118,7 +118,8 @@ late_creation Fit before x = grind arith
 late_scheme : (Fit : Type 0) (p : PublicParameters) → Late Fit (scheme_of p)
 late_scheme Fit p = grind arith
 
--- removing a persistent object, or copying a transient one, has only late refusals
+-- When TPM2_EvictControl removes a persistent object, or copies a transient one, only late checks
+-- refuse it.
 late_evicted : (Fit : Type 0) (objects : Entries Object) (h : Handle) (o : Object) (wanted : Handle)
     → Late Fit (evicted objects h o wanted)
 late_evicted Fit objects h o wanted = by (is_persistent h)

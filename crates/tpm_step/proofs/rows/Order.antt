@@ -166,7 +166,7 @@ IsThere type session entity =
     (if (type == 0x02 || type == 0x03) then session
     else (is_kept entity || not (type == 0x01 || type == 0x80 || type == 0x81))) ≡ true
 
--- a handle of an index's type that passes the check that its entity exists names an index
+-- If a handle has the type of an NV index, and its entity exists, it names an index.
 index_present : (type : ℕ) (session : Bool) (o : Option NvIndex) (object : Entity)
     → (type == 0x01) ≡ true
     → IsThere type session (if type == 0x01 then option_map_or AnIndex (option_map head_of o) Permanent else object)
@@ -234,7 +234,6 @@ behind_target_asserted {X = X} r first others handles kinds text g f more =
 
 -- ---- steps that read parameters
 
--- a row refuses in order, if it has read its parameters and then refuses only by late checks
 late_after : {X : Type 0} (Fit : Type 0) (s : Result (Unit {0}) Refused)
     (row : Result X Refused) → s ≡ Ok tt → Late Fit row → InOrder Fit s row
 late_after Fit s (Ok x) is late = is
@@ -259,7 +258,7 @@ pub behind_handed : {P A X : Type 0} (r : Record) (rules : List HandleRule) (han
 behind_handed r rules handles kinds text (Ok p) g f is late = behind_reading r rules handles kinds text (Ok (g p)) f is late
 behind_handed r rules handles kinds text (Err e) g f is late = behind_reading r rules handles kinds text (Err e) f is late
 
--- ---- late steps
+-- ---- steps that refuse late
 
 -- one of the command's own checks is a late check
 pub late_own_fault : {X : Type 0} (Fit : Type 0) (x : Result X ActionFault)

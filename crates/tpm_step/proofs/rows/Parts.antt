@@ -23,7 +23,7 @@ use Rattle.tpm_step.specs.rows.Shapes.{Grows, taken_in}
 
 -- ---- taken slots
 
--- There are as many indices as before.
+-- The number of NV indices is unchanged.
 abbrev pub SameCount : NvContents → NvContents → Type 0
 SameCount old new = length new.indices ≡ length old.indices
 

@@ -53,7 +53,7 @@ use Rattle.tpm_row_secrecy.proofs.PolicyRows as policy_secrets
 
 -- ---- how the rows of policies refuse
 
--- a handle of a policy session's type that passes the check that its entity exists names a session
+-- If a handle has the type of a policy session, and its entity exists, it names a session.
 session_there : (type : ℕ) (session other : Bool) → (type == 0x03) ≡ true
     → (if (type == 0x02 || type == 0x03) then session else other) ≡ true → session ≡ true
 session_there type session other kind present = grind (arith, nat_tests)

@@ -66,7 +66,6 @@ policy_same sessions handle policy = changed_taken session_byte (λ s. with_poli
 
 -- ---- the sizes of sessions
 
--- a session with a new policy keeps its sizes, if the policy's digest has its size
 policy_sized : (s : Session) (policy : Policy) → length policy.digest ≡ digest_size s.hash
     → IsSized s → IsSized (with_policy s policy)
 policy_sized s policy digest sized = record { digest = digest; key = sized.key; nonce_tpm = sized.nonce_tpm }

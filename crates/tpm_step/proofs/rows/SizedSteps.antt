@@ -92,7 +92,7 @@ entries_rolled_sized r (e ∷ es) left enough sized =
     entries_rolled_sized (entry_rolled r e left).after es (entry_rolled r e left).left
     (omega (arith, enough, entry_left r e left sized)) (entry_rolled_sized r e left (omega (arith, enough)) sized)
 
--- ---- policies that return to their start, and sessions that end
+-- ---- resetting policies, and ending sessions
 
 restarted_sized : (kind : SessionType) (r : Record) (e : Entry) (s : Session) → session_of r e ≡ Some s → AreSized r → AreSized (restarted_by kind r e s.hash)
 restarted_sized type.Hmac r e s is sized = sized
@@ -154,7 +154,6 @@ accepted_fits r buffer locality random enough sized =
     ok_then _ _ (general r buffer) _ (general_few r buffer) (λ c few.
     ok_in_command Fits c.code (acceptance r c locality random) (acceptance_fits r c locality random few enough sized))
 
--- sessions keep their sizes when a success discards the saved state
 settled_sized : (keeps : Bool) (r : Record) → AreSized r → AreSized (cond keeps r (with_saved r Nothing))
 settled_sized true r sized = sized
 settled_sized false r sized = sized
@@ -198,7 +197,7 @@ after_all_sized r (event ∷ events) happen sized = after_all_sized (step r even
 pub histories_sized : (random : List ℕ) (events : List PlainEvent) → AllByRecursion IsEvent events → AreSized (after_all (manufactured random) events)
 histories_sized random events happen = after_all_sized (manufactured random) events happen (manufactured_sized random)
 
--- every run of events keeps the sizes of sessions, whether memory can be refused or not
+-- Every run of events keeps the sizes of sessions, whether or not allocations can fail.
 pub run_sized : {F : Type 0} (g : Mut F (Bor Outcome × Unit {0}) (Unit {0})) (can : Bool) (old : Record) (p : F) (events : List PlainEvent) (new : Record) (q : F) → Runs g can old p events new q → AreSized old → AreSized new
 run_sized g can old p [] new q run sized = subst AreSized (sym run.0) sized
 run_sized g can old p (event ∷ events) new q run sized =

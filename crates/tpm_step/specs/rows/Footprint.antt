@@ -39,7 +39,7 @@ begun f after = record f {
   restart_count = after.restart_count;
 }
 
--- A startup either changes no NV index, or has its effect on all of them.
+-- A startup either leaves all NV indices unchanged, or has its effect on all of them.
 abbrev pub StartsNv : NvContents → NvContents → Type 0
 StartsNv old new = (new ≡ old) ⊎ (new ≡ started old)
 

@@ -34,8 +34,8 @@ abbrev pub InOrder : {X : Type 0} → Type 0 → Result (Unit {0}) Refused → R
 InOrder Fit spelling (Ok x) = spelling ≡ Ok tt
 InOrder Fit spelling (Err e) = IsInPlace Fit spelling e
 
--- The row of a command with these handle rules and these kinds of parameters refuses in order. The
--- rest of a row after some of its steps does so too.
+-- The row of a command with these handle rules and these kinds of parameters refuses in order. This
+-- also holds for the rest of a row after some of its steps.
 pub record Orders {X : Type 0} (r : Record) (rules : List HandleRule) (handles : List Handle)
     (kinds : List ParameterKind) (text : List ℕ) (row : Result X Refused) : Type 0 where
   pub order : InOrder (HandlesFit r rules handles) (spelled 1 kinds text) row

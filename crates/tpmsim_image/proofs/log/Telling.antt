@@ -9,8 +9,6 @@ use Rattle.tpm_journal_text.specs.Journal.{entries_text, sum_after_all}
 use Rattle.tpmsim_image.specs.log.Executed.{entry_in}
 use Rattle.tpmsim_image.specs.log.Log.{Adds, AddsAll, AddsSome, Written}
 
--- if one entry was appended to a log, and then the entries of other executions, the entries of all
--- of them were appended
 behind_first : (old mid new : Written) (one : Execution) (found : Option PlainEntry) (executions : List Execution)
     → entry_in one ≡ found → AddsSome old found mid → AddsAll mid executions new → AddsAll old (one ∷ executions) new
 behind_first old mid new one None executions is adds all = absurd adds

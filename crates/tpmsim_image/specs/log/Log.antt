@@ -53,7 +53,7 @@ abbrev pub LogsTellAll : Type 0
 LogsTellAll = (old : Written) (executions : List Execution) (new : Written)
     → FoldsTo Adds old executions new → AddsAll old executions new
 
--- ---- a log, if there is one
+-- ---- an optional log
 
 -- An execution was appended to the log, if there is a log.
 abbrev pub AddsWhereKept : {W : Type 0} → (W → Option (List ℕ)) → Option (Log W) → Execution

@@ -3,7 +3,6 @@ use Rattle.std.proofs.lemmas.List.{take_at}
 use Rattle.tpmsim_script.specs.Report.{fault_text}
 use Rattle.tpmsim_web.proofs.report.put_fault.Goals as goal
 
--- after a text is written to the start of a buffer, the buffer starts with the text
 front : (text rest new : List ℕ) (size : ℕ) → size ≡ length text → new ≡ text ++ rest → take size new ≡ text
 front text rest new size is same = ap (take size) same ∙ take_at text rest size (sym is)
 
