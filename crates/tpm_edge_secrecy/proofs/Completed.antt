@@ -1,38 +1,34 @@
 -- The effect of an event with the completing layer, on two devices that differ in secret data
 -- alone.
 use Rattle.std.proofs.Common.{ap, refl, subst, sym, ◌∙◌}
-use Rattle.std.specs.Prelude.{Bool, Err, List, None, Ok, Option, Result, Some, [], false, option_map, true, ℕ, ◌&&◌, ◌==◌, ◌||◌, ◌∷◌, ◌≡◌}
+use Rattle.std.specs.Prelude.{Bool, Err, List, None, Ok, Option, Result, Some, [], false, option_map, true, ℕ, ◌&&◌, ◌==◌, ◌∷◌, ◌≡◌}
 use Rattle.tpm_completion.specs.Completed.{behind, completed, completed_with, done_behind, loaded_behind, passed}
 use Rattle.tpm_completion.specs.Completion.{forgotten}
 use Rattle.tpm_completion.specs.Execution.{Seen, answered, asked_behind, opened_behind, reply_behind}
 use Rattle.tpm_completion.specs.Loading.{context_asked, object_opened, placed_reply}
 use Rattle.tpm_completion.specs.Properties.{values_set}
 use Rattle.tpm_completion.specs.Reply.{reply}
-use Rattle.tpm_completion.specs.Saving.{Reply, refused}
+use Rattle.tpm_completion.specs.Saving.{Reply}
 use Rattle.tpm_completion.specs.declared.completion.Completion.{Completion}
-use Rattle.tpm_context.specs.Head.{fault_rc}
 use Rattle.tpm_context.specs.declared.fault.ContextFault.{ContextFault}
 use Rattle.tpm_edge_secrecy.proofs.Contexts.{layer_loads_alike}
-use Rattle.tpm_edge_secrecy.proofs.Layer.{forgotten_same, layer_answers_alike}
-use Rattle.tpm_edge_secrecy.specs.Layer.{CompletedRunTellsNothing, CompletedTellsNothing, Completions, CompletionsAlike, CompletesAlike, NoneReadsWith, SetAlike, answers_with, is_reading_with, is_saving, saves_secret}
+use Rattle.tpm_edge_secrecy.proofs.Layer.{forgotten_same, layer_answers_alike, layer_saves_alike}
+use Rattle.tpm_edge_secrecy.specs.Layer.{CompletedRunTellsNothing, CompletedTellsNothing, Completions, CompletionsAlike, CompletesAlike, NoneReadsWith, RepliesAlike, SetAlike, answers_with, is_saving, saves_secret}
 use Rattle.tpm_object.specs.declared.object.Object.{Object}
 use Rattle.tpm_record.specs.Objects.{next_handle, object_handle}
 use Rattle.tpm_record.specs.Record.{Record}
 use Rattle.tpm_row_secrecy.proofs.Each.{lowest_free_each}
-use Rattle.tpm_row_secrecy.specs.Secrecy.{DifferInSecrets, Secrecy, bare_object, of_data}
+use Rattle.tpm_row_secrecy.specs.Secrecy.{DifferInSecrets, Secrecy, bare_object, of_data, unless}
 use Rattle.tpm_secrecy.proofs.Data.{alike_told_nothing}
 use Rattle.tpm_secrecy.specs.Tells.{EventsAlike, TellsNothing, is_reading}
 use Rattle.tpm_step.specs.Events.{Cycled, Given, Placed, PlainEvent}
 use Rattle.tpm_step.specs.Step.{step}
 use Rattle.tpm_step.specs.declared.event.Row.{Row}
-use Rattle.tpm_types.specs.Rc.{rc_number}
-use Rattle.tpm_types.specs.declared.handle.Handle.{Handle}
 use Rattle.tpm_types_object.specs.declared.public.Public.{Public}
 
--- An event that reads nothing is read by neither the device nor the layer.
-neither : (device layer : Bool) → device || layer ≡ false → (device ≡ false) × (layer ≡ false)
-neither false layer is = (refl, is)
-neither true layer is = absurd cc
+unless_same : (saved : Bool) (a b : List ℕ) → (saved ≡ false → a ≡ b) → unless saved a ≡ unless saved b
+unless_same true a b same = refl
+unless_same false a b same = same refl
 
 module _ (indices : ℕ → Bool) (objects : Public → Bool) where
   abbrev s : Secrecy
@@ -43,32 +39,46 @@ module _ (indices : ℕ → Bool) (objects : Public → Bool) where
   layer_after : (c : Completion) (r t : Record) → DifferInSecrets s r t → forgotten r c ≡ forgotten t c
   layer_after c r t differ = sym (forgotten_same s r c) ∙ ap (λ (x : Record). forgotten x c) differ ∙ forgotten_same s t c
 
-  passed_alike : (c : Completion) (r t : Record) → DifferInSecrets s r t → (event also : PlainEvent) → EventsAlike s event also → is_reading s r event ≡ false → CompletesAlike s (passed c r event) (passed c t also)
+  passed_alike : (c : Completion) (r t : Record) → DifferInSecrets s r t → (event also : PlainEvent) → EventsAlike s event also → is_reading s r event ≡ false → (saved : Bool) → CompletesAlike s saved (passed c r event) (passed c t also)
   unfolding passed
-  passed_alike c r t differ event also same free =
+  passed_alike c r t differ event also same free saved =
       let told : TellsNothing s (step r event) (step t also) = alike_told_nothing indices objects r t false event also differ same free in
-      record { step = told; layer = layer_after c (step r event).after (step t also).after told.after }
+      record {
+        response = λ free. told.response;
+        row = told.row;
+        after = told.after;
+        layer = layer_after c (step r event).after (step t also).after told.after;
+      }
 
-  answered_alike : (x y : Seen) (a b : Reply) → CompletesAlike s x y → a ≡ b → CompletesAlike s (answered x a) (answered y b)
-  answered_alike x y a b alike same = record {
-    step = record {
-      response = ap (λ (z : Reply). z.response) same;
-      row = alike.step.row;
-      after = alike.step.after;
-    };
-    layer = ap (λ (z : Reply). z.after) same;
+  answered_alike : (saved : Bool) (x y : Seen) (a b : Reply) → CompletesAlike s false x y → RepliesAlike saved a b → CompletesAlike s saved (answered x a) (answered y b)
+  answered_alike saved x y a b alike replies = record {
+    response = replies.response;
+    row = alike.row;
+    after = alike.after;
+    layer = replies.after;
   }
 
   -- these secrets leave the authorization values
   sets_alike : (r t : Record) → DifferInSecrets s r t → SetAlike r t
   sets_alike r t differ = ap (λ (x : Record). values_set x.fixed.hierarchies) differ
 
-  reply_alike : (x y : Seen) → CompletesAlike s x y → (buffer : List ℕ) → saves_secret s x.step.after x.layer buffer x.step.response ≡ false → reply_behind x buffer ≡ reply_behind y buffer
-  reply_alike x y alike buffer free =
-      layer_answers_alike s x.step.after y.step.after x.layer buffer x.step.response (x.step.row.check == 0) alike.step.after (sets_alike x.step.after y.step.after alike.step.after) free
-      ∙ ap (λ (c : Completion). reply y.step.after c buffer x.step.response (x.step.row.check == 0)) alike.layer
-      ∙ ap (λ (response : List ℕ). reply y.step.after y.layer buffer response (x.step.row.check == 0)) alike.step.response
-      ∙ ap (λ (row : Row). reply y.step.after y.layer buffer y.step.response (row.check == 0)) alike.step.row
+  -- whether the answer after an effect is the context of an object that has a secret
+  abbrev is_saved : Seen → List ℕ → Bool
+  is_saved x buffer = saves_secret s x.step.after x.layer buffer x.step.response
+
+  reply_alike : (x y : Seen) → CompletesAlike s false x y → (buffer : List ℕ) → RepliesAlike (is_saved x buffer) (reply_behind x buffer) (reply_behind y buffer)
+  reply_alike x y alike buffer =
+      subst (RepliesAlike (is_saved x buffer) (reply_behind x buffer))
+      (ap (λ (c : Completion). reply y.step.after c buffer x.step.response (x.step.row.check == 0)) alike.layer
+      ∙ ap (λ (response : List ℕ). reply y.step.after y.layer buffer response (x.step.row.check == 0)) (alike.response refl)
+      ∙ ap (λ (row : Row). reply y.step.after y.layer buffer y.step.response (row.check == 0)) alike.row)
+      (layer_answers_alike s x.step.after y.step.after x.layer buffer x.step.response (x.step.row.check == 0) alike.after (sets_alike x.step.after y.step.after alike.after))
+
+  saved_both : (x y : Seen) → CompletesAlike s false x y → (buffer : List ℕ) → is_saved x buffer ≡ is_saved y buffer
+  saved_both x y alike buffer =
+      layer_saves_alike s x.step.after y.step.after x.layer buffer x.step.response alike.after
+      ∙ ap (λ (c : Completion). saves_secret s y.step.after c buffer x.step.response) alike.layer
+      ∙ ap (saves_secret s y.step.after y.layer buffer) (alike.response refl)
 
   -- ---- the context of an object is loaded
 
@@ -78,91 +88,108 @@ module _ (indices : ℕ → Bool) (objects : Public → Bool) where
       ∙ ap (λ (x : Record). next_handle x.objects) differ
       ∙ ap (option_map object_handle) (lowest_free_each (bare_object s) t.objects)
 
-  loaded_alike : (x y : Seen) → CompletesAlike s x y → (opened : Result Object ContextFault) → CompletesAlike s (loaded_behind x opened) (loaded_behind y opened)
-  loaded_alike x y alike (Ok object) =
+  loaded_alike : (saved : Bool) (x y : Seen) → CompletesAlike s false x y → (opened : Result Object ContextFault) → CompletesAlike s saved (loaded_behind x opened) (loaded_behind y opened)
+  loaded_alike saved x y alike (Ok object) =
       let placing : TellsNothing s (step x.step.after (Placed object)) (step y.step.after (Placed object)) =
-      alike_told_nothing indices objects x.step.after y.step.after false (Placed object) (Placed object) alike.step.after refl refl in
+      alike_told_nothing indices objects x.step.after y.step.after false (Placed object) (Placed object) alike.after refl refl in
       let reply : placed_reply x.layer (next_handle x.step.after.objects) ≡ placed_reply y.layer (next_handle y.step.after.objects) =
       ap (λ (c : Completion). placed_reply c (next_handle x.step.after.objects)) alike.layer
-      ∙ ap (placed_reply y.layer) (next_alike x.step.after y.step.after alike.step.after) in
+      ∙ ap (placed_reply y.layer) (next_alike x.step.after y.step.after alike.after) in
       record {
-        step = record {
-          response = ap (λ (z : Reply). z.response) reply;
-          row = alike.step.row;
-          after = placing.after;
-        };
+        response = λ free. ap (λ (z : Reply). z.response) reply;
+        row = alike.row;
+        after = placing.after;
         layer = ap (λ (z : Reply). z.after) reply;
       }
-  loaded_alike x y alike (Err fault) =
-      answered_alike x y (refused x.layer (rc_number (fault_rc fault))) (refused y.layer (rc_number (fault_rc fault))) alike
-      (ap (λ (c : Completion). refused c (rc_number (fault_rc fault))) alike.layer)
+  loaded_alike saved x y alike (Err fault) = record {
+    response = λ free. refl;
+    row = alike.row;
+    after = alike.after;
+    layer = alike.layer;
+  }
 
-  opened_alike : (x y : Seen) → CompletesAlike s x y → (context : List ℕ) → opened_behind x context ≡ opened_behind y context
+  opened_alike : (x y : Seen) → CompletesAlike s false x y → (context : List ℕ) → opened_behind x context ≡ opened_behind y context
   opened_alike x y alike context =
-      (layer_loads_alike s x.step.after y.step.after x.layer [] [] context alike.step.after).1
+      (layer_loads_alike s x.step.after y.step.after x.layer [] [] context alike.after).1
       ∙ ap (λ (c : Completion). object_opened y.step.after c context) alike.layer
 
-  asked_alike : (x y : Seen) → CompletesAlike s x y → (buffer : List ℕ) → asked_behind x buffer ≡ asked_behind y buffer
+  asked_alike : (x y : Seen) → CompletesAlike s false x y → (buffer : List ℕ) → asked_behind x buffer ≡ asked_behind y buffer
   asked_alike x y alike buffer =
-      (layer_loads_alike s x.step.after y.step.after x.layer buffer x.step.response [] alike.step.after).0
-      ∙ ap (context_asked y.step.after buffer) alike.step.response
+      (layer_loads_alike s x.step.after y.step.after x.layer buffer x.step.response [] alike.after).0
+      ∙ ap (context_asked y.step.after buffer) (alike.response refl)
 
   -- ---- what comes after a command
 
-  done_alike : (x y : Seen) → CompletesAlike s x y → (buffer : List ℕ) → saves_secret s x.step.after x.layer buffer x.step.response ≡ false → (asked : Option (List ℕ)) → CompletesAlike s (done_behind x buffer asked) (done_behind y buffer asked)
-  done_alike x y alike buffer free (Some context) =
-      subst (λ (opened : Result Object ContextFault). CompletesAlike s (loaded_behind x (opened_behind x context)) (loaded_behind y opened)) (opened_alike x y alike context)
-      (loaded_alike x y alike (opened_behind x context))
-  done_alike x y alike buffer free None = answered_alike x y (reply_behind x buffer) (reply_behind y buffer) alike (reply_alike x y alike buffer free)
+  done_alike : (x y : Seen) → CompletesAlike s false x y → (buffer : List ℕ) (asked : Option (List ℕ)) → CompletesAlike s (is_saved x buffer) (done_behind x buffer asked) (done_behind y buffer asked)
+  done_alike x y alike buffer (Some context) =
+      subst (λ (opened : Result Object ContextFault). CompletesAlike s (is_saved x buffer) (loaded_behind x (opened_behind x context)) (loaded_behind y opened)) (opened_alike x y alike context)
+      (loaded_alike (is_saved x buffer) x y alike (opened_behind x context))
+  done_alike x y alike buffer None = answered_alike (is_saved x buffer) x y (reply_behind x buffer) (reply_behind y buffer) alike (reply_alike x y alike buffer)
 
-  behind_alike : (x y : Seen) → CompletesAlike s x y → (buffer : List ℕ) → saves_secret s x.step.after x.layer buffer x.step.response ≡ false → CompletesAlike s (behind x buffer) (behind y buffer)
-  behind_alike x y alike buffer free =
-      subst (λ (asked : Option (List ℕ)). CompletesAlike s (done_behind x buffer (asked_behind x buffer)) (done_behind y buffer asked)) (asked_alike x y alike buffer)
-      (done_alike x y alike buffer free (asked_behind x buffer))
+  behind_alike : (x y : Seen) → CompletesAlike s false x y → (buffer : List ℕ) → CompletesAlike s (is_saved x buffer) (behind x buffer) (behind y buffer)
+  behind_alike x y alike buffer =
+      subst (λ (asked : Option (List ℕ)). CompletesAlike s (is_saved x buffer) (done_behind x buffer (asked_behind x buffer)) (done_behind y buffer asked)) (asked_alike x y alike buffer)
+      (done_alike x y alike buffer (asked_behind x buffer))
 
   -- ---- an event
 
-  with_alike : (c : Completion) (r t : Record) → DifferInSecrets s r t → (event also : PlainEvent) → EventsAlike s event also → is_reading s r event ≡ false → is_saving s c r event ≡ false → CompletesAlike s (completed_with c r event) (completed_with c t also)
-  with_alike c r t differ (Given buffer locality elapsed random) also same free unsaved =
-      subst (λ (e : PlainEvent). CompletesAlike s (completed_with c r (Given buffer locality elapsed random)) (completed_with c t e)) (is also same)
+  -- a command is the same on both devices
+  same_command : (buffer : List ℕ) (locality elapsed : ℕ) (random : List ℕ) (also : PlainEvent) → EventsAlike s (Given buffer locality elapsed random) also → Given buffer locality elapsed random ≡ also
+  same_command buffer locality elapsed random (Given others from later bytes) same = same
+  same_command buffer locality elapsed random Cycled same = absurd cc
+  same_command buffer locality elapsed random (Placed object) same = absurd cc
+
+  with_alike : (c : Completion) (r t : Record) → DifferInSecrets s r t → (event also : PlainEvent) → EventsAlike s event also → is_reading s r event ≡ false → CompletesAlike s (is_saving s c r event) (completed_with c r event) (completed_with c t also)
+  with_alike c r t differ (Given buffer locality elapsed random) also same free =
+      subst (λ (e : PlainEvent). CompletesAlike s (is_saving s c r (Given buffer locality elapsed random)) (completed_with c r (Given buffer locality elapsed random)) (completed_with c t e)) (same_command buffer locality elapsed random also same)
       (behind_alike (passed c r (Given buffer locality elapsed random)) (passed c t (Given buffer locality elapsed random))
-      (passed_alike c r t differ (Given buffer locality elapsed random) (Given buffer locality elapsed random) refl free) buffer unsaved)
-    where
-      is : (e : PlainEvent) → EventsAlike s (Given buffer locality elapsed random) e → Given buffer locality elapsed random ≡ e
-      is (Given others from later bytes) same = same
-      is Cycled same = absurd cc
-      is (Placed object) same = absurd cc
-  with_alike c r t differ Cycled (Given buffer locality elapsed random) same free unsaved = absurd cc
-  with_alike c r t differ Cycled Cycled same free unsaved = passed_alike c r t differ Cycled Cycled same free
-  with_alike c r t differ Cycled (Placed object) same free unsaved = absurd cc
-  with_alike c r t differ (Placed object) (Given buffer locality elapsed random) same free unsaved = absurd cc
-  with_alike c r t differ (Placed object) Cycled same free unsaved = absurd cc
-  with_alike c r t differ (Placed object) (Placed also) same free unsaved = passed_alike c r t differ (Placed object) (Placed also) same free
+      (passed_alike c r t differ (Given buffer locality elapsed random) (Given buffer locality elapsed random) refl free false) buffer)
+  with_alike c r t differ Cycled (Given buffer locality elapsed random) same free = absurd cc
+  with_alike c r t differ Cycled Cycled same free = passed_alike c r t differ Cycled Cycled same free false
+  with_alike c r t differ Cycled (Placed object) same free = absurd cc
+  with_alike c r t differ (Placed object) (Given buffer locality elapsed random) same free = absurd cc
+  with_alike c r t differ (Placed object) Cycled same free = absurd cc
+  with_alike c r t differ (Placed object) (Placed also) same free = passed_alike c r t differ (Placed object) (Placed also) same free false
 
-  completed_by : (completes : Bool) (c : Completion) (r t : Record) → DifferInSecrets s r t → (event also : PlainEvent) → EventsAlike s event also → is_reading s r event ≡ false → completes && is_saving s c r event ≡ false → CompletesAlike s (completed completes c r event) (completed completes c t also)
-  completed_by false c r t differ event also same free unsaved = passed_alike c r t differ event also same free
-  completed_by true c r t differ event also same free unsaved = with_alike c r t differ event also same free unsaved
+  pub completed_alike : (completes : Bool) (c : Completion) (r t : Record) → DifferInSecrets s r t → (event also : PlainEvent) → EventsAlike s event also → is_reading s r event ≡ false → CompletesAlike s (completes && is_saving s c r event) (completed completes c r event) (completed completes c t also)
+  completed_alike false c r t differ event also same free = passed_alike c r t differ event also same free false
+  completed_alike true c r t differ event also same free = with_alike c r t differ event also same free
 
-  pub completed_alike : (completes : Bool) (c : Completion) (r t : Record) → DifferInSecrets s r t → (event also : PlainEvent) → EventsAlike s event also → is_reading_with s completes c r event ≡ false → CompletesAlike s (completed completes c r event) (completed completes c t also)
-  completed_alike completes c r t differ event also same free =
-      let reads : (is_reading s r event ≡ false) × (completes && is_saving s c r event ≡ false) = neither (is_reading s r event) (completes && is_saving s c r event) free in
-      completed_by completes c r t differ event also same reads.0 reads.1
+  saving_both : (c : Completion) (r t : Record) → DifferInSecrets s r t → (event also : PlainEvent) → EventsAlike s event also → is_reading s r event ≡ false → is_saving s c r event ≡ is_saving s c t also
+  saving_both c r t differ (Given buffer locality elapsed random) also same free =
+      saved_both (passed c r (Given buffer locality elapsed random)) (passed c t (Given buffer locality elapsed random))
+      (passed_alike c r t differ (Given buffer locality elapsed random) (Given buffer locality elapsed random) refl free false) buffer
+      ∙ ap (is_saving s c t) (same_command buffer locality elapsed random also same)
+  saving_both c r t differ Cycled (Given buffer locality elapsed random) same free = absurd cc
+  saving_both c r t differ Cycled Cycled same free = refl
+  saving_both c r t differ Cycled (Placed object) same free = refl
+  saving_both c r t differ (Placed object) (Given buffer locality elapsed random) same free = absurd cc
+  saving_both c r t differ (Placed object) Cycled same free = refl
+  saving_both c r t differ (Placed object) (Placed also) same free = refl
 
   -- ---- events
 
-  run_alike : (one other : Record) (c d : Completion) → c ≡ d → (events others : Completions) → DifferInSecrets s one other → CompletionsAlike s events others → NoneReadsWith s c one events → answers_with c one events ≡ answers_with d other others
+  shown_alike : (completes : Bool) (c : Completion) (one other : Record) → DifferInSecrets s one other → (event also : PlainEvent) → EventsAlike s event also → is_reading s one event ≡ false
+      → unless (completes && is_saving s c one event) (completed completes c one event).step.response ≡ unless (completes && is_saving s c other also) (completed completes c other also).step.response
+  shown_alike completes c one other differ event also same free =
+      unless_same (completes && is_saving s c one event) (completed completes c one event).step.response (completed completes c other also).step.response
+      (completed_alike completes c one other differ event also same free).response
+      ∙ ap (λ (saved : Bool). unless (completes && saved) (completed completes c other also).step.response) (saving_both c one other differ event also same free)
+
+  run_alike : (one other : Record) (c d : Completion) → c ≡ d → (events others : Completions) → DifferInSecrets s one other → CompletionsAlike s events others → NoneReadsWith s c one events → answers_with s c one events ≡ answers_with s d other others
   run_alike one other c d same [] [] differ alike none = refl
   run_alike one other c d same [] (f ∷ fs) differ alike none = absurd alike
   run_alike one other c d same (e ∷ es) [] differ alike none = absurd alike
   run_alike one other c d same (e ∷ es) (f ∷ fs) differ (flag, events, rest) none =
       let x : Seen = completed e.0 c one e.1 in
       let y : Seen = completed e.0 c other f.1 in
-      let alike : CompletesAlike s x y = completed_alike e.0 c one other differ e.1 f.1 events none.0 in
-      ap (λ (response : List ℕ). let z : List (List ℕ × Row) = (response, x.step.row) ∷ answers_with x.layer x.step.after es in z) alike.step.response
-      ∙ ap (λ (row : Row). let z : List (List ℕ × Row) = (y.step.response, row) ∷ answers_with x.layer x.step.after es in z) alike.step.row
-      ∙ ap (λ (others : List (List ℕ × Row)). let z : List (List ℕ × Row) = (y.step.response, y.step.row) ∷ others in z) (run_alike x.step.after y.step.after x.layer y.layer alike.layer es fs alike.step.after rest none.1)
-      ∙ ap (λ (completes : Bool). answers_with c other ((completes, f.1) ∷ fs)) flag
-      ∙ ap (λ (b : Completion). answers_with b other (f ∷ fs)) same
+      let alike : CompletesAlike s (e.0 && is_saving s c one e.1) x y = completed_alike e.0 c one other differ e.1 f.1 events none.0 in
+      let shown : List ℕ = unless (e.0 && is_saving s c other f.1) y.step.response in
+      ap (λ (response : List ℕ). let z : List (List ℕ × Row) = (response, x.step.row) ∷ answers_with s x.layer x.step.after es in z) (shown_alike e.0 c one other differ e.1 f.1 events none.0)
+      ∙ ap (λ (row : Row). let z : List (List ℕ × Row) = (shown, row) ∷ answers_with s x.layer x.step.after es in z) alike.row
+      ∙ ap (λ (others : List (List ℕ × Row)). let z : List (List ℕ × Row) = (shown, y.step.row) ∷ others in z) (run_alike x.step.after y.step.after x.layer y.layer alike.layer es fs alike.after rest none.1)
+      ∙ ap (λ (completes : Bool). answers_with s c other ((completes, f.1) ∷ fs)) flag
+      ∙ ap (λ (b : Completion). answers_with s b other (f ∷ fs)) same
 
 pub completed_tells_nothing : CompletedTellsNothing
 completed_tells_nothing indices objects one other completes c event also differ same free = completed_alike indices objects completes c one other differ event also same free

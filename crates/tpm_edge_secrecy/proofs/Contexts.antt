@@ -1,8 +1,7 @@
 -- The contexts of objects on two devices that differ in secrets alone: the context of an object
 -- without secrets is the same, and a context contains the same object.
 use Rattle.std.proofs.Common.{ap, refl, sym, ◌∙◌}
-use Rattle.std.specs.Option.{option_map_or}
-use Rattle.std.specs.Prelude.{Bool, Err, List, None, Ok, Option, Result, Some, false, if◌then◌else◌, option_map, true, ℕ, ◌&&◌, ◌||◌, ◌≡◌}
+use Rattle.std.specs.Prelude.{Bool, Err, List, None, Ok, Result, false, if◌then◌else◌, true, ℕ, ◌&&◌, ◌||◌, ◌≡◌}
 use Rattle.tpm_bytes.specs.Reading.{◌>>=◌}
 use Rattle.tpm_completion.specs.Loading.{context_asked, object_context_in, object_opened}
 use Rattle.tpm_completion.specs.Command.{plain_command}

@@ -1,6 +1,6 @@
 -- The completing layer reads nothing secret of a device, except whether three of its values are
 -- empty, and the objects of which it makes contexts.
-use Rattle.std.proofs.Common.{ap, refl, sym, ◌∙◌}
+use Rattle.std.proofs.Common.{ap, refl, subst, sym, ◌∙◌}
 use Rattle.std.proofs.lemmas.List.Folds.{fold-map}
 use Rattle.std.proofs.lemmas.List.{length-map}
 use Rattle.std.specs.Int.{w32}
@@ -9,7 +9,7 @@ use Rattle.std.specs.Prelude.{Bool, Err, List, None, Ok, Option, Result, Some, [
 use Rattle.tpm_actions_capability.specs.Elements.{object_element, object_elements}
 use Rattle.tpm_actions_capability.specs.declared.element.Element.{Element}
 use Rattle.tpm_bytes.specs.Numbers.{numbers_below}
-use Rattle.tpm_bytes.specs.Reading.{number_at, ◌>>=◌}
+use Rattle.tpm_bytes.specs.Reading.{number_at}
 use Rattle.tpm_bytes.specs.Writing.{sized_text}
 use Rattle.tpm_bytes.specs.declared.cursor.Short.{Short}
 use Rattle.tpm_completion.specs.Answer.{is_refusal, success}
@@ -21,15 +21,16 @@ use Rattle.tpm_completion.specs.Handles.{is_in_state, session_shown, sessions_sh
 use Rattle.tpm_completion.specs.Hashing.{hash_row, hash_text, hierarchy_at, ticket_hierarchy, ticket_text}
 use Rattle.tpm_completion.specs.Listing.{element, listing}
 use Rattle.tpm_completion.specs.Properties.{active_count, attribute_if, count_elements, counter_count, identity_elements, index_count, is_counter, limit_elements, lockout_elements, object_count, permanent_attributes, property_elements, session_count, startup_attributes, values_set}
-use Rattle.tpm_completion.specs.Reply.{capability_asked, command_reply, listed, load_asked, replied, reply, reply_by, row_served, save_asked, served, stands, stirred}
-use Rattle.tpm_completion.specs.Saving.{Reply, handle_given, loaded, loaded_by, next_number, object_numbered, object_saved, place_named, refused, saved, session_loaded, session_numbered, session_saved, with_session}
+use Rattle.tpm_completion.specs.Reply.{capability_asked, command_reply, listed, load_asked, probed, replied, reply, reply_by, row_served, save_asked, served, stands}
+use Rattle.tpm_completion.specs.Saving.{Reply, binding_of, handle_given, loaded, loaded_by, next_number, object_numbered, object_saved, place_named, refused, saved, session_loaded, session_numbered, session_saved, with_session}
 use Rattle.tpm_completion.specs.Testing.{incremental_row, test_parms_row, test_result_row}
 use Rattle.tpm_completion.specs.declared.capability.Asked.{Asked}
 use Rattle.tpm_completion.specs.declared.completion.Completion.{Completion}
 use Rattle.tpm_completion.specs.declared.context.Token.{Token}
 use Rattle.tpm_containers.specs.Slots.{at_place}
+use Rattle.tpm_context.specs.Context.{context_text}
 use Rattle.tpm_edge_secrecy.proofs.Contexts.{context_alike, same_bind, same_object, secrets_alike}
-use Rattle.tpm_edge_secrecy.specs.Layer.{LayerAnswersAlike, LayerForgetsAlike, SetAlike, command_saves, handle_saves, has_secret, saves_object, saves_secret}
+use Rattle.tpm_edge_secrecy.specs.Layer.{LayerAnswersAlike, LayerForgetsAlike, LayerSavesAlike, RepliesAlike, SetAlike, command_saves, handle_saves, has_secret, saves_object, saves_secret}
 use Rattle.tpm_lockout.specs.Tries.{is_locked}
 use Rattle.tpm_mac.specs.Digest.{hash_of}
 use Rattle.tpm_nv.specs.Head.{head_of}
@@ -85,6 +86,28 @@ module _ (s : Secrecy) (r : Record) where
       ap (λ (sessions : List ℕ). record c { sessions = sessions })
       (map_same (session_kept (without_secrets s r) c) (session_kept r c) (session_kept_same c) (numbers_below session_limit))
 
+  -- ---- what is saved
+
+  secret_there : (found : Option Object) → option_map_or (has_secret s) (option_map (bare_object s) found) false ≡ option_map_or (has_secret s) found false
+  secret_there None = refl
+  secret_there (Some o) = refl
+
+  object_saves_same : (c : Completion) (handle : Handle) → saves_object s (without_secrets s r) c handle ≡ saves_object s r c handle
+  object_saves_same c handle =
+      ap (λ (has : Bool). is_transient handle && (is_some (next_number c) && has))
+      (ap (λ (found : Option Object). option_map_or (has_secret s) found false) (object_at_bare s r.objects handle) ∙ secret_there (object_at r.objects handle))
+
+  handle_saves_same : (c : Completion) (x : Result (ℕ × List ℕ) Short) → handle_saves s (without_secrets s r) c x ≡ handle_saves s r c x
+  handle_saves_same c (Ok handle) = ap (λ (saved : Bool). (length handle.1 == 0) && saved) (object_saves_same c (numbered handle.0))
+  handle_saves_same c (Err e) = refl
+
+  command_saves_same : (c : Completion) (x : Result Command Short) → command_saves s (without_secrets s r) c x ≡ command_saves s r c x
+  command_saves_same c (Ok command) = ap (λ (saved : Bool). (command.code == 0x162) && saved) (handle_saves_same c (number_at w32 command.parameters))
+  command_saves_same c (Err e) = refl
+
+  saves_same : (c : Completion) (buffer response : List ℕ) → saves_secret s (without_secrets s r) c buffer response ≡ saves_secret s r c buffer response
+  saves_same c buffer response = ap (λ (saved : Bool). r.fixed.started && (is_refusal 0x143 response && saved)) (command_saves_same c (plain_command buffer))
+
   -- ---- counts
 
   abbrev bare_entry : ℕ × NvIndex → ℕ × NvIndex
@@ -116,15 +139,26 @@ module _ (s : Secrecy) (r : Record) where
   sessions_bare : (c : Completion) (is_saved : Bool) → sessions_shown (without_secrets s r) c is_saved ≡ sessions_shown r c is_saved
   sessions_bare c is_saved = of_places s r (session_shown (without_secrets s r) c is_saved) (session_shown r c is_saved) (session_shown_bare c is_saved) (numbers_below session_limit)
 
--- ---- choices whose condition is part of a premise
+-- ---- alike replies, and choices between them
 
-if_same : {X : Type 0} (b rest : Bool) (x y z w : X) → b && rest ≡ false → (rest ≡ false → x ≡ y) → z ≡ w → (if b then x else z) ≡ (if b then y else w)
-if_same true rest x y z w free chosen left = chosen free
-if_same false rest x y z w free chosen left = left
+same_reply : (saved : Bool) (a b : Reply) → a ≡ b → RepliesAlike saved a b
+same_reply saved a b same = record {
+  response = λ free. ap (λ (x : Reply). x.response) same;
+  after = ap (λ (x : Reply). x.after) same;
+}
 
-unless_same : {X : Type 0} (b rest : Bool) (x y z : X) → b && rest ≡ false → (rest ≡ false → x ≡ y) → (if not b then z else x) ≡ (if not b then z else y)
-unless_same true rest x y z free chosen = chosen free
-unless_same false rest x y z free chosen = refl
+-- the condition of the choice is the first part of whether a secret is saved
+then_alike : (b saved : Bool) (x y z w : Reply) → RepliesAlike saved x y → z ≡ w → RepliesAlike (b && saved) (if b then x else z) (if b then y else w)
+then_alike true saved x y z w chosen left = chosen
+then_alike false saved x y z w chosen left = same_reply false z w left
+
+unless_alike : (b saved : Bool) (x y z : Reply) → RepliesAlike saved x y → RepliesAlike (b && saved) (if not b then z else x) (if not b then z else y)
+unless_alike true saved x y z chosen = chosen
+unless_alike false saved x y z chosen = same_reply false z z refl
+
+else_alike : (b saved : Bool) (x y z w : Reply) → x ≡ y → RepliesAlike saved z w → RepliesAlike saved (if b then x else z) (if b then y else w)
+else_alike true saved x y z w chosen left = same_reply saved x y chosen
+else_alike false saved x y z w chosen left = left
 
 -- the counts of a device, as they are listed
 abbrev counted_elements : (permanent startup indices loaded active objects persistent counters : ℕ) → List Element
@@ -159,21 +193,24 @@ module _ (s : Secrecy) (one other : Record) (differ : DifferInSecrets s one othe
 
   -- ---- contexts
 
-  object_saved_alike : (c : Completion) (a b : Option Object) → option_map (bare_object s) a ≡ option_map (bare_object s) b → is_some (next_number c) && option_map_or (has_secret s) a false ≡ false → object_saved one c a ≡ object_saved other c b
-  object_saved_alike c None None same free = refl
-  object_saved_alike c None (Some b) same free = absurd cc
-  object_saved_alike c (Some a) None same free = absurd cc
-  object_saved_alike c (Some a) (Some b) same free = by (next_number c) free
+  object_saved_alike : (c : Completion) (a b : Option Object) → option_map (bare_object s) a ≡ option_map (bare_object s) b → RepliesAlike (is_some (next_number c) && option_map_or (has_secret s) a false) (object_saved one c a) (object_saved other c b)
+  object_saved_alike c None None same = same_reply (is_some (next_number c) && false) (object_saved one c None) (object_saved other c None) refl
+  object_saved_alike c None (Some b) same = absurd cc
+  object_saved_alike c (Some a) None same = absurd cc
+  object_saved_alike c (Some a) (Some b) same = by (next_number c)
     where
       bare_or : Option Object → Object
       bare_or None = a
       bare_or (Some o) = o
 
-      by : (number : Option ℕ) → is_some number && has_secret s a ≡ false → object_numbered one c a number ≡ object_numbered other c b number
-      by None free = refl
-      by (Some number) free =
-          ap (λ (x : List ℕ). let y : Reply = record { response = success x; after = record c { count = number } } in y) (context_alike s one other differ c number a)
-          ∙ ap (λ (o : Object). object_numbered other c o (Some number)) (same_object s a b (ap bare_or same) free)
+      by : (number : Option ℕ) → RepliesAlike (is_some number && has_secret s a) (object_numbered one c a number) (object_numbered other c b number)
+      by None = same_reply false (object_numbered one c a None) (object_numbered other c b None) refl
+      by (Some number) = record {
+        response = λ bare.
+            ap success (context_alike s one other differ c number a)
+            ∙ ap (λ (o : Object). success (context_text other.fixed.hierarchies (binding_of other c) number o)) (same_object s a b (ap bare_or same) bare);
+        after = refl;
+      }
 
   object_at_alike : (handle : Handle) → option_map (bare_object s) (object_at one.objects handle) ≡ option_map (bare_object s) (object_at other.objects handle)
   object_at_alike handle =
@@ -181,10 +218,10 @@ module _ (s : Secrecy) (one other : Record) (differ : DifferInSecrets s one othe
       ∙ ap (λ (r : Record). object_at r.objects handle) differ
       ∙ object_at_bare s other.objects handle
 
-  saved_alike : (c : Completion) (handle : Handle) → saves_object s one c handle ≡ false → saved one c handle ≡ saved other c handle
+  saved_alike : (c : Completion) (handle : Handle) → RepliesAlike (saves_object s one c handle) (saved one c handle) (saved other c handle)
   unfolding saved
-  saved_alike c handle free =
-      if_same (is_transient handle) (is_some (next_number c) && option_map_or (has_secret s) (object_at one.objects handle) false) _ _ _ _ free
+  saved_alike c handle =
+      then_alike (is_transient handle) (is_some (next_number c) && option_map_or (has_secret s) (object_at one.objects handle) false) _ _ _ _
       (object_saved_alike c (object_at one.objects handle) (object_at other.objects handle) (object_at_alike handle))
       (ap (λ (x : Reply). if is_session handle then x else refused c 0x184) (of_session (session_context c (place_named handle))))
     where
@@ -265,38 +302,44 @@ module _ (s : Secrecy) (one other : Record) (differ : DifferInSecrets s one othe
   load_alike : (c : Completion) (context response : List ℕ) → load_asked one c context response ≡ load_asked other c context response
   load_alike c context response = ap (λ (x : Reply). if names_session context then x else stands c response) (loaded_alike c context)
 
-  save_alike : (c : Completion) (response : List ℕ) (x : Result (ℕ × List ℕ) Short) → handle_saves s one c x ≡ false → save_asked one c response x ≡ save_asked other c response x
-  save_alike c response (Ok handle) free = if_same (length handle.1 == 0) (saves_object s one c (numbered handle.0)) _ _ _ _ free (saved_alike c (numbered handle.0)) refl
-  save_alike c response (Err e) free = refl
+  save_alike : (c : Completion) (response : List ℕ) (x : Result (ℕ × List ℕ) Short) → RepliesAlike (handle_saves s one c x) (save_asked one c response x) (save_asked other c response x)
+  save_alike c response (Ok handle) = then_alike (length handle.1 == 0) (saves_object s one c (numbered handle.0)) _ _ _ _ (saved_alike c (numbered handle.0)) refl
+  save_alike c response (Err e) = same_reply false (stands c response) (stands c response) refl
 
-  served_alike : (c : Completion) (command : Command) (response : List ℕ) → command_saves s one c (Ok command) ≡ false → served one c command response ≡ served other c command response
-  served_alike c command response free =
-      ap (λ (x : Reply). if command.code == 0x146 then stirred c command.parameters response else (if command.code == 0x161 then x else (if command.code == 0x162 then save_asked one c response (number_at w32 command.parameters) else row_served one c command response))) (load_alike c command.parameters response)
-      ∙ ap (λ (x : Reply). if command.code == 0x146 then stirred c command.parameters response else (if command.code == 0x161 then load_asked other c command.parameters response else x))
-      (if_same (command.code == 0x162) (handle_saves s one c (number_at w32 command.parameters)) _ _ _ _ free (save_alike c response (number_at w32 command.parameters)) (row_alike c command response))
+  served_alike : (c : Completion) (command : Command) (response : List ℕ) → RepliesAlike (command_saves s one c (Ok command)) (served one c command response) (served other c command response)
+  served_alike c command response =
+      else_alike (command.code == 0x146) (command_saves s one c (Ok command)) _ _ _ _ refl
+      (else_alike (command.code == 0x161) (command_saves s one c (Ok command)) _ _ _ _ (load_alike c command.parameters response)
+      (then_alike (command.code == 0x162) (handle_saves s one c (number_at w32 command.parameters)) _ _ _ _ (save_alike c response (number_at w32 command.parameters)) (row_alike c command response)))
 
   asked_alike : (c : Completion) (response : List ℕ) (was_told : Bool) (x : Result Asked Short) → capability_asked one c response was_told x ≡ capability_asked other c response was_told x
   asked_alike c response was_told (Ok asked) = ap (listed c response) (capability_alike c asked was_told response)
   asked_alike c response was_told (Err e) = refl
 
-  command_alike : (c : Completion) (command : Command) (response : List ℕ) (was_told : Bool) → one.fixed.started && (is_refusal 0x143 response && command_saves s one c (Ok command)) ≡ false → command_reply one c command response was_told ≡ command_reply other c command response was_told
+  command_alike : (c : Completion) (command : Command) (response : List ℕ) (was_told : Bool) → RepliesAlike (one.fixed.started && (is_refusal 0x143 response && command_saves s one c (Ok command))) (command_reply one c command response was_told) (command_reply other c command response was_told)
   unfolding command_reply
-  command_alike c command response was_told free =
-      unless_same one.fixed.started (is_refusal 0x143 response && command_saves s one c (Ok command)) _ _ (stands c response) free (λ refused_free.
-      if_same (is_refusal 0x143 response) (command_saves s one c (Ok command)) _ _ _ _ refused_free (served_alike c command response)
-      (ap (λ (x : Reply). if command.code == 0x17a then x else stands c response) (asked_alike c response was_told (asked_at command.parameters))))
-      ∙ ap (λ (r : Record). if not r.fixed.started then stands c response else (if is_refusal 0x143 response then served other c command response else (if command.code == 0x17a then capability_asked other c response was_told (asked_at command.parameters) else stands c response))) differ
+  command_alike c command response was_told =
+      subst (λ (started : Bool). RepliesAlike (one.fixed.started && (is_refusal 0x143 response && command_saves s one c (Ok command))) (command_reply one c command response was_told) (if not started then stands c response else (if is_refusal 0x143 response then served other c command response else (if command.code == 0x17a then capability_asked other c response was_told (asked_at command.parameters) else stands c response)))) (ap (λ (r : Record). r.fixed.started) differ)
+      (unless_alike one.fixed.started (is_refusal 0x143 response && command_saves s one c (Ok command)) _ _ (stands c response)
+      (then_alike (is_refusal 0x143 response) (command_saves s one c (Ok command)) _ _ _ _ (served_alike c command response)
+      (ap (λ (x : Reply). if command.code == 0x17a then x else stands c response) (asked_alike c response was_told (asked_at command.parameters)))))
 
-  pub reply_alike : (c : Completion) (buffer response : List ℕ) (was_told : Bool) → saves_secret s one c buffer response ≡ false → reply one c buffer response was_told ≡ reply other c buffer response was_told
+  pub reply_alike : (c : Completion) (buffer response : List ℕ) (was_told : Bool) → RepliesAlike (saves_secret s one c buffer response) (reply one c buffer response was_told) (reply other c buffer response was_told)
   unfolding reply
   reply_alike c buffer response was_told = by (plain_command buffer)
     where
-      by : (x : Result Command Short) → one.fixed.started && (is_refusal 0x143 response && command_saves s one c x) ≡ false → reply_by one c buffer response was_told x ≡ reply_by other c buffer response was_told x
-      by (Ok command) free = command_alike c command response was_told free
-      by (Err e) free = refl
+      by : (x : Result Command Short) → RepliesAlike (one.fixed.started && (is_refusal 0x143 response && command_saves s one c x)) (reply_by one c buffer response was_told x) (reply_by other c buffer response was_told x)
+      by (Ok command) = command_alike c command response was_told
+      by (Err e) = same_reply (one.fixed.started && (is_refusal 0x143 response && false)) (probed c buffer response) (probed c buffer response) refl
 
 pub layer_answers_alike : LayerAnswersAlike
-layer_answers_alike s one other c buffer response was_told differ alike free = reply_alike s one other differ alike c buffer response was_told free
+layer_answers_alike s one other c buffer response was_told differ alike = reply_alike s one other differ alike c buffer response was_told
 
 pub layer_forgets_alike : LayerForgetsAlike
 layer_forgets_alike s r c = forgotten_same s r c
+
+pub layer_saves_alike : LayerSavesAlike
+layer_saves_alike s one other c buffer response differ =
+    sym (saves_same s one c buffer response)
+    ∙ ap (λ (r : Record). saves_secret s r c buffer response) differ
+    ∙ saves_same s other c buffer response

@@ -15,13 +15,13 @@ use Rattle.tpm_completion.specs.Execution.{Seen}
 use Rattle.tpm_completion.specs.Loading.{context_asked, object_opened}
 use Rattle.tpm_completion.specs.Properties.{values_set}
 use Rattle.tpm_completion.specs.Reply.{reply}
-use Rattle.tpm_completion.specs.Saving.{next_number}
+use Rattle.tpm_completion.specs.Saving.{Reply, next_number}
 use Rattle.tpm_completion.specs.declared.completion.Completion.{Completion}
 use Rattle.tpm_object.specs.declared.object.Object.{Object}
 use Rattle.tpm_record.specs.Objects.{object_at}
 use Rattle.tpm_record.specs.Record.{Record}
-use Rattle.tpm_row_secrecy.specs.Secrecy.{DifferInSecrets, Secrecy, has_secret_data, of_data, without_secrets}
-use Rattle.tpm_secrecy.specs.Tells.{EventsAlike, TellsNothing, is_reading}
+use Rattle.tpm_row_secrecy.specs.Secrecy.{DifferInSecrets, Secrecy, has_secret_data, of_data, unless, without_secrets}
+use Rattle.tpm_secrecy.specs.Tells.{EventsAlike, is_reading}
 use Rattle.tpm_step.specs.Events.{Cycled, Given, Placed, PlainEvent}
 use Rattle.tpm_step.specs.declared.event.Row.{Row}
 use Rattle.tpm_types.specs.Handle.{is_transient, numbered}
@@ -68,16 +68,29 @@ abbrev pub SetAlike : Record → Record → Type 0
 SetAlike one other =
     values_set one.fixed.hierarchies ≡ values_set other.fixed.hierarchies
 
+-- Two replies leave the same layer; and the responses are the same, unless they are contexts of an
+-- object that has a secret.
+pub record RepliesAlike (saved : Bool) (a b : Reply) : Type 0 where
+  pub response : saved ≡ false → a.response ≡ b.response
+  pub after : a.after ≡ b.after
+
 -- What the layer answers after a response of the device, and what it remembers then, is the same of
 -- two devices that differ in what is secret alone, if they agree on which of these values are
--- empty, and the answer is not the context of an object that has a secret.
+-- empty. Only the context of an object that has a secret may differ.
 abbrev pub LayerAnswersAlike : Type 0
 LayerAnswersAlike =
     (s : Secrecy) (one other : Record) (c : Completion) (buffer response : List ℕ)
     (was_told : Bool)
     → DifferInSecrets s one other → SetAlike one other
-    → saves_secret s one c buffer response ≡ false
-    → reply one c buffer response was_told ≡ reply other c buffer response was_told
+    → RepliesAlike (saves_secret s one c buffer response)
+    (reply one c buffer response was_told) (reply other c buffer response was_told)
+
+-- The answer is such a context on both of two such devices, or on neither.
+abbrev pub LayerSavesAlike : Type 0
+LayerSavesAlike =
+    (s : Secrecy) (one other : Record) (c : Completion) (buffer response : List ℕ)
+    → DifferInSecrets s one other
+    → saves_secret s one c buffer response ≡ saves_secret s other c buffer response
 
 -- The layer loads the same context on two devices that differ in what is secret alone, and the
 -- context contains the same object on both, or has the same fault: the proofs of the hierarchies are
@@ -105,20 +118,18 @@ is_saving s c r (Given buffer locality elapsed random) =
 is_saving s c r Cycled = false
 is_saving s c r (Placed object) = false
 
--- whether an event reads secrets with the layer (true), or without it (false): the device reads
--- them, or the layer writes them into a context
-abbrev pub is_reading_with : Secrecy → (completes : Bool) → Completion → Record → PlainEvent → Bool
-is_reading_with s completes c r event =
-    is_reading s r event || (completes && is_saving s c r event)
-
--- Two effects give the same response and report the same row; the layer remembers the same after
--- both, and the two devices differ in what is secret alone.
-pub record CompletesAlike (s : Secrecy) (x y : Seen) : Type 0 where
-  pub step : TellsNothing s x.step y.step
+-- Two effects report the same row; the layer remembers the same after both, and the two devices
+-- differ in what is secret alone. The responses are the same, unless they are contexts of an object
+-- that has a secret.
+pub record CompletesAlike (s : Secrecy) (saved : Bool) (x y : Seen) : Type 0 where
+  pub response : saved ≡ false → x.step.response ≡ y.step.response
+  pub row : x.step.row ≡ y.step.row
+  pub after : DifferInSecrets s x.step.after y.step.after
   pub layer : x.layer ≡ y.layer
 
 -- Two devices differ in secret data alone. An event that does not read them reveals nothing of
--- them with the layer either, also if it loads an object from its context. If the event itself
+-- them with the layer either, also if it loads an object from its context; except the context of an
+-- object that has secret data, which is the response to its TPM2_ContextSave. If the event itself
 -- places an object, the object that the other device places may differ in this data too. No memory
 -- is refused.
 abbrev pub CompletedTellsNothing : Type 0
@@ -126,9 +137,9 @@ CompletedTellsNothing =
     (indices : ℕ → Bool) (objects : Public → Bool) (one other : Record) (completes : Bool)
     (c : Completion) (event also : PlainEvent)
     → let s : Secrecy = of_data indices objects in
-    DifferInSecrets s one other → EventsAlike s event also
-    → is_reading_with s completes c one event ≡ false
-    → CompletesAlike s (completed completes c one event) (completed completes c other also)
+    DifferInSecrets s one other → EventsAlike s event also → is_reading s one event ≡ false
+    → CompletesAlike s (completes && is_saving s c one event)
+    (completed completes c one event) (completed completes c other also)
 
 -- ---- a list of events
 
@@ -136,19 +147,21 @@ CompletedTellsNothing =
 abbrev pub Completions : Type 0
 Completions = List (Bool × PlainEvent)
 
--- the responses of a device with the layer to these events, and the rows that it reports
-abbrev pub answers_with : Completion → Record → Completions → List (List ℕ × Row)
-answers_with c r [] = []
-answers_with c r (e ∷ es) =
+-- the responses of a device with the layer to these events, without contexts of objects that have
+-- secrets, and the rows that it reports
+abbrev pub answers_with : Secrecy → Completion → Record → Completions → List (List ℕ × Row)
+answers_with s c r [] = []
+answers_with s c r (e ∷ es) =
     let x : Seen = completed e.0 c r e.1 in
-    (x.step.response, x.step.row) ∷ answers_with x.layer x.step.after es
+    (unless (e.0 && is_saving s c r e.1) x.step.response, x.step.row)
+    ∷ answers_with s x.layer x.step.after es
 
 -- None of these events reads secret data when it comes.
 abbrev pub NoneReadsWith : Secrecy → Completion → Record → Completions → Type 0
 NoneReadsWith s c r [] = Unit {0}
 NoneReadsWith s c r (e ∷ es) =
     let x : Seen = completed e.0 c r e.1 in
-    (is_reading_with s e.0 c r e.1 ≡ false) × NoneReadsWith s x.layer x.step.after es
+    (is_reading s r e.1 ≡ false) × NoneReadsWith s x.layer x.step.after es
 
 -- These events are the same, and the layer completes the same ones; but objects that they place may
 -- differ in secrets.
@@ -160,11 +173,11 @@ CompletionsAlike s [] (f ∷ fs) = ⊥
 CompletionsAlike s (e ∷ es) [] = ⊥
 
 -- Two devices differ in secret data alone, and have the same layer. They answer alike until an
--- event reads these data.
+-- event reads these data; except with contexts of objects that have secret data.
 abbrev pub CompletedRunTellsNothing : Type 0
 CompletedRunTellsNothing =
     (indices : ℕ → Bool) (objects : Public → Bool) (one other : Record) (c : Completion)
     (events others : Completions)
     → let s : Secrecy = of_data indices objects in
     DifferInSecrets s one other → CompletionsAlike s events others → NoneReadsWith s c one events
-    → answers_with c one events ≡ answers_with c other others
+    → answers_with s c one events ≡ answers_with s c other others

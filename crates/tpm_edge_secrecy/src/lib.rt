@@ -10,7 +10,7 @@
 ghost use Rattle.tpm_edge_secrecy.specs.Layer.{CompletedRunTellsNothing};
 ghost use Rattle.tpm_edge_secrecy.specs.Layer.{CompletedTellsNothing};
 ghost use Rattle.tpm_edge_secrecy.specs.Layer.{LayerAnswersAlike, LayerForgetsAlike};
-ghost use Rattle.tpm_edge_secrecy.specs.Layer.{LayerLoadsAlike};
+ghost use Rattle.tpm_edge_secrecy.specs.Layer.{LayerLoadsAlike, LayerSavesAlike};
 ghost use Rattle.tpm_edge_secrecy.specs.Opened.{OpenedDataNeedPolicy};
 
 /// The completing layer reveals which of ownerAuth, endorsementAuth and lockoutAuth are empty, and
@@ -24,6 +24,7 @@ ghost use Rattle.tpm_edge_secrecy.specs.Opened.{OpenedDataNeedPolicy};
 #[inline(always)]
 pub fn layer_laws()
     ensures answers { LayerAnswersAlike }
+    ensures saves { LayerSavesAlike }
     ensures loads { LayerLoadsAlike }
     ensures forgets { LayerForgetsAlike }
     ensures event { CompletedTellsNothing }
