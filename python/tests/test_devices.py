@@ -28,6 +28,7 @@ from tpmsim.model.player import played
 from tpmsim.model.protection import Lockout
 from tpmsim.standard import RH_OWNER
 from programs import NEEDS_SIMULATOR, running, simulator
+from states import without_start
 from twenty import TwentyTests
 
 SEED = b"seed"
@@ -275,7 +276,7 @@ class Devices(unittest.TestCase):
             exec(code.removeprefix("python"), {})
             text = pathlib.Path("before.state").read_bytes()
             with KeptDevice("tpm") as device:
-                self.assertEqual(device.snapshot(), text)
+                self.assertEqual(without_start(device.snapshot()), without_start(text))
 
 
 class Documented(unittest.TestCase):

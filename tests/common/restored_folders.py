@@ -22,6 +22,10 @@ FOLDER, KEPT, TEXT, NEVER = (
 WORDS = ["restore", str(FOLDER), str(TEXT)]
 AT_MOST_SECONDS = 30
 
+# The offset of the start of the layer from the end of a state text, and the sizes of the start and of
+# the digest at the end.
+START_AT, START_BYTES, DIGEST_BYTES = -176, 8, 32
+
 
 def device(program: str, folder: pathlib.Path, script: bytes) -> bytes:
     """Returns the state text of a device after a script."""
@@ -37,6 +41,14 @@ def snapshot(program: str, folder: pathlib.Path) -> bytes:
     if told.status != 0:
         fail(f"there is no device: {told}")
     return bytes(told.output)
+
+
+def is_other(found: bytes, wanted: bytes) -> bool:
+    """Whether two state texts differ. A restored device has a new start of its completing layer, so
+    the start does not count, nor does the digest after it.
+    """
+    parts = (slice(START_AT), slice(START_AT + START_BYTES, -DIGEST_BYTES))
+    return any(found[part] != wanted[part] for part in parts)
 
 
 def fresh(there: bool) -> None:
@@ -81,7 +93,7 @@ def kills(program: Tears, old: bytes, new: bytes) -> None:
                 fresh(there)
                 continue
             wanted = new if is_renamed(at) or not there else old
-            if snapshot(program.program, FOLDER) != wanted:
+            if is_other(snapshot(program.program, FOLDER), wanted):
                 fail(f"killed before call {at}, {Tears.noted()[at - 1]}: another device")
             fresh(there)
         print(
@@ -101,7 +113,7 @@ def failures(program: Tears, old: bytes, new: bytes) -> None:
             break
         found = snapshot(program.program, FOLDER)
         wanted = new if ending.status == 0 or is_renamed(at) else old
-        if found != wanted:
+        if is_other(found, wanted):
             fail(f"call {at}, {Tears.noted()[at - 1]}, failed: another device, {ending}")
         told.add((ending.status, ending.error.decode()))
     for status, error in sorted(told):

@@ -2,6 +2,7 @@
  * journals and devices; it uses a keeper only for the text of a new device. */
 #ifndef KEEPER_FOLD_H
 #define KEEPER_FOLD_H
+#include "../common/same_state.h"
 #include "keeper_folder.h"
 
 /* The head after every EACHth command is kept, to go back to it. */
@@ -125,14 +126,27 @@ static inline size_t fold_executes(const uint8_t *text, size_t size, uint8_t *re
     return answered.size + TPMSIM_REPORT_SIZE;
 }
 
-/* A power cycle makes the device of its own image, as power comes on. */
+/* Lets the completing layer forget the contexts of sessions that have ended: it does so after every
+ * command, and an empty command changes nothing else. */
+static inline void fold_forgets_sessions(void) {
+    static const uint8_t random[RANDOM_BYTES];
+    uint8_t response[RESPONSE_BYTES];
+    tpmsim_answered answered;
+    must(tpmsim_complete(&fold.device, random, 0, 0, 0, random, response, &answered) == TPMSIM_DONE,
+         "an empty command is not executed");
+}
+
+/* After a power cycle, the journal begins with the state of the device. The layer keeps its start. */
 static inline size_t fold_cycles(const uint8_t *text) {
     static uint8_t seed[HEAD_BYTES];
-    seed[0] = 1;
-    memcpy(seed + 1, text + 1, 16);
-    size_t size = 17 + tpmsim_save(&fold.device, seed + 17, sizeof seed - 17);
-    size_t head = head_of_seed(seed, size);
-    must(head > 0, "an image is none");
+    must(tpmsim_power_cycle(&fold.device) == TPMSIM_DONE, "the power is not cycled");
+    fold_forgets_sessions();
+    seed[0] = 2;
+    memcpy(seed + 1, text + 1, 8);
+    size_t size = tpmsim_snapshot(&fold.device, seed + 17, sizeof seed - 17);
+    memcpy(seed + 9, seed + 17 + start_at(size), START_SIZE);
+    size_t head = head_of_seed(seed, 17 + size);
+    must(head > 0, "a state text is none");
     fold_opens(head_text, head);
     fold.time = number_at(text + MOMENT_AT, 8);
     return 0;

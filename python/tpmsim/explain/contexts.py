@@ -40,7 +40,7 @@ class Contexts:
         if model.proofs[saved.head.hierarchy] != saved.proof:
             ended = "TPM2_Clear changed the proof of its hierarchy"
         elif now.start != then.start:
-            ended = "the completing layer has started again, as after each power cycle"
+            ended = "the completing layer has started again"
         elif now.resets != then.resets:
             ended = "a TPM Reset or TPM2_Clear changed resetCount"
         elif saved.head.saved_handle != ST_CLEAR:

@@ -1,0 +1,12 @@
+"""State texts without the start of the completing layer, which a restored device of a folder has
+anew.
+"""
+
+from tpmsim.model import state_text
+
+
+def without_start(text):
+    model, layer = state_text.open_state(bytes(text))
+    if layer is not None:
+        layer.start = 0
+    return state_text.state_text(model, layer)

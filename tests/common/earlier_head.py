@@ -1,0 +1,54 @@
+"""Turns the head of a journal into one of version 1, as an earlier version of the program wrote it:
+
+    tools/python.sh earlier_head.py JOURNAL
+
+The state text in the head then has two more numbers for each slot of an object, which are 0. The
+sums of the head and of all records are right.
+"""
+
+import pathlib
+import sys
+
+from tpmsim.model import image, state_text
+from tpmsim.model.object_commands import OBJECTS
+from tpmsim.records.marks import Mark, sum_from, sum_of, OFFSET_BASIS
+from tpmsim.standard import number
+
+# The sizes of the layer's last numbers, those of the sessions, and of the numbers that version 1 has
+# before them.
+OF_SESSIONS, OF_OBJECTS = 8 * 16, 2 * 8 * OBJECTS
+
+
+def earlier(text: bytes) -> bytes:
+    """Returns the text of version 1 with the same content."""
+    body = text[image.HEAD_BYTES : -image.DIGEST_AT_END]
+    front, sessions = body[:-OF_SESSIONS], body[-OF_SESSIONS:]
+    return image.digested(1, front + bytes(OF_OBJECTS) + sessions, state_text.MAGIC)
+
+
+def marked(line: bytes, total: int) -> tuple[bytes, int]:
+    """Returns a line of the journal, a mark with its new sum, and the sum after it."""
+    mark = Mark.read(line)
+    if mark is None:
+        return line, total
+    total = sum_from(total, mark.text)
+    return b"# %s %016x" % (mark.text.hex().encode(), total), total
+
+
+def main(path: str) -> None:
+    journal = pathlib.Path(path)
+    first, second, *lines = journal.read_bytes().split(b"\n")
+    text = earlier(bytes.fromhex(second.removeprefix(b"# ").decode("ascii")))
+    clock = bytes.fromhex(first.split()[4].decode("ascii"))[:8]
+    mark = clock + number(len(text), 4) + number(sum_of(text), 8)
+    total = sum_from(OFFSET_BASIS, mark)
+    head = b"# tpmsim journal 2 %s %016x\n# %s" % (mark.hex().encode(), total, text.hex().encode())
+    done = [head]
+    for line in lines:
+        line, total = marked(line, total)
+        done.append(line)
+    journal.write_bytes(b"\n".join(done))
+
+
+if __name__ == "__main__":
+    main(*sys.argv[1:])
