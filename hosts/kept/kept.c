@@ -31,9 +31,10 @@ static bool renew(struct kept *kept, struct reason *reason) {
     return true;
 }
 
-/* Determines the time of a manufacture or power cycle from the host's clock, and a number for
- * the start of the completing layer that no earlier start had. The number is combined with the
- * clock, because reproducible runs repeat their random bytes. */
+/* Determines the time of a manufacture, restore or power cycle from the host's clock, and a number
+ * for the start of the completing layer that no earlier start had. A power cycle does not use the
+ * number. The number is combined with the clock, because reproducible runs repeat their random
+ * bytes. */
 static bool tell_start(struct kept *kept, uint64_t *now_ms, uint64_t *start,
                        struct reason *reason) {
     if (!renew(kept, reason) || !tell_now(kept, now_ms, reason)) return false;

@@ -135,6 +135,25 @@ cp -R second bent_state && cp none bent_state/journal
 run 'a device of no state' power bent_state
 cmp none bent_state/journal && rm none
 
+# head_text JOURNAL: prints the state text in the head of a journal.
+head_text() {
+    sed -n '2s/^# //p' "$1" | python3 -c 'import sys; sys.stdout.buffer.write(bytes.fromhex(sys.stdin.read()))'
+}
+
+# A journal whose head is of version 1 is not opened. Its state text can be restored.
+cp -R second earlier
+python3 "$tests/common/earlier_head.py" earlier/journal
+cp earlier/journal earlier_journal
+run 'a journal of version 1' replay earlier/journal
+run 'a device of version 1' run --state earlier one
+run 'its snapshot' snapshot earlier
+cmp earlier_journal earlier/journal
+head_text earlier/journal >earlier_text
+head_text second/journal >later_text
+run 'its state text' restore from_earlier earlier_text
+"$program" snapshot from_earlier >again
+same_device 'the device of version 1' later_text again
+
 # Other faults.
 run 'no such text' restore first nothing
 run 'a folder in the place of the text' restore first second

@@ -288,7 +288,13 @@ impl Parts {
     {
         let mut layer = self.journal.layer;
         let outcome = &mut self.outcome;
-        complete(&mut self.machine, &mut layer, true, &Event::PowerCycle, outcome);
+        complete(
+            &mut self.machine,
+            &mut layer,
+            true,
+            &Event::PowerCycle,
+            outcome,
+        );
         self.begin_journal(now_ms, layer);
     }
 

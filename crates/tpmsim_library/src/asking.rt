@@ -58,8 +58,8 @@ pub extern "C" fn tpmsim_keeper_execute(
     }
 }
 
-/// Begins a power cycle at this time of the host's clock. The completing layer starts with the
-/// number `start`. On failure nothing changes.
+/// Begins a power cycle at this time of the host's clock. The number `start` has no effect. On
+/// failure nothing changes.
 #[unsafe(no_mangle)]
 pub extern "C" fn tpmsim_keeper_power(
     alloc: Global,

@@ -155,8 +155,7 @@ class KeptDevice(LocatedDevice):
         ...     before = device.snapshot()
         ...     Caller(device).start_up()
         ...     device.restore(before)
-        ...     device.snapshot() == before
-        True
+        ...     Caller(device).start_up()
         """
         return Snapshot(self.state(), self.at, events=self.events)
 
@@ -168,7 +167,7 @@ class KeptDevice(LocatedDevice):
 
     def restore(self, snapshot: object) -> None:
         """Restores a snapshot for every process that uses the device. The journal restarts from the
-        snapshot.
+        snapshot. The completing layer has a new start, so no earlier context can be loaded.
         """
         text = Snapshot.of(snapshot)
         if not self.holder:

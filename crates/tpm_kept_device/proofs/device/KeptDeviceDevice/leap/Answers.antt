@@ -35,9 +35,9 @@ returns-in-Ok-Cycle-clause-state c =
     let x = c.in-Ok-Cycle in
     let old : Parts = c.args.self.now.parts.value in
     let is : IsDeviceState (state_of old) = subst (λ (p : Parts). IsDeviceState (state_of p)) c.deref.ensures c.read_widths.ensures in
-    led old c.args.command.now (kept.Cycles x.now_ms x.start) (state_of c.cycle_power.new.self) is
-    (read_so c.args.command.now (kept.Cycles x.now_ms x.start) x.field-0 x.ensures.value (ap plain_command x.field-0-is))
-    (c.cycle_power.ensures ∙ ap (λ (p : Parts). cycled_at (state_of p) x.now_ms x.start) c.deref_mut.ensures.value)
+    led old c.args.command.now (kept.Cycles x.now_ms x.field-0-1) (state_of c.cycle_power.new.self) is
+    (read_so c.args.command.now (kept.Cycles x.now_ms x.field-0-1) x.field-0 x.ensures.value (ap plain_command x.field-0-is))
+    (c.cycle_power.ensures ∙ ap (λ (p : Parts). cycled_at (state_of p) x.now_ms) c.deref_mut.ensures.value)
 
 pub returns-in-Ok-Begin-clause-state : goal.returns-in-Ok-Begin-clause-state
 returns-in-Ok-Begin-clause-state c =
