@@ -21,7 +21,7 @@ use Rattle.tpm_completion.specs.Context.{names_session, token_at}
 use Rattle.tpm_completion.specs.Hashing.{hash_row}
 use Rattle.tpm_completion.specs.Loading.{placed_reply}
 use Rattle.tpm_completion.specs.Reply.{capability_asked, command_reply, is_stirred, listed, stands, load_asked, probed, replied, reply, reply_by, row_served, save_asked, served, stirred}
-use Rattle.tpm_completion.specs.Saving.{Reply, handle_given, refused, with_session, loaded, loaded_by, next_number, object_numbered, object_saved, place_named, saved, session_loaded, session_numbered, session_saved}
+use Rattle.tpm_completion.specs.Saving.{Reply, handle_given, refused, with_session, loaded, loaded_by, next_number, object_numbered, object_saved, place_named, saved, session_numbered, session_saved}
 use Rattle.tpm_completion.specs.Testing.{incremental_row, test_parms_row, test_result_row}
 use Rattle.tpm_completion.specs.declared.capability.Asked.{Asked}
 use Rattle.tpm_completion.specs.declared.completion.Completion.{Completion}
