@@ -1,5 +1,5 @@
-"""State texts without the start of the completing layer, which a restored device of a folder has
-anew.
+"""State texts without the start of the completing layer: a device that is restored into a folder
+gets a new start.
 """
 
 from tpmsim.model import state_text
