@@ -3,4 +3,5 @@ pub mod Listed
 pub mod Buffers
 pub mod Saving
 pub mod Loading
+pub mod Starts
 pub mod Validity

@@ -1,5 +1,5 @@
 -- Which commands leave contexts valid.
-use Rattle.std.proofs.Common.{◌≡◌, ◌≢◌, ℕ, Bool, true, false, List, Result, Ok, Err, IfOk, refl, sym, ap, subst, ◌∙◌}
+use Rattle.std.proofs.Common.{◌≡◌, ◌≢◌, ℕ, ◌==◌, Bool, true, false, List, Option, Some, None, Result, Ok, Err, IfOk, refl, sym, ap, subst, ◌∙◌}
 use Rattle.std.proofs.lemmas.Bool.{false≢true}
 use Rattle.tpm_commands.specs.CommandCode.{code_number, part_of}
 use Rattle.tpm_commands.specs.Part as part
@@ -8,7 +8,6 @@ use Rattle.tpm_commands.specs.declared.command_code.CommandCode.{CommandCode}
 use Rattle.tpm_commands.specs.declared.command_code.CommandCode.TheVariants as command
 use Rattle.tpm_record.specs.Hierarchy.{secrets_of}
 use Rattle.tpm_record.specs.Record.{Record}
-use Rattle.tpm_record.specs.Tick.{ticked}
 use Rattle.tpm_record.specs.declared.fixed.Fixed.{Fixed}
 use Rattle.tpm_record.specs.declared.hierarchy.Hierarchies.{Hierarchies}
 use Rattle.tpm_record.specs.declared.hierarchy.Secrets.{Secrets}
@@ -16,15 +15,25 @@ use Rattle.tpm_record.specs.rows.Rows.{Success}
 use Rattle.tpm_step.proofs.rows.Acceptance.{accepted_is}
 use Rattle.tpm_step.proofs.rows.Leaving.{success_leaves}
 use Rattle.tpm_step.proofs.rows.Table.{row_touches}
-use Rattle.tpm_step.specs.Step.{Accepted, accepted, stepped_of, success_step}
 use Rattle.tpm_step.specs.Table.{row_of}
 use Rattle.tpm_step.specs.declared.refused_command.RefusedCommand.{RefusedCommand}
 use Rattle.tpm_step.specs.rows.Acceptance.{IsAcceptance, LeavesEffect}
 use Rattle.tpm_step.specs.rows.Footprint.{KeepsSecrets, Touches}
-use Rattle.tpm_context.specs.Meaning.{restart_of}
-use Rattle.tpm_context.specs.declared.binding.Binding.{Binding}
+use Rattle.tpm_completion.specs.Completed.{completed, done_behind, loaded_behind, passed}
+use Rattle.tpm_completion.specs.Completion.{forgotten}
+use Rattle.tpm_completion.specs.Execution.{Seen, asked_behind, opened_behind}
+use Rattle.tpm_completion.specs.Loaded.{StaysValid}
 use Rattle.tpm_completion.specs.Saving.{binding_of}
 use Rattle.tpm_completion.specs.declared.completion.Completion.{Completion}
+use Rattle.tpm_context.specs.Meaning.{restart_of}
+use Rattle.tpm_context.specs.declared.binding.Binding.{Binding}
+use Rattle.tpm_context.specs.declared.fault.ContextFault.{ContextFault}
+use Rattle.tpm_object.specs.declared.object.Object.{Object}
+use Rattle.tpm_record.specs.Objects.{next_handle}
+use Rattle.tpm_record.specs.Tick.{ticked}
+use Rattle.tpm_step.specs.Events.{Given, PlainEvent}
+use Rattle.tpm_step.specs.Step.{Accepted, accepted, step, stepped_of, success_step}
+use Rattle.tpm_completion_laws.proofs.Starts.{placed_starts, reply_starts}
 use Rattle.tpm_completion_laws.specs.Objects.{StaysValidThrough}
 
 -- The proofs of the hierarchies and the counts are the same.
@@ -110,18 +119,59 @@ stepped_keeps t locality random (Ok a) is no_startup no_clear =
     (left_keeps a.success.after (success_step a random).after (success_leaves a random))
 stepped_keeps t locality random (Err e) is no_startup no_clear = same_keeps _ _ refl refl refl
 
-same_binding : (r later : Record) (c : Completion) → later.fixed.reset_count ≡ r.fixed.reset_count → later.fixed.restart_count ≡ r.fixed.restart_count → binding_of later c ≡ binding_of r c
-same_binding r later c reset restart = rw (reset, restart) refl
+-- ---- the layer
+
+-- Something leaves contexts valid: it keeps the proofs, the counts and the start of the layer.
+record Leaves (r : Record) (c : Completion) (seen : Seen) : Type 0 where
+  fixed : Keeps r.fixed seen.step.after.fixed
+  start : seen.layer.start ≡ c.start
+
+loaded_leaves : (first : Seen) (opened : Result Object ContextFault) → Leaves first.step.after first.layer (loaded_behind first opened)
+loaded_leaves first (Ok object) = record {
+  fixed = nothing_changed first.step.after.fixed;
+  start = placed_starts first.layer (next_handle first.step.after.objects);
+}
+loaded_leaves first (Err fault) = record { fixed = nothing_changed first.step.after.fixed; start = refl }
+
+done_leaves : (first : Seen) (buffer : List ℕ) (asked : Option (List ℕ)) → Leaves first.step.after first.layer (done_behind first buffer asked)
+done_leaves first buffer (Some context) = loaded_leaves first (opened_behind first context)
+done_leaves first buffer None = record {
+  fixed = nothing_changed first.step.after.fixed;
+  start = reply_starts first.step.after first.layer buffer first.step.response (first.step.row.check == 0);
+}
+
+passed_leaves : (r : Record) (c : Completion) (event : PlainEvent) → Keeps r.fixed (step r event).after.fixed → Leaves r c (passed c r event)
+unfolding passed forgotten
+passed_leaves r c event keeps = record { fixed = keeps; start = refl }
+
+completed_leaves : (completes : Bool) (r : Record) (c : Completion) (buffer : List ℕ) (locality elapsed : ℕ) (random : List ℕ)
+    → Keeps r.fixed (step r (Given buffer locality elapsed random)).after.fixed → Leaves r c (completed completes c r (Given buffer locality elapsed random))
+completed_leaves false r c buffer locality elapsed random keeps = passed_leaves r c (Given buffer locality elapsed random) keeps
+completed_leaves true r c buffer locality elapsed random keeps =
+    let first = passed c r (Given buffer locality elapsed random) in
+    let one = passed_leaves r c (Given buffer locality elapsed random) keeps in
+    let two = done_leaves first buffer (asked_behind first buffer) in
+    record {
+      fixed = then_keeps r.fixed first.step.after.fixed _ one.fixed two.fixed;
+      start = two.start ∙ one.start;
+    }
+
+same_binding : (r later : Record) (c d : Completion) → d.start ≡ c.start → later.fixed.reset_count ≡ r.fixed.reset_count → later.fixed.restart_count ≡ r.fixed.restart_count → binding_of later d ≡ binding_of r c
+same_binding r later c d start reset restart = rw (start, reset, restart) refl
+
+left_valid : (r : Record) (c : Completion) (object : Object) (seen : Seen) → Leaves r c seen → StaysValid r seen.step.after c seen.layer object
+left_valid r c object seen leaves = record {
+  proof = ap (λ (s : Secrets). s.proof) (leaves.fixed.secrets object.hierarchy);
+  start = leaves.start;
+  reset_count = leaves.fixed.reset_count;
+  restart_count = ap (λ (b : Binding). restart_of b object)
+      (same_binding r seen.step.after c seen.layer leaves.start leaves.fixed.reset_count leaves.fixed.restart_count);
+}
 
 pub stays_valid_through : StaysValidThrough
-stays_valid_through r c object buffer locality elapsed random no_startup no_clear =
+stays_valid_through completes r c object buffer locality elapsed random no_startup no_clear =
     let t = ticked r elapsed in
-    let x = accepted t buffer locality random in
-    let keeps = stepped_keeps t locality random x (accepted_is t buffer locality random) no_startup no_clear in
-    record {
-      proof = ap (λ (s : Secrets). s.proof) (keeps.secrets object.hierarchy);
-      start = refl;
-      reset_count = keeps.reset_count;
-      restart_count = ap (λ (b : Binding). restart_of b object)
-          (same_binding r (stepped_of t random x).after c keeps.reset_count keeps.restart_count);
-    }
+    let keeps = stepped_keeps t locality random (accepted t buffer locality random) (accepted_is t buffer locality random) no_startup no_clear in
+    left_valid r c object (completed completes c r (Given buffer locality elapsed random))
+    (completed_leaves completes r c buffer locality elapsed random
+    (record { secrets = keeps.secrets; reset_count = keeps.reset_count; restart_count = keeps.restart_count }))

@@ -1,6 +1,6 @@
 -- What TPM2_ContextSave and TPM2_ContextLoad of an object do, as whole commands on a device with the
 -- layer. TPM 2.0 Library, Part 3, sections 28.2 and 28.3.
-use Rattle.std.specs.Prelude.{◌≡◌, ◌≢◌, ℕ, ◌+◌, ◌-◌, ◌<◌, ◌^◌, true, List, Option, Some, None}
+use Rattle.std.specs.Prelude.{◌≡◌, ◌≢◌, ℕ, ◌+◌, ◌-◌, ◌<◌, ◌^◌, Bool, true, List, Option, Some, None}
 use Rattle.std.specs.Int.{w32, to_be_bytes}
 use Rattle.tpm_object.specs.Object.{IsObject}
 use Rattle.tpm_object.specs.declared.object.Object.{Object}
@@ -89,12 +89,13 @@ LoadsObjects =
 
 -- ---- what ends the validity of a context
 
--- Every command of the device, such as TPM2_FlushContext of the object itself, leaves each context
--- valid, except TPM2_Startup and TPM2_Clear.
+-- Every command, such as TPM2_FlushContext of the object itself, leaves each context valid, with the
+-- layer or without it, unless the device executes a TPM2_Startup or a TPM2_Clear.
 abbrev pub StaysValidThrough : Type 0
 StaysValidThrough =
-    (r : Record) (c : Completion) (object : Object) (buffer : List ℕ) (locality elapsed : ℕ)
-    (random : List ℕ)
+    (completes : Bool) (r : Record) (c : Completion) (object : Object) (buffer : List ℕ)
+    (locality elapsed : ℕ) (random : List ℕ)
     → (step r (Given buffer locality elapsed random)).row.code ≢ code_number command.Startup
     → (step r (Given buffer locality elapsed random)).row.code ≢ code_number command.Clear
-    → StaysValid r (step r (Given buffer locality elapsed random)).after c c object
+    → let seen : Seen = completed completes c r (Given buffer locality elapsed random) in
+    StaysValid r seen.step.after c seen.layer object

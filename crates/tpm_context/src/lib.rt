@@ -1,8 +1,8 @@
 #![tactic(auto)]
 
 //! The context of a transient object (TPM 2.0 Library, Part 1, section 30): TPM2_ContextSave
-//! returns it, and TPM2_ContextLoad loads the object from it. The completing layer does not use
-//! this crate yet; its contexts are tokens.
+//! returns it, and TPM2_ContextLoad loads the object from it. The completing layer answers both
+//! commands with this crate.
 //!
 //! A context holds the whole object, encrypted, and an integrity value, which binds it to the proof
 //! of the object's hierarchy and to the device's count of TPM Resets ([`Binding`]). [`seal`] makes

@@ -1,0 +1,157 @@
+-- No answer of the layer changes its start.
+use Rattle.std.proofs.Common.{◌≡◌, ℕ, Bool, true, false, List, [], Option, Some, None, Result, Ok, Err, refl}
+use Rattle.std.specs.Prelude.{◌==◌, ◌&&◌, is_some, length, not, if◌then◌else◌}
+use Rattle.std.specs.Str.{bytes_eq}
+use Rattle.std.specs.Int.{w32}
+use Rattle.tpm_bytes.specs.Reading.{number_at, sized_at}
+use Rattle.tpm_bytes.specs.declared.cursor.Short.{Short}
+use Rattle.tpm_object.specs.declared.object.Object.{Object}
+use Rattle.tpm_record.specs.Objects.{object_at}
+use Rattle.tpm_record.specs.Record.{Record}
+use Rattle.tpm_types.specs.declared.handle.Handle.{Handle}
+use Rattle.tpm_types.specs.declared.refused.Refused.{Refused}
+use Rattle.tpm_session.specs.Sessions.{session_at}
+use Rattle.tpm_step.specs.Answer.{framed}
+use Rattle.tpm_types.specs.Handle.{is_session, is_transient, numbered}
+use Rattle.tpm_completion.specs.Answer.{is_refusal, refusal, success}
+use Rattle.tpm_completion.specs.Capability.{asked_at, capability_told}
+use Rattle.tpm_completion.specs.Command.{Command, plain_command, tag_of}
+use Rattle.tpm_completion.specs.Completion.{session_context}
+use Rattle.tpm_completion.specs.Context.{names_session, token_at}
+use Rattle.tpm_completion.specs.Hashing.{hash_row}
+use Rattle.tpm_completion.specs.Loading.{placed_reply}
+use Rattle.tpm_completion.specs.Reply.{capability_asked, command_reply, is_stirred, listed, stands, load_asked, probed, replied, reply, reply_by, row_served, save_asked, served, stirred}
+use Rattle.tpm_completion.specs.Saving.{Reply, handle_given, refused, with_session, loaded, loaded_by, next_number, object_numbered, object_saved, place_named, saved, session_numbered, session_saved}
+use Rattle.tpm_completion.specs.Testing.{incremental_row, test_parms_row, test_result_row}
+use Rattle.tpm_completion.specs.declared.capability.Asked.{Asked}
+use Rattle.tpm_completion.specs.declared.completion.Completion.{Completion}
+use Rattle.tpm_completion.specs.declared.context.Token.{Token}
+
+-- The layer after a reply has this start.
+record StartsAt (start : ℕ) (reply : Reply) : Type 0 where
+  is : reply.after.start ≡ start
+
+either : (b : Bool) (start : ℕ) (x y : Reply) → StartsAt start x → StartsAt start y → StartsAt start (if b then x else y)
+either true start x y h k = h
+either false start x y h k = k
+
+module _ (r : Record) (c : Completion) where
+  -- ---- saving
+
+  numbered_starts : (o : Object) (number : Option ℕ) → StartsAt c.start (object_numbered r c o number)
+  numbered_starts o (Some number) = record { is = refl }
+  numbered_starts o None = record { is = refl }
+
+  object_starts : (found : Option Object) → StartsAt c.start (object_saved r c found)
+  object_starts (Some o) = numbered_starts o (next_number c)
+  object_starts None = record { is = refl }
+
+  session_number_starts : (handle : Handle) (number : Option ℕ) → StartsAt c.start (session_numbered c handle number)
+  session_number_starts handle (Some number) = record { is = refl }
+  session_number_starts handle None = record { is = refl }
+
+  session_starts : (handle : Handle) (context : ℕ) → StartsAt c.start (session_saved r c handle context)
+  session_starts handle context =
+      either (is_some (session_at r.sessions handle) && (context == 0)) c.start (session_numbered c handle (next_number c)) (refused c 0x910)
+      (session_number_starts handle (next_number c)) (record { is = refl })
+
+  saved_starts : (handle : Handle) → StartsAt c.start (saved r c handle)
+  unfolding saved
+  saved_starts handle =
+      let session = session_saved r c handle (session_context c (place_named handle)) in
+      let other = refused c 0x184 in
+      either (is_transient handle) c.start (object_saved r c (object_at r.objects handle)) (if is_session handle then session else other)
+      (object_starts (object_at r.objects handle))
+      (either (is_session handle) c.start session other (session_starts handle (session_context c (place_named handle))) (record { is = refl }))
+
+  save_starts : (response : List ℕ) (handle : Result (ℕ × List ℕ) Short) → StartsAt c.start (save_asked r c response handle)
+  save_starts response (Ok handle) = either (length handle.1 == 0) c.start (saved r c (numbered handle.0)) (stands c response) (saved_starts (numbered handle.0)) (record { is = refl })
+  save_starts response (Err e) = record { is = refl }
+
+  -- ---- loading the context of a session
+
+  token_starts : (token : Result Token Short) → StartsAt c.start (loaded_by r c token)
+  token_starts (Ok token) =
+      either (is_some (session_at r.sessions token.handle) && (not (token.context == 0) && (token.context == session_context c (place_named token.handle)))) c.start
+      (handle_given (with_session c (place_named token.handle) 0) token.handle) (refused c 0x1cb) (record { is = refl }) (record { is = refl })
+  token_starts (Err e) = record { is = refl }
+
+  load_starts : (context response : List ℕ) → StartsAt c.start (load_asked r c context response)
+  unfolding loaded
+  load_starts context response =
+      either (names_session context) c.start (loaded_by r c (token_at c.start context)) (stands c response) (token_starts (token_at c.start context)) (record { is = refl })
+
+  -- ---- the other commands
+
+  row_starts : (row : Result (List ℕ) Refused) → StartsAt c.start (replied c row)
+  row_starts (Ok body) = record { is = refl }
+  row_starts (Err e) = record { is = refl }
+
+  rows_start : (command : Command) (response : List ℕ) → StartsAt c.start (row_served r c command response)
+  rows_start command response =
+      let one = replied c (incremental_row command.parameters) in
+      let two = replied c (test_result_row command.parameters) in
+      let three = replied c (hash_row r.fixed.hierarchies command.parameters) in
+      let four = replied c (test_parms_row command.parameters) in
+      let none = stands c response in
+      let after_three = if command.code == 0x18a then four else none in
+      let after_two = if command.code == 0x17d then three else after_three in
+      let after_one = if command.code == 0x17c then two else after_two in
+      either (command.code == 0x142) c.start one after_one (row_starts (incremental_row command.parameters))
+      (either (command.code == 0x17c) c.start two after_two (row_starts (test_result_row command.parameters))
+      (either (command.code == 0x17d) c.start three after_three (row_starts (hash_row r.fixed.hierarchies command.parameters))
+      (either (command.code == 0x18a) c.start four none (row_starts (test_parms_row command.parameters)) (record { is = refl }))))
+
+  stir_starts : (parameters response : List ℕ) → StartsAt c.start (stirred c parameters response)
+  stir_starts parameters response =
+      either (is_stirred (sized_at 128 parameters)) c.start (record { response = success []; after = c }) (stands c response) (record { is = refl }) (record { is = refl })
+
+  served_starts : (command : Command) (response : List ℕ) → StartsAt c.start (served r c command response)
+  served_starts command response =
+      let stir = stirred c command.parameters response in
+      let load = load_asked r c command.parameters response in
+      let save = save_asked r c response (number_at w32 command.parameters) in
+      let row = row_served r c command response in
+      let after_load = if command.code == 0x162 then save else row in
+      let after_stir = if command.code == 0x161 then load else after_load in
+      either (command.code == 0x146) c.start stir after_stir (stir_starts command.parameters response)
+      (either (command.code == 0x161) c.start load after_load (load_starts command.parameters response)
+      (either (command.code == 0x162) c.start save row (save_starts response (number_at w32 command.parameters)) (rows_start command response)))
+
+  listed_starts : (response : List ℕ) (text : Option (List ℕ)) → StartsAt c.start (listed c response text)
+  listed_starts response (Some text) = record { is = refl }
+  listed_starts response None = record { is = refl }
+
+  capability_starts : (response : List ℕ) (was_told : Bool) (asked : Result Asked Short) → StartsAt c.start (capability_asked r c response was_told asked)
+  capability_starts response was_told (Ok asked) = listed_starts response (capability_told r c asked was_told response)
+  capability_starts response was_told (Err e) = record { is = refl }
+
+  command_starts : (command : Command) (response : List ℕ) (was_told : Bool) → StartsAt c.start (command_reply r c command response was_told)
+  unfolding command_reply
+  command_starts command response was_told =
+      let none = stands c response in
+      let own = served r c command response in
+      let capability = capability_asked r c response was_told (asked_at command.parameters) in
+      let after_own = if command.code == 0x17a then capability else none in
+      let started = if is_refusal 0x143 response then own else after_own in
+      either (not r.fixed.started) c.start none started (record { is = refl })
+      (either (is_refusal 0x143 response) c.start own after_own (served_starts command response)
+      (either (command.code == 0x17a) c.start capability none (capability_starts response was_told (asked_at command.parameters)) (record { is = refl })))
+
+  probe_starts : (buffer response : List ℕ) → StartsAt c.start (probed c buffer response)
+  unfolding probed
+  probe_starts buffer response =
+      either ((tag_of buffer == 0xc1) && bytes_eq response (framed 0xc4 0x1e [])) c.start
+      (record { response = refusal 0x84; after = c }) (stands c response) (record { is = refl }) (record { is = refl })
+
+  by_starts : (buffer response : List ℕ) (was_told : Bool) (command : Result Command Short) → StartsAt c.start (reply_by r c buffer response was_told command)
+  by_starts buffer response was_told (Ok command) = command_starts command response was_told
+  by_starts buffer response was_told (Err e) = probe_starts buffer response
+
+  pub reply_starts : (buffer response : List ℕ) (was_told : Bool) → (reply r c buffer response was_told).after.start ≡ c.start
+  unfolding reply
+  reply_starts buffer response was_told = (by_starts buffer response was_told (plain_command buffer)).is
+
+pub placed_starts : (c : Completion) (handle : Option Handle) → (placed_reply c handle).after.start ≡ c.start
+placed_starts c (Some handle) = refl
+placed_starts c None = refl
