@@ -30,9 +30,9 @@ static bool renew(struct kept *kept, struct reason *reason) {
     return true;
 }
 
-/* The moment at which a device begins or its power is cycled: the host's clock, and a number for
- * the start of its completing layer, which no start before had. The clock makes another number of
- * random bytes that repeat. */
+/* The moment at which a device begins, is restored or is power-cycled: the host's clock, and a number
+ * for the start of its completing layer, which no start before had. A power cycle does not use the
+ * number. The clock makes another number of random bytes that repeat. */
 static bool tell_start(struct kept *kept, uint64_t *now_ms, uint64_t *start,
                        struct reason *reason) {
     if (!renew(kept, reason) || !tell_now(kept, now_ms, reason)) return false;

@@ -35,3 +35,11 @@ against() {
     shift 2
     LD_PRELOAD=$shim python3 "$played" "$dist/tpmsim" "$built" "$shim" "$@"
 }
+
+# swtpm_states SHARE: runs swtpm_states.py, with one of so many runs.
+swtpm_states() {
+    needs swtpm libtpms/tpm_library.h
+    "$top/hosts/build.sh" libtpms "$room/swtpm" || return 1
+    shim=$built/failing.so
+    LD_PRELOAD=$shim python3 "$tests/keeping/swtpm_states.py" "$room/swtpm" "$shim" "$1"
+}

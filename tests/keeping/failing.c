@@ -3,7 +3,8 @@
  * LD_PRELOAD loads this library. A program reads the environment variable FAILING: `NUMBER ACT
  * ERROR REPORT`. A caller in the same process calls failing_begins, and it calls failing_goes_on
  * before and after the calls that count. The name of the call with the fault is written to the
- * file REPORT. If FAILING_CLOCK is set, the clock jumps, by at most a day. */
+ * file REPORT. If FAILING_CLOCK is set, the clock jumps, by at most a day. If FAILING_IN is set,
+ * only calls count that name a path in this folder, or a file that is open there. */
 #define _GNU_SOURCE
 #include <errno.h>
 #include <fcntl.h>
@@ -40,6 +41,7 @@ static enum act act;
 static int error, is_on, jumps;
 static long number, counted;
 static char report[512], met[32], object[64];
+static const char *within;
 /* The addresses of an object. Only its calls for memory count. */
 static char *object_begins, *object_ends;
 
@@ -83,6 +85,7 @@ __attribute__((constructor)) static void begins(void) {
     long at;
     int how, with;
     jumps = getenv("FAILING_CLOCK") != NULL;
+    within = getenv("FAILING_IN");
     if (!told || sscanf(told, "%ld %d %d %511s", &at, &how, &with, path) != 4) return;
     failing_begins(at, how, with, path, "");
     is_on = 1;
@@ -107,9 +110,25 @@ static int may_meet(int kind, const void *caller) {
     return !(kind & CLOSES && (act == FAILS || act == FAILS_ON));
 }
 
+/* Returns the path of an open file, if only the calls of a folder count. */
+static const char *path_of(int file) {
+    static char path[512];
+    char link[32];
+    if (!within) return "";
+    snprintf(link, sizeof link, "/proc/self/fd/%d", file);
+    long size = syscall(SYS_readlinkat, AT_FDCWD, link, path, sizeof path - 1);
+    path[size < 0 ? 0 : size] = 0;
+    return path;
+}
+
+static int is_within(const char *path) {
+    size_t size = within ? strlen(within) : 0;
+    return !within || (strncmp(path, within, size) == 0 && (path[size] == '/' || !path[size]));
+}
+
 /* Returns the fault of this call. */
 static enum act meets(const char *name, int kind, const char *of, const void *caller) {
-    if (!is_on || act == PASSES || !may_meet(kind, caller)) return PASSES;
+    if (!is_on || act == PASSES || !may_meet(kind, caller) || !is_within(of)) return PASSES;
     long at = ++counted;
     int again = (act == FAILS_ON && at > number && strcmp(name, met) == 0) ||
                 (act == STORMS && at > number && at < number + STORM);
@@ -152,12 +171,15 @@ static size_t half(enum act how, size_t size) {
     type large_##name words __asm__(#name "64");                                                   \
     type large_##name words MET(type, #name, kind, of, real)
 
-CALL_TWICE(ssize_t, pread, MOVES | WAITS, "", (int file, void *bytes, size_t size, off_t at),
+CALL_TWICE(ssize_t, pread, MOVES | WAITS, path_of(file),
+           (int file, void *bytes, size_t size, off_t at),
            syscall(SYS_pread64, file, bytes, half(how, size), at))
-CALL_TWICE(ssize_t, pwrite, MOVES | WAITS, "", (int file, const void *bytes, size_t size, off_t at),
+CALL_TWICE(ssize_t, pwrite, MOVES | WAITS, path_of(file),
+           (int file, const void *bytes, size_t size, off_t at),
            syscall(SYS_pwrite64, file, bytes, half(how, size), at))
-CALL_TWICE(int, ftruncate, WAITS, "", (int file, off_t size), syscall(SYS_ftruncate, file, size))
-CALL_TWICE(int, fstat, OTHER, "", (int file, struct stat *status),
+CALL_TWICE(int, ftruncate, WAITS, path_of(file), (int file, off_t size),
+           syscall(SYS_ftruncate, file, size))
+CALL_TWICE(int, fstat, OTHER, path_of(file), (int file, struct stat *status),
            syscall(SYS_newfstatat, file, "", status, AT_EMPTY_PATH))
 CALL_TWICE(int, fstatat, OTHER, path,
            (int folder, const char *path, struct stat *status, int flags),
@@ -169,12 +191,14 @@ CALL_TWICE(int, lstat, OTHER, path, (const char *path, struct stat *status),
 CALL(int, statx, OTHER, path,
      (int folder, const char *path, int flags, unsigned mask, struct statx *told),
      syscall(SYS_statx, folder, path, flags, mask, told))
-CALL(int, fsync, WAITS, "", (int file), syscall(SYS_fsync, file))
-CALL(int, fdatasync, WAITS, "", (int file), syscall(SYS_fdatasync, file))
-CALL(int, syncfs, OTHER, "", (int file), syscall(SYS_syncfs, file))
-CALL(int, flock, WAITS, "", (int file, int how_locked), syscall(SYS_flock, file, how_locked))
-CALL(int, close, CLOSES, "", (int file), syscall(SYS_close, file))
-CALL(int, fchmod, OTHER, "", (int file, mode_t mode), syscall(SYS_fchmod, file, mode))
+CALL(int, fsync, WAITS, path_of(file), (int file), syscall(SYS_fsync, file))
+CALL(int, fdatasync, WAITS, path_of(file), (int file), syscall(SYS_fdatasync, file))
+CALL(int, syncfs, OTHER, path_of(file), (int file), syscall(SYS_syncfs, file))
+CALL(int, flock, WAITS, path_of(file), (int file, int how_locked),
+     syscall(SYS_flock, file, how_locked))
+CALL(int, close, CLOSES, path_of(file), (int file), syscall(SYS_close, file))
+CALL(int, fchmod, OTHER, path_of(file), (int file, mode_t mode),
+     syscall(SYS_fchmod, file, mode))
 CALL(int, chmod, OTHER, path, (const char *path, mode_t mode),
      syscall(SYS_fchmodat, AT_FDCWD, path, mode))
 CALL(int, fchmodat, OTHER, path, (int folder, const char *path, mode_t mode, int flags),
@@ -186,6 +210,7 @@ CALL(int, mkdirat, OTHER, path, (int folder, const char *path, mode_t mode),
 CALL(int, unlink, OTHER, path, (const char *path), syscall(SYS_unlinkat, AT_FDCWD, path, 0))
 CALL(int, unlinkat, OTHER, path, (int folder, const char *path, int flags),
      syscall(SYS_unlinkat, folder, path, flags))
+CALL(int, remove, OTHER, path, (const char *path), syscall(SYS_unlinkat, AT_FDCWD, path, 0))
 CALL(int, rename, OTHER, path, (const char *path, const char *name),
      syscall(SYS_renameat2, AT_FDCWD, path, AT_FDCWD, name, 0))
 CALL(int, renameat, OTHER, path, (int folder, const char *path, int into, const char *name),
@@ -202,13 +227,13 @@ CALL(int, madvise, OTHER, "", (void *page, size_t size, int advice),
 
 /* Calls on the standard streams do not count: they belong to the caller. */
 ssize_t read(int file, void *bytes, size_t size) {
-    enum act how = file < 3 ? PASSES : meets("read", MOVES | WAITS, "", NULL);
+    enum act how = file < 3 ? PASSES : meets("read", MOVES | WAITS, path_of(file), NULL);
     if (is_refused(how)) return -1;
     return after(how, syscall(SYS_read, file, bytes, half(how, size)));
 }
 
 ssize_t write(int file, const void *bytes, size_t size) {
-    enum act how = file < 3 ? PASSES : meets("write", MOVES | WAITS, "", NULL);
+    enum act how = file < 3 ? PASSES : meets("write", MOVES | WAITS, path_of(file), NULL);
     if (is_refused(how)) return -1;
     return after(how, syscall(SYS_write, file, bytes, half(how, size)));
 }

@@ -14,14 +14,19 @@
 -- or after it, finish an operation and still report an error, die at any byte, and fork. A fork has
 -- the memory of its parent, and no lock. Each has a word of force of its own.
 --
+-- A host whose write fails cuts the file back. If the write left part of an entry, this is another
+-- process here, which takes the lock next and dies after its cut (`Dies p (Part 0)`).
+--
 -- What is left out: what processes read after a failed force, where the system then shows older
 -- bytes (a holder opens the file again if it has fewer, and does not notice others in their place);
--- a crash that mixes blocks of two contents; a disk that says forced and has not; file systems that
--- leave a file without bytes and with later ones, as ext4 and XFS may, or take back one of two
--- renames; a folder whose force fails and then succeeds without the rename; a sector that is torn
--- over bytes that were forced before; network file systems, whose locks and renames are seen
--- late; two hosts on one folder; the lock's file removed under its holder; anybody else who writes
--- to the folder.
+-- a write that left a whole entry, was reported as failed, and is cut back; a crash that mixes
+-- blocks of two contents; a disk that says forced and has not; file systems that leave a file
+-- without bytes and with later ones, as ext4 and XFS may, or take back one of two renames; a folder
+-- whose force fails and then succeeds without the rename; a sector that is torn over bytes that
+-- were forced before; the folder's own name in the folder above, which hosts force with the folder;
+-- the journals of the past, which hosts link before a rename; what is in a command, as its time and
+-- its random bytes; network file systems, whose locks and renames are seen late; two hosts on one
+-- folder; the lock's file removed under its holder; anybody else who writes to the folder.
 use Rattle.std.specs.Prelude.{◌≡◌, ℕ, zero, suc, ◌+◌, ◌-◌, ◌<◌, ◌≤◌, ◌==◌, ◌&&◌, Bool, true, false, cond, List, [], ◌∷◌, ◌++◌, drop, length, max, min, nat_le, take, Option, Some, None}
 use Rattle.tpm_keeping.specs.Journal.{Entered, Journal, Spot, entries, run, started, trail, whole_in}
 use Rattle.tpm_keeping.specs.Holder.{Holder, Told, Done, Stands, Gone, Bytes, Failed, Starved, asked, is_never, newborn, next_in, rests, sure}

@@ -1,3 +1,3 @@
-pub mod Answer
 pub mod Fault
 pub mod Stop
+pub mod Tracing

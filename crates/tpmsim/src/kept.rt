@@ -5,16 +5,15 @@
 //!
 //! [`Kept`] is a kept device: it does in the folder what the keeper asks for. Several processes may
 //! hold one at the same time. [`playing`] plays a script on it, and [`serving`] serves it on a
-//! connection. [`answer`] reads the keeper's responses. The folder, its lock and what faults say of
-//! it are in tpmsim_folder.
+//! connection. The folder, its lock and what faults say of it are in tpmsim_folder.
 
-mod answer;
 mod keeping;
 mod playing;
 mod said;
 mod serving;
 mod stop;
 mod tail;
+mod tracing;
 
 pub use keeping::Kept;
 pub use playing::play;

@@ -48,7 +48,7 @@ pub struct Folder {
     user: u32,
     /// Whether this process made the folder.
     was_made: bool,
-    /// Whether this process has forced the folder's own name to the disk.
+    /// Whether this process has forced the folder's own name to the disk, or may not.
     is_named: bool,
 }
 
@@ -137,21 +137,23 @@ impl Folder {
     }
 
     /// Forces the names of the folder's files to the disk, and at first the folder's own name too.
-    /// Whoever made the folder or its files may have been killed before that.
-    pub fn force(&mut self, rt: &HostRuntime) -> Result<(), KeptFault> {
+    /// Whoever made the folder or its files may have been killed before that. Returns whether this
+    /// call left the folder's own name out, because the user may not read the folder above.
+    pub fn force(&mut self, rt: &HostRuntime) -> Result<bool, KeptFault> {
         match self.force_names(rt) {
-            Ok(()) => Ok(()),
+            Ok(is_left_out) => Ok(is_left_out),
             Err(error) => Err(fault_of(&error, Place::Folder, Said::CannotBeForced)),
         }
     }
 
-    fn force_names(&mut self, rt: &HostRuntime) -> io::Result<()> {
+    fn force_names(&mut self, rt: &HostRuntime) -> io::Result<bool> {
         fs::open(rt, self.path.as_str())?.sync_all()?;
-        if !self.is_named {
-            force_above(rt, self.path.as_str(), self.was_made)?;
-            self.is_named = true;
+        if self.is_named {
+            return Ok(false);
         }
-        Ok(())
+        let is_forced = force_above(rt, self.path.as_str(), self.was_made)?;
+        self.is_named = true;
+        Ok(!is_forced)
     }
 }
 
@@ -222,13 +224,17 @@ fn create(rt: &HostRuntime, path: &str) -> io::Result<File> {
         .open(rt, path)
 }
 
-/// Forces the folder above this one to the disk. One that the user may not read is left alone,
-/// unless this process made the folder.
-fn force_above(rt: &HostRuntime, path: &str, was_made: bool) -> io::Result<()> {
+/// Forces the folder above this one to the disk, and returns whether it did. One that the user may
+/// not read is left alone, unless this process made the folder: it cannot be opened, and only an
+/// open file can be forced.
+fn force_above(rt: &HostRuntime, path: &str, was_made: bool) -> io::Result<bool> {
     let above = format!(in rt.alloc(); "{path}/..")?;
     match fs::open(rt, above.as_str()) {
-        Ok(above) => above.sync_all(),
-        Err(error) if !was_made && error.kind() == ErrorKind::PermissionDenied => Ok(()),
+        Ok(above) => {
+            above.sync_all()?;
+            Ok(true)
+        }
+        Err(error) if !was_made && error.kind() == ErrorKind::PermissionDenied => Ok(false),
         Err(error) => Err(error),
     }
 }

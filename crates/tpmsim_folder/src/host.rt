@@ -218,8 +218,8 @@ impl<'a> Host<'a> {
         }
     }
 
-    /// Forces the folder to the disk.
-    pub fn settle(&mut self) -> Result<(), KeptFault> {
+    /// Forces the folder to the disk. Returns whether the folder's own name was left out.
+    pub fn settle(&mut self) -> Result<bool, KeptFault> {
         self.folder.force(self.rt)
     }
 }

@@ -58,8 +58,8 @@ pub extern "C" fn tpmsim_keeper_execute(
     }
 }
 
-/// Begins a power cycle at this time of the host's clock, with this number for the start of the
-/// completing layer. Otherwise nothing has changed.
+/// Begins a power cycle at this time of the host's clock. The number `start` has no effect.
+/// Otherwise nothing has changed.
 #[unsafe(no_mangle)]
 pub extern "C" fn tpmsim_keeper_power(
     alloc: Global,

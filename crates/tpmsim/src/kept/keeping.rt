@@ -1,15 +1,15 @@
 //! A device that is kept in a folder: a keeper, and its host.
 
-ghost use Rattle.std.specs.Prelude.{IfOk};
-ghost use Rattle.tpmsim.specs.kept.Answer.{IsTraced};
+ghost use Rattle.std.specs.Prelude.{◌≤◌, IfOk, length};
+ghost use Rattle.tpm_types.specs.Limits.{buffer_limit};
 
-use crate::kept::answer::{Answer, read_answer};
 use crate::kept::said::said_of_text;
 use crate::kept::tail::Tail;
 use tpm_journal_text::{CONTENT_LIMIT, read_head};
 use tpm_keeping::holder::{End, Fault, Force, Job};
 use tpm_keeping::keeper::{Ask, Got, Keeper};
 use tpm_kept_device::KeptDevice;
+use tpm_kept_device::answer::{Answer, read_answer};
 use tpm_kept_device::writing::{
     beginning, command_after, command_at, power_cycle, seed_of_random, seed_of_state,
 };
@@ -96,7 +96,7 @@ impl<'a> Kept<'a> {
         random: &[u8; 256],
         buffer: &[u8],
     ) -> Result<Answer<'_>, KeptFault>
-        ensures { IfOk result (λ answer. IsTraced answer) }
+        ensures { IfOk result (λ answer. length answer.response.now ≤ buffer_limit) }
     {
         let alloc = self.rt.alloc();
         let command = command_after(alloc, elapsed_ms, locality, false, random, buffer)?;
@@ -105,12 +105,12 @@ impl<'a> Kept<'a> {
 
     /// Executes a command of the standard, of which this is the text for the keeper.
     fn execute(&mut self, command: &[u8]) -> Result<Answer<'_>, KeptFault>
-        ensures { IfOk result (λ answer. IsTraced answer) }
+        ensures { IfOk result (λ answer. length answer.response.now ≤ buffer_limit) }
     {
         self.perform(Job::Execute, command)?;
         match read_answer(self.keeper.response()) {
-            Some(answer) => Ok(answer),
-            None => Err(Place::Journal.that(Said::Keeper(Fault::NoCommand))),
+            Ok(answer) => Ok(answer),
+            Err(_) => Err(Place::Journal.that(Said::Keeper(Fault::NoCommand))),
         }
     }
 
@@ -247,12 +247,22 @@ impl<'a> Kept<'a> {
             Ask::Put { cut, at } => self.put(cut, at),
             Ask::Force => self.host.force(),
             Ask::Make { whole } => self.make(job, whole),
-            Ask::Settle => self.host.settle(),
+            Ask::Settle => self.settle(),
             _ => {
                 self.host.unlock();
                 Ok(())
             }
         }
+    }
+
+    /// Forces the folder to the disk, and says on standard error if its own name was left out.
+    fn settle(&mut self) -> Result<(), KeptFault> {
+        if self.host.settle()? {
+            let _ = eprintln!(self.rt;
+                "tpmsim: state/.. cannot be read, so a crash of the host may lose the name of state"
+            );
+        }
+        Ok(())
     }
 
     /// Cuts off what a crash left after the first `cut` bytes, and writes the keeper's text. If

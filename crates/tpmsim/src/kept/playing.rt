@@ -2,17 +2,19 @@
 //! processes may execute commands between two of the script's.
 
 ghost use Rattle.std.specs.Prelude.{◌≡◌, ◌≤◌, [], length};
-ghost use Rattle.tpmsim.specs.kept.Answer.{IsTraced};
 ghost use Rattle.tpmsim_script.specs.Answers.{backlog};
 
 use crate::kept::Kept;
-use crate::kept::answer::Answer;
 use crate::kept::stop::{PlayFault, Stop};
+use crate::kept::tracing::traced_row;
 use std::alloc::Global;
 use std::io::{Read, Write};
 use tpm_bytes::Tap;
+use tpm_keeping::holder::Fault;
+use tpm_kept_device::answer::Answer;
 use tpm_step::Event;
 use tpm_text::trace_text;
+use tpmsim_folder::{Place, Said};
 use tpmsim_script::ScriptFault;
 use tpmsim_script::answers::Answers;
 use tpmsim_script::line::Line;
@@ -151,13 +153,15 @@ impl Player {
         event: &Event,
         answer: Answer<'_>,
         writer: &mut Tap<W>,
-    ) -> Result<(), Stop>
-        requires { IsTraced answer }
-    {
+    ) -> Result<(), Stop> {
         if !self.traced {
             return Ok(());
         }
-        let text = trace_text(event, answer.row, answer.response);
+        let Some(row) = traced_row(answer) else {
+            let said = Said::Keeper(Fault::NoCommand);
+            return Err(Stop::Kept(Place::Journal.that(said)));
+        };
+        let text = trace_text(event, row, answer.response);
         self.put_text(writer, text.as_str().as_bytes())
     }
 

@@ -1,0 +1,17 @@
+#!/bin/sh
+# Measures a device in a folder as a user of tpm2-tools meets it, and prints a table: one tool by the module
+# for libtss2, a command in a process that stays, and opening the device after few and after many commands.
+# Processor time and instructions vary less than elapsed time if the machine does other work. Needs python3,
+# valgrind, a C compiler, Debian's tpm2-tools and libtss2-dev, and what hosts/build.sh needs. DISK is a folder
+# on a disk, /var/tmp by default. Not part of the gate.
+#
+#   bench/kept.sh [ROUNDS]
+set -eu
+
+top=$(CDPATH='' cd "$(dirname "$0")/.." && pwd -P)
+folder=$(mktemp -d)
+trap 'rm -rf "$folder"' EXIT
+"$top/hosts/build.sh" tcti "$folder"
+cc -std=c11 -O2 -Wall -Wextra -Werror -o "$folder/client" "$top/bench/attached.c" -ltss2-tctildr
+"$top/tools/python.sh" "$top/bench/kept.py" "$folder/libtss2-tcti-tpmsim.so.0" \
+    "$folder/client" "${DISK:-/var/tmp}" "$@"

@@ -1,0 +1,24 @@
+-- The row of a kept device's answer, for its trace.
+use Rattle.std.specs.Prelude.{◌≡◌, ◌≤◌, ◌⊎◌, ℕ, length}
+use Rattle.tpm_commands.specs.CommandCode.{code_number}
+use Rattle.tpm_commands.specs.declared.command_code.CommandCode.{CommandCode}
+use Rattle.tpm_kept_device.specs.declared.answer.Answer.{Answer}
+use Rattle.tpm_step.specs.declared.event.Row.{Row}
+use Rattle.tpm_text.specs.Trace.{IsRow}
+use Rattle.tpm_types.specs.Check.{check_number}
+use Rattle.tpm_types.specs.declared.check.Check.{Check}
+
+-- the row of an answer: the command, and the check that refused it
+abbrev pub row_of : Answer → Row
+row_of a = record { code = a.code; check = a.check }
+
+-- A number is 0, or that of a command or of a check.
+abbrev pub IsCode : ℕ → Type 0
+IsCode number = (number ≡ 0) ⊎ ((code : CommandCode) × (number ≡ code_number code))
+
+abbrev pub IsCheck : ℕ → Type 0
+IsCheck number = (number ≡ 0) ⊎ ((check : Check) × (number ≡ check_number check))
+
+-- An answer can be traced: it has a row of the table, and a response with a header of ten bytes.
+abbrev pub IsTraceable : Answer → Type 0
+IsTraceable a = IsRow (row_of a) × (10 ≤ length a.response.now)

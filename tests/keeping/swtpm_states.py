@@ -1,0 +1,307 @@
+"""Makes each call of swtpm on the files of its states fail, in turn, with libtpms.so.0 of this
+repository:
+
+    python3 swtpm_states.py FOLDER SHIM SHARE [WORD]
+
+FOLDER is that of `hosts/build.sh libtpms`, and SHIM is the library of failing.c. One of SHARE runs
+is made; with WORD, only those whose label contains it. In each run swtpm has to do some acts, and
+one call on a file in its folder has a fault of VARIANTS. Then swtpm is started again, without a
+fault. Its device has executed the answered acts, and perhaps the unanswered ones; or swtpm or the
+library says why there is no device. Standard error says what is wrong, and the numbers of runs and
+of such faults.
+"""
+
+import contextlib
+import os
+import pathlib
+import shutil
+import subprocess
+import sys
+import tempfile
+import time
+from dataclasses import dataclass, replace
+from typing import Iterator, Sequence
+
+from tests.keeping.counted import answer_of, BEGIN, COMMANDS, Counted, DEFINE, INCREMENT
+from tests.keeping.counted import INITIALIZE, NOTHING, POWER, READ, STARTUP, State, UNWRITTEN
+from tests.keeping.each_call import Meeting, MOST_CALLS, one_line, said, Shim, Told, VARIANTS
+from tests.keeping.hosts import Refused
+from tpmsim.device import SwtpmDevice
+from tpmsim.device.base import DeviceEnded
+from tpmsim.standard import number
+
+SECONDS, SUSPEND = 20, "suspend"
+# Requests of the control channel, and the flag of INIT that removes the volatile state which was
+# resumed. QEMU sends it when a guest is resumed.
+INIT, SHUTDOWN, STORE_VOLATILE = 2, 3, 10
+REMOVES_VOLATILE = 1
+# TPM_RC_FAILURE is the response to a command that could not be stored.
+FAILURE = bytes.fromhex("80010000000a00000101")
+
+
+class Swtpm:
+    """swtpm with the library of a folder, on the states of another folder. Its sockets and its log
+    are next to the latter.
+    """
+
+    def __init__(self, library: pathlib.Path, folder: pathlib.Path, told: dict[str, str]) -> None:
+        self.library, self.folder, self.told = library, folder, told
+        self.log = folder.with_suffix(".log")
+        self.process: subprocess.Popen[bytes] | None = None
+        self.device: SwtpmDevice | None = None
+
+    @property
+    def is_running(self) -> bool:
+        return self.process is not None and self.process.poll() is None
+
+    @property
+    def opened(self) -> SwtpmDevice:
+        if self.device is None:
+            raise Refused("there is no connection")
+        return self.device
+
+    @contextlib.contextmanager
+    def refusing(self) -> Iterator[None]:
+        """Turns the end of a connection, and a request that is refused, into Refused."""
+        try:
+            yield
+        except (DeviceEnded, OSError) as fault:
+            raise Refused(str(fault)) from fault
+
+    def start(self) -> None:
+        """Starts swtpm, and connects to it."""
+        data, control = (str(self.folder.with_suffix(it)) for it in (".data", ".control"))
+        self.log.unlink(missing_ok=True)
+        words = ["swtpm", "socket", "--tpm2", "--tpmstate", f"dir={self.folder}"]
+        words += ["--server", f"type=unixio,path={data}", "--ctrl", f"type=unixio,path={control}"]
+        words += ["--seccomp", "action=none", "--log", f"file={self.log},level=1"]
+        told, nothing = {"LD_LIBRARY_PATH": str(self.library), **self.told}, subprocess.DEVNULL
+        self.process = subprocess.Popen(
+            words, env={**os.environ, **told}, stdout=nothing, stderr=nothing
+        )
+        until = time.monotonic() + SECONDS
+        while self.device is None:
+            if not self.is_running or time.monotonic() > until:
+                raise Refused(f"swtpm does not serve: {self.logged}")
+            with contextlib.suppress(FileNotFoundError, ConnectionRefusedError, BlockingIOError):
+                self.device = SwtpmDevice(data, control, SECONDS)
+            time.sleep(0.001)
+
+    @property
+    def logged(self) -> str:
+        return one_line(self.log.read_text("utf8")) if self.log.exists() else ""
+
+    def tell(self, request: int, argument: bytes = b"") -> None:
+        with self.refusing():
+            code = self.opened.whole(lambda: self.opened.asked(request, argument))
+        if code:
+            raise Refused(f"request {request} is refused with {code:#x}")
+
+    def begin(self, is_resumed: bool) -> None:
+        self.start()
+        self.tell(INIT, number(REMOVES_VOLATILE if is_resumed else 0, 4))
+
+    def execute(self, buffer: bytes) -> bytes:
+        with self.refusing():
+            return self.opened.execute(buffer).response
+
+    def does(self, act: str, is_resumed: bool) -> bytes:
+        """Does an act, and returns the response of a command."""
+        if act == BEGIN:
+            self.begin(is_resumed)
+        elif act == SUSPEND:
+            self.tell(STORE_VOLATILE)
+        elif act == POWER:
+            with self.refusing():
+                self.opened.power_cycle()
+        else:
+            return self.execute(COMMANDS[act])
+        return b""
+
+    def close(self) -> int:
+        """Ends swtpm by its control channel, or by a signal if there is no connection. Returns its
+        status.
+        """
+        assert self.process is not None
+        try:
+            self.tell(SHUTDOWN)
+        except Refused:
+            self.process.terminate()
+        if self.device is not None:
+            self.device.close()
+        try:
+            return self.process.wait(SECONDS)
+        except subprocess.TimeoutExpired:
+            self.process.kill()
+            self.process.wait()
+            raise Refused("swtpm does not end") from None
+
+
+@dataclass(frozen=True)
+class Start:
+    """The folder that swtpm begins with, and the state of its device, which may be suspended."""
+
+    label: str
+    state: State
+    folder: pathlib.Path | None = None
+    is_suspended: bool = False
+
+    def put(self, folder: pathlib.Path) -> None:
+        shutil.rmtree(folder, ignore_errors=True)
+        if self.folder:
+            shutil.copytree(self.folder, folder)
+        else:
+            folder.mkdir()
+
+
+class Played:
+    """The acts of a run, and what is known of the device after them."""
+
+    def __init__(self, start: Start) -> None:
+        self.told, self.is_resumed = Told(Counted([start.state])), start.is_suspended
+        self.may_be_suspended, self.is_suspended = start.is_suspended, False
+
+    def play(self, swtpm: Swtpm, script: Sequence[str]) -> None:
+        """Has swtpm do the acts, until one cannot be done because swtpm has ended."""
+        for act in script:
+            is_done = self.suspend(swtpm) if act == SUSPEND else self.act(swtpm, act)
+            if not is_done and (act in (BEGIN, POWER) or not swtpm.is_running):
+                return
+
+    def act(self, swtpm: Swtpm, act: str) -> bool:
+        """Has swtpm do an act. Returns whether it was answered."""
+        self.told.asks(act)
+        try:
+            response = swtpm.does(act, self.is_resumed)
+        except Refused as fault:
+            self.told.ends(f"refused ({one_line(fault)})")
+            return False
+        if response == FAILURE:
+            self.told.ends("failure")
+            return False
+        self.told.answers(response)
+        return True
+
+    def suspend(self, swtpm: Swtpm) -> bool:
+        self.may_be_suspended = True
+        try:
+            swtpm.does(SUSPEND, False)
+        except Refused as fault:
+            self.told.acts.append(f"{SUSPEND}:refused ({one_line(fault)})")
+            return False
+        self.told.acts.append(SUSPEND)
+        self.is_suspended = True
+        return True
+
+    @property
+    def states(self) -> set[State]:
+        """Returns the states in which the device may be when swtpm is started again."""
+        running = set(self.told.counted.states)
+        cycled = {replace(it, is_started=False) for it in running}
+        if self.is_suspended:
+            return running
+        return running | cycled if self.may_be_suspended else cycled
+
+
+def seen(swtpm: Swtpm) -> State:
+    """Returns the state of the device that swtpm begins."""
+    swtpm.begin(False)
+    value = answer_of(READ, swtpm.execute(COMMANDS[READ]))
+    is_started = value != INITIALIZE
+    if not is_started:
+        swtpm.execute(COMMANDS[STARTUP])
+        value = answer_of(READ, swtpm.execute(COMMANDS[READ]))
+    count = value[1] if isinstance(value, tuple) else 0
+    return State(True, is_started, count > 0 or value == UNWRITTEN, count)
+
+
+@dataclass(frozen=True)
+class Case:
+    """What swtpm begins with, and the acts that it has to do."""
+
+    library: pathlib.Path
+    start: Start
+    script: Sequence[str]
+
+    @property
+    def label(self) -> str:
+        return f"swtpm, {self.start.label}"
+
+    def tries(self, room: pathlib.Path, shim: Shim, meeting: Meeting) -> tuple[str, str, str]:
+        """Returns which call had the fault, what is wrong, and why there is no device."""
+        folder = room / "state"
+        self.start.put(folder)
+        told = {**shim.environment(meeting), "FAILING_IN": str(folder)}
+        swtpm, again = Swtpm(self.library, folder, told), Swtpm(self.library, folder, {})
+        played = Played(self.start)
+        try:
+            played.play(swtpm, (BEGIN, *self.script))
+            swtpm.close()
+        except Refused as fault:
+            played.told.strange.append(str(fault))
+        acts = " ".join(played.told.acts)
+        met, wrong = shim.met(), "; ".join(played.told.strange)
+        try:
+            state = seen(again)
+        except Refused as fault:
+            return met, wrong, f"{one_line(fault)}, {again.logged}: {acts}"
+        finally:
+            again.close()
+        if state not in played.states:
+            wrong = f"{wrong} {state} is none of {sorted(played.states)}"
+        return met, f"{wrong}: {acts}" if wrong else "", ""
+
+    def check(self, room: pathlib.Path, shim: Shim, share: int) -> tuple[int, int]:
+        """Makes one of `share` runs. Returns the number of runs, and the number of wrong ones."""
+        runs, wrongs, without = 0, 0, 0
+        for turn, variant in enumerate(VARIANTS):
+            for at in range(1 + turn % share, MOST_CALLS, share):
+                meeting = Meeting(at, *variant)
+                met, wrong, why = self.tries(room, shim, meeting)
+                runs, wrongs, without = runs + 1, wrongs + bool(wrong), without + bool(why)
+                if wrong or why:
+                    said(f"{self.label}: {meeting}, {met}: {wrong or why}")
+                if not met:
+                    break
+        print(f"{self.label}: {'WRONG' if wrongs else 'as it was answered'}", flush=True)
+        said(f"{self.label}: {runs} runs, {without} without a device")
+        return runs, wrongs
+
+
+def made(library: pathlib.Path, folder: pathlib.Path, is_suspended: bool) -> State:
+    """Makes a device that has counted to 2, and suspends it or ends it."""
+    folder.mkdir()
+    swtpm = Swtpm(library, folder, {})
+    acts = (BEGIN, STARTUP, DEFINE, INCREMENT, INCREMENT, *([SUSPEND] * is_suspended))
+    for act in acts:
+        swtpm.does(act, False)
+    swtpm.close()
+    return State(True, is_suspended, True, 2)
+
+
+def cases(library: pathlib.Path, room: pathlib.Path) -> Iterator[Case]:
+    kept, left = room / "kept", room / "left"
+    counts, cycles = (INCREMENT, READ), (POWER, STARTUP, INCREMENT, READ)
+    ended = Start("a kept device", made(library, kept, False), kept)
+    suspended = Start("a suspended one", made(library, left, True), left, True)
+    yield Case(library, ended, (STARTUP, *counts, *cycles))
+    yield Case(library, Start("a new one", NOTHING), (STARTUP, DEFINE, *counts, SUSPEND))
+    yield Case(library, suspended, (*counts, SUSPEND))
+
+
+def main() -> None:
+    library, path, share, *words = sys.argv[1:]
+    runs = wrongs = 0
+    with tempfile.TemporaryDirectory() as name:
+        room = pathlib.Path(name)
+        shim = Shim(pathlib.Path(path).resolve(), room / "report")
+        for case in cases(pathlib.Path(library).resolve(), room):
+            if not words or words[0] in case.label:
+                more, wrong = case.check(room, shim, int(share))
+                runs, wrongs = runs + more, wrongs + wrong
+    said(f"{runs} runs, {wrongs} wrong")
+    sys.exit(wrongs > 0)
+
+
+if __name__ == "__main__":
+    main()
