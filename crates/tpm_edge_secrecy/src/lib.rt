@@ -14,13 +14,13 @@ ghost use Rattle.tpm_edge_secrecy.specs.Layer.{LayerLoadsAlike, LayerSavesAlike}
 ghost use Rattle.tpm_edge_secrecy.specs.Opened.{OpenedDataNeedPolicy};
 
 /// The completing layer reveals which of ownerAuth, endorsementAuth and lockoutAuth are empty, and
-/// the contexts of objects that have secrets; nothing else that the device keeps secret. Two devices
-/// that differ in secrets alone, authorization values among them, and agree on which values are
-/// empty, get the same answers from the layer, which remembers the same for both. Only
-/// TPM2_ContextSave of an object that has a secret may answer otherwise: it counts as a command that
-/// reads the secret. A context that is loaded contains the same object on both. So if two devices
-/// differ in secret data alone, an event that does not read them reveals nothing of them with the
-/// layer either, and neither does a list of events.
+/// the contexts of objects that have secrets, which TPM2_ContextSave returns. It reveals nothing
+/// else that the device keeps secret. Its answers, and what it remembers, are the same of two
+/// devices that differ in secrets alone, authorization values among them, and agree on which values
+/// are empty; only such contexts may differ. A context that is loaded contains the same object on
+/// both devices. So if two devices differ in secret data alone, an event that does not read them
+/// reveals nothing of them with the layer either, except such a context. The same holds for a list
+/// of events, also for those after such a context.
 #[inline(always)]
 pub fn layer_laws()
     ensures answers { LayerAnswersAlike }
