@@ -64,7 +64,9 @@ def plain(name):
 
 
 def nv_commands(name, size, indices):
-    """Returns the preparing lines and the measured line, in hex. A read is prepared by a write."""
+    """Returns the setup lines and the line to measure, in hex. The setup for a read includes a
+    write.
+    """
 
     def define(index, attributes, size):
         return f"do NV_DefineSpace OWNER pw:- - {index:08x}000b{attributes:08x}0000{size:04x}"

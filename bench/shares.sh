@@ -17,8 +17,8 @@ trap 'rm -rf "$folder"' EXIT
 # default it uses one repeated instruction, which callgrind counts again for each byte.
 limits=glibc.cpu.x86_rep_stosb_threshold=1000000:glibc.cpu.x86_rep_movsb_threshold=1000000
 
-# counts LINES: prints three counts of instructions of a script of LINES lines: all; those of
-# `Machine::execute_into` with everything it calls; and the part of the latter that clears and copies.
+# counts LINES: runs a script of LINES lines, and prints three instruction counts: the total; the count of
+# `Machine::execute_into` and its callees; and how much of that count clears and copies memory.
 counts() {
     "$top/bench/script.sh" "$1" >"$folder/script"
     GLIBC_TUNABLES=$limits valgrind --tool=callgrind --callgrind-out-file="$folder/calls" \

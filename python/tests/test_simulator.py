@@ -1,4 +1,6 @@
-"""Tests the server of Microsoft's protocol: its clients, their faults, and what it keeps."""
+"""Tests the server for Microsoft's simulator protocol: its clients, their errors, and the state that
+the server keeps.
+"""
 
 import pathlib
 import select

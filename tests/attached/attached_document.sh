@@ -1,5 +1,5 @@
-# Checks that the sentences and the words of docs/ATTACHED.md are those of the sources: of the C host, and of
-# the keeper, whose sentences the C host takes from the library.
+# Checks that the messages and keywords quoted in docs/ATTACHED.md match those in the sources of the C host and of
+# the keeper. The C host gets the keeper's messages from the library.
 tests=$(cd "$(dirname "$0")/.." && pwd -P)
 . "$tests/common/cases.sh"
 page=$tests/../docs/ATTACHED.md

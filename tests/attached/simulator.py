@@ -121,8 +121,8 @@ def kept_in_a_folder() -> None:
 
 
 def recorded() -> None:
-    """Each period from power-on to power-off has a journal, which the audit finds to agree with
-    itself.
+    """Each period from power-on to power-off has its own journal, in which the audit finds no
+    contradiction.
     """
     pathlib.Path("records").mkdir()
     with Served("--record", "records", "--seed", "0b") as served:

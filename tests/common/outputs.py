@@ -42,7 +42,7 @@ POWER = Played()
 
 
 def write_outputs(path: pathlib.Path, played: Sequence[Played]) -> None:
-    """Writes NAME.out next to a script NAME.tpm, and NAME.trace again if there is one already."""
+    """Writes NAME.out next to the script NAME.tpm. Rewrites NAME.trace if it exists."""
     path.with_suffix(".out").write_text("".join(it.response for it in played), "ascii")
     trace = path.with_suffix(".trace")
     if trace.exists():

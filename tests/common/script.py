@@ -45,9 +45,9 @@ def told_head(told: str) -> str:
 
 
 class Script:
-    """The lines of a script, and a device that executes them while they are written. The script has
-    the name of its program unless it has its own. It is stored next to the program, or made when
-    it is played.
+    """The lines of a script, and a device that executes each line as it is written. The script is
+    named after the program that writes it, unless a name is passed. Its file is stored next to the
+    program, or generated on each run.
     """
 
     def __init__(
@@ -147,8 +147,8 @@ class Script:
         )
 
     def wait_each_time(self) -> None:
-        """Lets time pass after authorization attempts for lockoutAuth with a wrong value.
-        allow_tries must come first.
+        """Lets a second pass before each further command, since a wrong value for lockoutAuth
+        disables lockoutAuth until lockoutRecovery has passed. Call allow_tries first.
         """
         self.chapter(
             "A wrong try at lockoutAuth closes it for lockoutRecovery. So a second passes before "

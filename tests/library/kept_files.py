@@ -92,7 +92,7 @@ def wrong_words():
 
 
 def head(kind, text):
-    """Returns the head of a journal that contains a text, whatever the text is."""
+    """Returns a journal head with this text as its content. The text is not checked."""
     mark = number(0, 8) + number(len(text), 4) + number(sum_of(text), 8)
     line = f"# tpmsim journal {kind} {mark.hex()} {sum_from(OFFSET_BASIS, mark):016x}"
     return f"{line}\n# {text.hex()}\n".encode()

@@ -10,7 +10,7 @@ tpm = PolicyTeller(__name__, __doc__)
 
 
 def other(count):
-    """Returns digests of this session's size. The session never has any of them."""
+    """Returns digests with the size of the session's policyDigest. None of them is ever its value."""
     return [digest(session.algorithm, b"branch %d" % it) for it in range(count)]
 
 

@@ -12,7 +12,8 @@ small=
 head -c 768 /dev/zero >entropy
 mkdir a_folder
 
-# serve LABEL WORDS..: serves no connection, with these options, and good values for the other options.
+# serve LABEL WORDS..: runs `serve` with these options and valid values for the other options. By default it exits
+# without accepting a connection.
 serve() {
     label=$1
     shift

@@ -32,7 +32,7 @@ fail() {
 
 . "$top/tools/lib/machines.sh"
 
-# play SHM USER: plays the tests in the machine, and leaves their output in the file `said`.
+# play SHM USER: runs the tests in the machine, and saves their output in the file `said`.
 play() {
     as=
     [ "$2" = root ] || as='setpriv --reuid 1000 --regid 1000 --clear-groups env HOME=/home/user'
@@ -53,8 +53,8 @@ named() {
     sed -n 's/^More is played after: apt-get install //p' "$work/said"
 }
 
-# play_machine NAME SHM USER PACKAGE..: plays the tests in a machine of this kind, before and after it gets the
-# packages that they name.
+# play_machine NAME SHM USER PACKAGE..: runs the tests in a new machine with these packages. If the tests report
+# missing packages, installs them and runs the tests again.
 play_machine() {
     name=$1 shm=$2 user=$3
     shift 3

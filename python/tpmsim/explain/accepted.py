@@ -18,7 +18,9 @@ def note(rule: str, slip: str, words: str) -> Reason:
 
 
 def before(scene: Scene) -> list[Reason]:
-    """Returns notes on a command whose entries were accepted, before its effect."""
+    """Returns notes on a command whose authorization was accepted. They describe the state before
+    the command takes effect.
+    """
     return [
         *(*garbage(scene), *zeros(scene), *nonces(scene), *unwritten(scene)),
         *offline_guesses(scene),
