@@ -18,16 +18,17 @@ from dataclasses import dataclass
 from pathlib import Path
 
 ROUNDS = 15
-# How often a process does an act: a command, or an opening, which takes 400 times as long.
+# How many times a process repeats its task: a command, or the opening of a device, which takes 400
+# times as long as a command.
 COMMANDS, OPENINGS = 1000, 20
-# The journal is longest after 1,500 commands: a little later it begins again.
+# The journal is longest after 1,500 commands. A few commands later the library restarts it.
 OPENED_AFTER = 900, 1_500, 60_000
 TOOL = ["tpm2_getrandom", "-f", "--hex", "16"]
 
 
 @dataclass(frozen=True)
 class Cost:
-    """What a process takes: elapsed and processor microseconds."""
+    """The cost of a process: elapsed and processor time in microseconds."""
 
     elapsed: float
     processor: float
@@ -77,7 +78,7 @@ def measure_tool(transport: str, rounds: int) -> None:
 
 
 def elapsed_of_one(client: str, transport: str, act: str, count: int) -> float:
-    """Returns the median time of an act, of so many in one process."""
+    """Returns the median time of one repetition, if a process repeats a task this many times."""
     words = [client, transport, act, str(count)]
     output = subprocess.run(words, check=True, capture_output=True, text=True).stdout
     return float(output.split()[1])
@@ -85,7 +86,7 @@ def elapsed_of_one(client: str, transport: str, act: str, count: int) -> float:
 
 @dataclass(frozen=True)
 class Act:
-    """An act that a client does so often in one process."""
+    """A task that a client repeats this many times in one process."""
 
     label: str
     name: str
@@ -93,8 +94,8 @@ class Act:
 
 
 def measure_act(act: Act, client: str, transport: str, rounds: int) -> None:
-    """Measures an act: its processor time and instructions by the difference between a process
-    that does it often and one that does it once.
+    """Measures a task. Its processor time and instructions are the difference between a process
+    that repeats the task often and one that does it once.
     """
     words = [[client, transport, act.name, str(count)] for count in (1, act.count + 1)]
     elapsed = [elapsed_of_one(client, transport, act.name, act.count) for _ in range(rounds)]

@@ -1,4 +1,4 @@
-"""Writes scripts and their outputs again, by running the programs that write them:
+"""Rewrites scripts and their outputs, by running the programs that write them:
 
     tools/python.sh tests/anew.py tests/objects/create.py ..
 

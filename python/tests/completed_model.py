@@ -7,8 +7,8 @@ from tpmsim.model.completion import Completion
 
 
 class CompletedModel(ModelDevice):
-    """A device in this process, which needs no program. `did` says what the layer did for the
-    latest command, if anything; with `completes` false, only the device executes commands.
+    """A device in this process, which needs no program. `did` describes what the layer did for the
+    latest command, if anything. If `completes` is false, only the device executes commands.
     """
 
     def __init__(self, start=0, model=None):
@@ -31,7 +31,9 @@ class CompletedModel(ModelDevice):
 
 
 class RecordedModel(CompletedModel):
-    """The same, with a journal of what it executes, which a power cycle begins again."""
+    """A device with the completing layer, and a journal of the commands that it executes. A power
+    cycle restarts the journal.
+    """
 
     def __init__(self):
         super().__init__()

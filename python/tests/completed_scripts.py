@@ -115,7 +115,7 @@ class Scripts:
             self.contexts.append(response[10:])
 
     def bent(self, data, size=None):
-        """Returns the data with a bit turned, which is one of the first `size` bytes."""
+        """Returns the data with a bit flipped, which is one of the first `size` bytes."""
         at = self.chance.randrange(size or len(data))
         return data[:at] + bytes([data[at] ^ 1 << self.chance.randrange(8)]) + data[at + 1 :]
 
@@ -124,7 +124,9 @@ class Scripts:
         return context if self.chance.random() < 0.9 else self.bent_context(context)
 
     def bent_context(self, context):
-        """Returns a context with a bit turned, perhaps in its first fields, or with another end."""
+        """Returns a context in which a bit is flipped, mostly in its first fields, or whose end is
+        changed.
+        """
         size = self.chance.choice((BLOB_AT, len(context)))
         way = self.chance.randrange(3)
         if way == 0:

@@ -46,6 +46,6 @@ def sessions_of(device):
 
 
 def without_value(tpm):
-    """Encrypts as a caller that leaves the authorization value out of the encryption key."""
+    """Encrypts like a caller that leaves the authorization value out of the encryption key."""
     right = type(tpm).encrypted
     return lambda use, handle, parameters: right(tpm, use, None, parameters)

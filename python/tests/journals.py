@@ -11,8 +11,8 @@ from tpmsim.standard import number
 
 
 class Journal:
-    """The journal of a device that plays lines. A power cycle begins it again. All random bytes
-    that a command receives are recorded as drawn.
+    """The journal of a device that plays lines. A power cycle restarts the journal. All random
+    bytes that a command receives are recorded as drawn.
     """
 
     def __init__(self, model=None):
@@ -25,12 +25,14 @@ class Journal:
         self.head(1, self.image)
 
     def cycle(self):
-        """Makes a power cycle, and begins the journal again with the whole state."""
+        """Makes a power cycle, and restarts the journal with the whole state."""
         self.model.power_cycle()
         self.go_on()
 
     def go_on(self, layer=None):
-        """Begins the journal again with the whole state. It then lacks the executed commands."""
+        """Restarts the journal with the whole state. The journal then lacks the commands that were
+        executed before.
+        """
         self.head(2, state_text(self.model, layer))
 
     def head(self, kind, text):

@@ -39,8 +39,7 @@ def script(name):
 
 
 class OtherSeeds(unittest.TestCase):
-    """The session values are computed correctly again: with new seeds and nonces the outcomes are
-    the same.
+    """Session values are recomputed, so a device with other seeds and nonces has the same outcomes.
     """
 
     def test_nothing_differs(self):
@@ -124,7 +123,9 @@ class Completed(unittest.TestCase):
                 return Comparison(other).play(journal)
 
     def test_commands_at_random(self):
-        """A power cycle begins a journal again, so some journals have fewer commands."""
+        """Compares journals of random commands. A power cycle restarts a journal, so some journals
+        have fewer commands.
+        """
         commands = 0
         for seed in range(4):
             chance = random.Random(seed)
@@ -136,7 +137,9 @@ class Completed(unittest.TestCase):
         self.assertGreater(commands, 800)
 
     def test_an_object_with_another_handle(self):
-        """The other TPM loads the object's context to another handle, which later uses have."""
+        """The other TPM loads an object's context under another handle, which its later commands
+        use.
+        """
         journal = self.recorded(contexts_that_move)
         with Moved(model=Model(bytes(256))) as other:
             report = Comparison(other).play(journal)

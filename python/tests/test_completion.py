@@ -84,7 +84,7 @@ def trace_of(event):
 
 
 def in_python(seed, count):
-    """Returns the same of a device in Python."""
+    """Returns a log of this many random commands, as the Python device records it."""
     with RecordedModel() as device:
         answered = completed_scripts.play(device, random.Random(seed), count, changes=True)
     return device.journal.text, answered
@@ -111,8 +111,8 @@ class InPython(unittest.TestCase):
         self.assertEqual(seen - {""}, DEEDS)
 
     def test_an_audit(self):
-        """The layer's responses are counted separately. Its changes of the device are in the
-        history.
+        """The audit counts the layer's responses separately. The changes that the layer makes to
+        the device are in the device's history.
         """
         for seed in range(2):
             journal, answered = self.recorded(seed, COMMANDS)
@@ -131,7 +131,7 @@ class InPython(unittest.TestCase):
 
 
 class OldContexts(unittest.TestCase):
-    """Why a context that the log saved can no longer be loaded."""
+    """Tests the explanations why a context that the log saved can no longer be loaded."""
 
     def setUp(self):
         self.device = self.enterContext(RecordedModel())
@@ -150,7 +150,7 @@ class OldContexts(unittest.TestCase):
         self.tpm.start_up(startup)
 
     def told(self, context):
-        """Returns what is said about the refusal of a context."""
+        """Returns the explanation why a context was refused."""
         response = self.device.execute(command(CONTEXT_LOAD, context)).response
         self.assertEqual(response[6:10].hex(), "000001df")
         return list(Play().events(self.text + self.device.journal.text))[-1].reason.words

@@ -1,5 +1,5 @@
-"""Tests the contexts of objects: against contexts that were computed outside, byte by byte, and as
-the completing layer makes and loads them.
+"""Tests the contexts of objects. They are compared with contexts that other programs computed, byte
+by byte, and with those that the completing layer saves and loads.
 """
 
 import itertools
@@ -76,7 +76,7 @@ def fault_of(context, device=None, start=START):
 
 
 class Computed(unittest.TestCase):
-    """Contexts that were computed outside."""
+    """Tests contexts that other programs computed."""
 
     def test_contexts(self):
         for sequence, (public, text) in enumerate(zip(PUBLICS, CONTEXTS), 1):
@@ -99,8 +99,8 @@ class Computed(unittest.TestCase):
             self.assertEqual(found, wanted)
 
     def test_each_bit(self):
-        """Each bit of a context counts. Only a savedHandle, a hierarchy and a size have faults of
-        their own.
+        """Changing any bit of a context is detected. Only the savedHandle, the hierarchy and the
+        sizes have faults of their own.
         """
         context = bytes.fromhex(CONTEXTS[0])
         for at, bit in itertools.product(range(len(context)), range(8)):
@@ -116,7 +116,9 @@ class Computed(unittest.TestCase):
         self.assertEqual(fault_of(context + b"\0"), "SIZE/p1")
 
     def test_the_first_fault(self):
-        """The faults in their order: each context has the fault of its line and those below it."""
+        """Tests the order of the faults. Each context has the fault of its own line and those of
+        all later lines.
+        """
         head, integrity = bytes.fromhex(CONTEXTS[0])[:BLOB_SIZE_AT], bytes(32)
         bad_handle, bad_hierarchy = number(0x80000001, 4), number(RH_LOCKOUT, 4)
         for context, wanted in (
@@ -136,8 +138,8 @@ class Computed(unittest.TestCase):
             self.assertEqual(fault_of(context), wanted, context.hex())
 
     def test_what_is_no_object(self):
-        """A context with the right integrity value, made with the proof, whose text is not the
-        object that the head names.
+        """A context with the right integrity value, made with the proof, whose content is not the
+        object that its head names.
         """
         key = key_of(PUBLICS[0])
         text = image.object_text(key)
@@ -192,7 +194,7 @@ def made(head, plain):
 
 
 def turned_fault(at, turned):
-    """Returns the fault of a context in which a bit of this byte is turned."""
+    """Returns the fault of a context in which a bit of this byte is flipped."""
     if (
         SAVED_HANDLE_AT <= at < HIERARCHY_AT
         and turned[SAVED_HANDLE_AT:HIERARCHY_AT].hex() != "80000002"
@@ -208,7 +210,7 @@ def turned_fault(at, turned):
 
 
 class OfLayer(unittest.TestCase):
-    """Contexts as the layer makes them and loads them."""
+    """Tests contexts that the completing layer saves and loads."""
 
     def setUp(self):
         self.device = self.enterContext(CompletedModel(START))
@@ -271,7 +273,7 @@ class OfLayer(unittest.TestCase):
         self.assertEqual(self.loaded(context), handles[2])
 
     def test_a_full_device(self):
-        """A full device answers OBJECT_MEMORY, and stays as it was; no object gives way."""
+        """A full device answers OBJECT_MEMORY, and stays as it was. No object is evicted."""
         contexts_of = [self.saved(self.key(b"%d" % at)) for at in range(OBJECTS)]
         before = state_text(self.device.model, self.device.completion.numbers)
         self.assertEqual(self.load_code(contexts_of[0]), OBJECT_MEMORY)
@@ -282,7 +284,8 @@ class OfLayer(unittest.TestCase):
         self.assertEqual(state_text(self.device.model, self.device.completion.numbers), before)
 
     def test_a_flushed_object(self):
-        """A flushed object is gone, although it has a context: its handle names nothing."""
+        """The handle of a flushed object names nothing, even if a context of the object was saved.
+        """
         handle = self.key(b"one")
         self.saved(handle)
         self.flush(handle)
@@ -321,13 +324,17 @@ class OfLayer(unittest.TestCase):
             self.assertEqual(tuple(map(self.load_code, (ordinary, st_clear))), wanted)
 
     def test_another_layer(self):
-        """A context is of the start of its layer: another layer of the same device refuses it."""
+        """A context is bound to the start of its layer: another layer of the same device refuses
+        it.
+        """
         context = self.saved(self.key(b"one"))
         self.device.completion.start += 1
         self.assertEqual(self.load_code(context), INTEGRITY_P1)
 
     def test_without_the_layer(self):
-        """The device alone has neither command. A context is loaded if the layer is there again."""
+        """The device alone supports neither TPM2_ContextSave nor TPM2_ContextLoad. A context can be
+        loaded again when the layer is enabled.
+        """
         handle = self.key(b"one")
         context = self.saved(handle)
         self.device.completes = False
@@ -337,7 +344,7 @@ class OfLayer(unittest.TestCase):
         self.assertEqual(self.load_code(context), 0)
 
     def test_each_turned_bit(self):
-        """A context with a turned bit is refused, and nothing is loaded."""
+        """A context with a flipped bit is refused, and nothing is loaded."""
         context = self.saved(self.key(b"one"))
         before = state_text(self.device.model, self.device.completion.numbers)
         for at in range(8 * len(context)):
@@ -382,7 +389,7 @@ class OfLayer(unittest.TestCase):
         self.assertEqual(protection, [SHA256, frames.AES, 128])
 
     def test_what_is_there(self):
-        """The lists and counts of objects are those of what is loaded."""
+        """The lists and counts of objects match the loaded objects."""
         handle = self.key(b"one")
         self.assertEqual(self.listed(), ([handle], OBJECTS - 1))
         self.saved(handle)

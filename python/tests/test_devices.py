@@ -139,8 +139,8 @@ def differs(test):
 
 @unittest.skipUnless(shutil.which("swtpm"), "there is no swtpm")
 class OverSwtpm(TwentyTests, unittest.TestCase):
-    """docs/OTHER_TPMS.md lists the differences. A test for each difference shows that it still
-    exists.
+    """Tests the differences that docs/OTHER_TPMS.md lists. Each test shows that its difference
+    still exists.
     """
 
     lacks = {"test_lockout": HOSTS_TIME}

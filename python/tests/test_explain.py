@@ -18,7 +18,7 @@ from tpmsim.explain.reason import RULES
 from tpmsim.model.image import image
 from tpmsim.standard import CC
 
-# Longer scripts consist mostly of bent and cut commands. They are left out, because all of them
+# Longer scripts consist mostly of altered and cut commands. They are left out, because all of them
 # take half a minute.
 MOST_BYTES = 20_000
 

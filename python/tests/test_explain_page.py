@@ -88,7 +88,7 @@ class Page(unittest.TestCase):
         self.assertEqual(image, "")
 
     def test_random_bytes_of_another_log(self):
-        """A log of another TPM has no entropy lines. The page then takes random bytes from the
+        """A log of another TPM has no entropy lines. The page then takes the random bytes from the
         responses.
         """
         log = b"cmd 80010000000c000001440000\ncmd 80010000000c0000017b0004\n# 80010000001000000000000401020304\n"

@@ -51,7 +51,7 @@ class Case:
         return hashlib.new(HASHES[algorithm or self.algorithm], data).digest()
 
     def told(self):
-        """Returns the session after the device has made the right assertions in it."""
+        """Makes the right assertions on the device, and returns the session."""
         session = self.tpm.session(kind=SE_POLICY, algorithm=self.algorithm)
         self.tpm.send(self.tpm.pcrs(session, [(SHA256, [self.PCR])]))
         secret = self.tpm.secret(session, of=RH_ENDORSEMENT, policy_ref=self.reference)
@@ -63,8 +63,8 @@ class Case:
         return session
 
     def links(self):
-        """Returns functions for the digests after each assertion, in order. Each takes the digest
-        before it.
+        """Returns functions that compute the digest after each assertion, in order. Each takes the
+        previous digest.
         """
         return {
             "pcr": lambda old: self.hash(old + self.pcr_text()),
@@ -110,7 +110,9 @@ class Case:
 
 
 def link(place, make):
-    """Returns a change that makes one link differently, from the case and the previous digest."""
+    """Returns a change that computes one digest of the chain differently, from the case and the
+    previous digest.
+    """
 
     def of_link(case, links):
         links[place] = lambda old: make(case, old)
@@ -236,8 +238,8 @@ NONE = (
 
 
 def pairs_of(rows, most=60):
-    """Yields some pairs of rows: first links that are made differently, then links in another
-    order.
+    """Yields pairs of rows: first rows that compute a digest differently, then rows that change the
+    order of the assertions.
     """
     pairs = list(itertools.combinations(rows, 2))
     for first, second in random.Random("pairs").sample(pairs, most):
@@ -285,7 +287,7 @@ class PolicySlips(unittest.TestCase):
             self.assertRegex(found.words, r"No known slip makes it: [\d,]+ digests, of other")
 
     def test_so_much_is_tried(self):
-        """For a policy with many assertions only a few links are tried."""
+        """If a policy has many assertions, mistakes are tried only at a few of them."""
         tpm = Caller(ModelDevice(seed=b"much"))
         tpm.start_up()
         session = tpm.session(kind=SE_POLICY)

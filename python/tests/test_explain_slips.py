@@ -96,7 +96,9 @@ class Case:
         }
 
     def bent(self, prepared, hashed=None, **changes):
-        """Returns the command with an HMAC of other parts; `hashed` changes its cpHash."""
+        """Returns the command with an HMAC that is computed from other parts. `hashed` changes its
+        cpHash.
+        """
         if hashed is not None:
             changes["parameters"] = self.cp_hash(prepared, **hashed)
         return prepared.but_entry(1, hmac=sessions.entry_hmac(**(self.parts(prepared) | changes)))
@@ -137,7 +139,7 @@ class Slips(unittest.TestCase):
         self.assertEqual(self.slips_of(case, prepared), list(wanted), "\n".join(case.device.trace))
 
     def bends(self, case, wanted, prepared=None, **changes):
-        """Checks a command that is right except for these parts of its HMAC."""
+        """Checks a command whose HMAC is right except for these parts."""
         self.refused(case, case.bent(prepared or case.use(), **changes), wanted)
 
     def cases(self, name, **choices):

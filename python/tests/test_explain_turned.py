@@ -318,7 +318,7 @@ TOLD_OTHERWISE = {
 
 
 def together(first, second):
-    """Returns the choices of both, or None if they are incompatible."""
+    """Returns the choices of two mistakes together, or None if the choices are incompatible."""
     if len({first.get("more"), second.get("more")} - {None}) > 1:
         return None
     choices = first | second
@@ -331,8 +331,8 @@ def together(first, second):
 
 
 def pairs_of(count):
-    """Yields random pairs of rows, with the choices of both. The rows are in different places, or
-    both in the last place.
+    """Yields random pairs of mistakes with their choices. The two mistakes concern different
+    ingredients, or both concern the last one.
     """
     pairs = list(itertools.combinations(ROWS, 2))
     for pair in random.Random("pairs").sample(pairs, count):
@@ -479,7 +479,7 @@ class Turned(unittest.TestCase):
             self.assertEqual(found.slips, [])
             self.assertRegex(found.facts[-1].value, r"none of [\d,]+ that were tried: other forms")
 
-    # Tests with values that the user tries.
+    # Tests with values to try, which the user names by --try.
 
     def test_tried(self):
         """Each value is named with --try, and is not named without it."""

@@ -127,7 +127,7 @@ class Snapshots:
             self.assert_same(device.snapshot(), taken)
 
     def test_other_devices(self):
-        """Any other device continues from the snapshot."""
+        """Any other device can continue from the snapshot."""
         taken = self.worked()
         with ModelDevice(seed=SEED) as other:
             other.restore(bytes(taken))
@@ -165,8 +165,8 @@ class Told(Snapshots):
     """Tests of devices that receive their locality, time and random bytes."""
 
     def test_what_was_told(self):
-        """A snapshot restores the settings of the device. Its bytes have none of these, and begin a
-        new trace.
+        """A snapshot restores the settings of the device. The snapshot's bytes contain no settings,
+        and begin a new trace.
         """
         device = self.tpm.device
         device.locality = 3
@@ -260,8 +260,8 @@ class InProcess(Told, unittest.TestCase):
         tpm.define(area())
 
     def test_no_memory(self):
-        """If there is no memory for the restored device, this device is unchanged. If an allocation
-        fails later, it is not.
+        """If memory runs out before the restored device exists, this device is unchanged. If an
+        allocation fails later, this device is replaced.
         """
         taken, device = self.worked(), self.tpm.device
         with mock.patch.object(device, "library") as calls:

@@ -226,8 +226,8 @@ class Judged(unittest.TestCase):
 
 
 class AtRandom(unittest.TestCase):
-    """Scripts whose journals begin again and again with the whole state. Each of these journals is
-    a log of its own. All of them in sequence are one log.
+    """Random scripts whose journals restart with the whole state. Each of these journals is a log
+    of its own. All of them in sequence are one log.
     """
 
     SCRIPTS = "lost_grounds", "lockout_sessions", "startup_state"

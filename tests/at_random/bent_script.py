@@ -10,7 +10,7 @@ from tests.common.script import line
 # The offset of an image's length, and the offset after the seeds and proofs.
 LENGTH_AT, BEHIND_SEEDS = 6, BODY_AT + 4 * 66
 
-# The probability that a line is bent, and the probability that a byte of the text is changed.
+# The probability that a line is altered, and the probability that a byte of the text is changed.
 SELDOM, OFTEN = 0.06, 0.3
 
 SIZES = 0, 1, 2, 8, 9, 16, 20, 32, 33, 64, 128, 1024, 1025, 4096, 0xFFFF
@@ -30,7 +30,7 @@ def sized_right(buffer):
     return put(buffer, 2, frames.number(len(buffer), 4)) if len(buffer) >= 6 else buffer
 
 
-# Ways to bend bytes. Each takes a source of random numbers.
+# Ways to alter bytes. Each takes a source of random numbers.
 
 
 def bit(random, buffer):
@@ -59,12 +59,12 @@ def more(random, buffer):
 
 
 def doubled(random, buffer):
-    """Returns a buffer with a piece of it repeated. The piece may be an entry or a handle."""
+    """Returns a buffer in which one part, an entry or a handle, occurs twice."""
     at, size = random.randrange(len(buffer)), random.choice((4, 9, 9, 20))
     return buffer[: at + size] + buffer[at:]
 
 
-# Ways to bend the bytes of a command.
+# Ways to alter the bytes of a command.
 
 
 def handle_within(random, buffer):
@@ -104,7 +104,7 @@ def bent_buffer(random, buffer):
 
 
 def bent_image(random, text):
-    """Returns an image that is bent at one or two offsets, mostly after its seeds. Mostly it has
+    """Returns an image that is altered at one or two offsets, mostly after its seeds. Mostly it has
     the right length and digest.
     """
     for _ in range(random.choice((1, 1, 2))):
@@ -117,7 +117,9 @@ def bent_image(random, text):
 
 
 def bent_lines(random, lines):
-    """Returns the lines. Some of them are bent, lost, doubled, or swapped with the next line."""
+    """Returns the lines, some of which are altered, dropped, doubled, or swapped with the next
+    line.
+    """
     lines, bent = list(lines), 0
     for at, text in enumerate(lines):
         if random.random() >= SELDOM:
@@ -134,7 +136,7 @@ def bent_lines(random, lines):
 
 
 def bent_script(random, lines):
-    """Returns the text of a bent script, and the number of its bent lines."""
+    """Returns the text of an altered script, and the number of its altered lines."""
     lines, bent = bent_lines(random, lines)
     text = bytearray("\n".join(lines).encode("ascii") + b"\n")
     if random.random() < OFTEN:

@@ -4,8 +4,8 @@
     fuzz.py PROGRAM --rounds N SEED    N rounds
     fuzz.py PROGRAM --replay FILE      a script or a stream that an earlier run left
 
-A round has a random script, a bent script, and a stream. A stream is connections to a served
-device in consecutive runs, some of them on a bent image. A round depends only on its seed.
+A round has a random script, an altered script, and a stream. A stream is connections to a served
+device in consecutive runs, some of them on an altered image. A round depends only on its seed.
 """
 
 import contextlib
@@ -78,7 +78,7 @@ DEFECTS = (
 
 @dataclass
 class Kind:
-    """A kind of input: scripts, bent scripts or streams. It has the file's suffix, how a file's
+    """A kind of input: scripts, altered scripts or streams. It has the file's suffix, how a file's
     text is divided into lines and joined, and how a difference is found. It counts how many were
     tried, and what they contained.
     """
@@ -102,7 +102,7 @@ class Kind:
 
 
 def shrunken(lines, differs):
-    """Returns the lines that are necessary for the difference."""
+    """Returns a smaller input, whose lines are all needed for the difference."""
     until = time.monotonic() + SHRINKING_SECONDS
     size, before = len(lines), len(lines)
     while size and time.monotonic() < until:

@@ -335,7 +335,7 @@ class Writer(random.Random):
         held = [*self.device.objects, *self.device.sessions, 0x80000007, 0x02000000, RH_NULL]
         return [], number(self.choice(held), 4)
 
-    # Commands for what a device keeps.
+    # Commands that change what a device keeps without power.
 
     def parameters(self):
         """Returns the parameters of dictionary attack protection."""

@@ -76,7 +76,7 @@ class StreamWriter(Writer):
             self.send(buffer[: self.randrange(len(buffer) or 1)])
 
     def give_image(self):
-        """Adds a run on an image of either version, which is mostly bent. If it is not an image,
+        """Adds a run on an image of either version, which is mostly altered. If it is not an image,
         the earlier image is restored after the run.
         """
         self.served.end()

@@ -1,5 +1,5 @@
-/* Opens a device by the words of the module and uses it: `ask WORDS ACT..`. An act is one of
- * these: a command in hex, whose response is printed; `power`, a power cycle; or `locality N`. A
+/* Opens a device with the module's configuration string and uses it: `ask WORDS ACT..`. An act is one
+ * of these: a command in hex, whose response is printed; `power`, a power cycle; or `locality N`. A
  * fault is printed, and ends the program. */
 #include "common.h"
 #include "words.h"

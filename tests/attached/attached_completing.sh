@@ -1,6 +1,6 @@
-# The completing layer of a kept device. A context that one process saved is loaded by another process, until
-# the power is cycled: of a session once, of an object any number of times, also after it was flushed. A process
-# that switches the layer off uses only the device. attached/ask.c is the caller.
+# The completing layer of a kept device. A context that one process saved is loaded by another process, until the power
+# is cycled: of a session once, of an object any number of times, also after it was flushed. A process that disables
+# the layer uses only the device. attached/ask.c is the caller.
 tests=$(cd "$(dirname "$0")/.." && pwd -P)
 . "$tests/common/cases.sh"
 . "$tests/common/library.sh"
@@ -13,7 +13,7 @@ startup=80010000000c000001440000
 stir=80010000000e0000014600020102
 session=80010000002b0000017640000007400000070010$(printf '%032d' 0)0000000010000b
 save=80010000000e0000016202000000
-# TPM2_CreatePrimary of a storage key, and what is done with the key.
+# TPM2_CreatePrimary of a storage key, and the commands on that key.
 primary=80020000003b00000131400000010000000940000009000001000000040000000000120025000b0003047200000006008000430000
 primary=${primary}000000000000
 save_object=80010000000e0000016280000000

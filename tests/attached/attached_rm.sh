@@ -1,5 +1,5 @@
-# The word `rm` of the module: at its end, a process flushes the objects and sessions that it loaded.
-# attached/rm.c is the caller, with the module's sources.
+# The option `rm` of the module: when a process ends, it flushes the objects and sessions that it loaded. attached/rm.c
+# is the caller, with the module's sources.
 tests=$(cd "$(dirname "$0")/.." && pwd -P)
 . "$tests/common/cases.sh"
 . "$tests/common/library.sh"

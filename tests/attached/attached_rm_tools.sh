@@ -1,5 +1,5 @@
-# tpm2-tools with the word `rm` of the module. A day's steps without tpm2_flushcontext leave nothing loaded,
-# and fill no slot.
+# tpm2-tools with the option `rm` of the module. A day's work without tpm2_flushcontext leaves nothing loaded, and
+# fills no slot.
 tests=$(cd "$(dirname "$0")/.." && pwd -P)
 . "$tests/common/cases.sh"
 . "$tests/common/library.sh"

@@ -1,5 +1,4 @@
-# `tpmsim replay` prints for the journal of a kept device the same responses as the device. attached/ask.c is
-# the caller.
+# `tpmsim replay` of a kept device's journal prints the same responses as the device. attached/ask.c is the caller.
 tests=$(cd "$(dirname "$0")/.." && pwd -P)
 . "$tests/common/cases.sh"
 . "$tests/common/library.sh"

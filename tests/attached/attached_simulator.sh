@@ -1,4 +1,5 @@
-# Tests what tpmsim-simulator keeps, records and repeats, its devices and its clients: attached/simulator.py.
+# Tests tpmsim-simulator: its saved states, its records, its reproducible runs, its devices and its clients.
+# attached/simulator.py is the caller.
 tests=$(cd "$(dirname "$0")/.." && pwd -P)
 . "$tests/common/cases.sh"
 . "$tests/common/library.sh"

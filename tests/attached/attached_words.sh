@@ -1,4 +1,4 @@
-# Right and wrong words by which a device is attached: attached/ask.c is the caller.
+# Right and wrong configuration strings for attaching a device: attached/ask.c is the caller.
 tests=$(cd "$(dirname "$0")/.." && pwd -P)
 . "$tests/common/cases.sh"
 . "$tests/common/library.sh"

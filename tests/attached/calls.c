@@ -4,12 +4,12 @@
 #include "calls.h"
 #include <dirent.h>
 
-/* The number of extends that the PCR has had in the state with which each trial begins. */
+/* The number of extends that the PCR has had at the beginning of each trial. */
 enum { EXTENDS = 2 };
 
 static const char FOLDER[] = "state";
 
-/* The result of a trial: whether everything was done, and the sentence if not. */
+/* The result of a trial: whether everything succeeded, and the message if not. */
 struct outcome {
     bool is_done;
     struct reason reason;
@@ -73,8 +73,8 @@ static bool nothing(struct kept *kept, struct reason *reason) {
     return true;
 }
 
-/* A kind of trial: whether there is a state, the image of a new one, and what is done with the
- * device. The device may have been opened before. */
+/* A kind of trial: whether a device exists already, the image of a new device, and the calls to make.
+ * The device may have been opened before. */
 struct trial {
     const char *label;
     bool has_state, is_open_before;
@@ -91,8 +91,8 @@ static const struct trial TRIALS[] = {
     {"a power cycle of an open device", true, true, NULL, power},
 };
 
-/* Opens the device after a trial, in a process without faults. Returns the number of its
- * extends, or -2 if power came on, so that the device awaits TPM2_Startup. */
+/* Opens the device after a trial, in a process without faults. Returns the number of its extends, or -2
+ * if the device was power-cycled and needs TPM2_Startup. */
 static long extends_there(struct kept *kept, const struct values *values) {
     uint8_t response[RESPONSE_BYTES];
     size_t size = answered_by(kept, PCR_READ, sizeof PCR_READ, response);
@@ -180,14 +180,14 @@ static void try_all(const struct trial *trial, enum fault kind, const struct val
            told && borne ? "; borne:" : borne ? "borne:" : "", names);
 }
 
-/* Prints how often an action of the device syncs. */
+/* Prints how often an operation on the device syncs. */
 static void tell_forced(const char *label) {
     printf("; %s %u and %u", label, forced, forced_data);
     forced = forced_data = 0;
 }
 
-/* Counts for each word of force how often whole files are synced, and how often only their
-   bytes. */
+/* Counts, for each value of the option `force`, how often whole files are synced, and how often only
+   their bytes. */
 static void count_forced(void) {
     static const char *const labels[] = {"power", "never", "always"};
     static const uint8_t forces[] = {TPMSIM_FORCE_POWER, TPMSIM_FORCE_NEVER, TPMSIM_FORCE_ALWAYS};

@@ -12,8 +12,8 @@
 #include <sys/stat.h>
 #include <time.h>
 
-/* What happens to the call of the number. It fails with EIO, or with EINTR; it moves half of its bytes;
- * it is a request for memory, and there is none; or the process is killed before it. */
+/* The fault of the chosen call. It fails with EIO or with EINTR; it moves half of its bytes; it fails
+ * to allocate memory; or the process is killed before it. */
 enum fault { NO_FAULT, FAILS, IS_INTERRUPTED, MOVES_HALF, HAS_NO_MEMORY, IS_KILLED };
 
 static enum fault fault;
@@ -29,7 +29,7 @@ static void (*when_forced)(int file);
 /* How many pages are mapped at present. */
 static int mapped;
 
-/* Whether this call is of a counted kind, and has the number. */
+/* Whether this call is of a counted kind, and is the one to fail. */
 static bool is_the_one(const char *name, bool is_counted) {
     if (fault == NO_FAULT || !is_counted || ++counted != number) return false;
     name_of_it = name;
@@ -148,7 +148,7 @@ int __wrap_fdatasync(int file) {
     return 0;
 }
 
-/* The user is not the owner of the files. */
+/* Pretends that the user does not own the files. */
 uid_t __real_geteuid(void);
 uid_t __wrap_geteuid(void);
 uid_t __wrap_geteuid(void) { return __real_geteuid() + (fails("geteuid", false) ? 1 : 0); }

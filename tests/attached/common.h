@@ -26,7 +26,7 @@ static const uint8_t EXTEND[] = {
 static const uint8_t PCR_READ[] = {0x80, 0x01, 0, 0, 0, 20, 0, 0, 0x01, 0x7e,
                                    0,    0,    0, 1, 0, 11, 3, 0, 4,    0};
 
-/* Ends the program with a line unless this holds. */
+/* Ends the program with a message unless the condition holds. */
 static inline void must(bool holds, const char *what) {
     if (holds) return;
     fflush(stdout);
@@ -106,7 +106,7 @@ static inline long extends_of(struct kept *kept, const struct values *values) {
     return -1;
 }
 
-/* The path of a file in a folder. */
+/* Returns the path of a file in a folder. */
 static inline const char *path_in(const char *folder, const char *name, char room[512]) {
     must(snprintf(room, 512, "%s/%s", folder, name) < 512, "a path is too long");
     return room;

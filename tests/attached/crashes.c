@@ -9,8 +9,8 @@
 #include <sys/prctl.h>
 #include <sys/wait.h>
 
-/* The answered commands since power came on, as far as the device's holders know. Also the
- * commands that the holders sent and that were not answered. */
+/* The answered commands since the last power-on, as far as the processes that hold the device know.
+ * Also the commands that they sent and that were not answered. */
 static struct {
     atomic_long extends, asked;
     atomic_bool is_started, is_starting, is_cycling;
@@ -26,7 +26,7 @@ static struct {
 
 enum { AWAITS_STARTUP = -2 };
 
-/* The word of force. Also whether the host has crashed since the last check. */
+/* The option `force`. Also whether the host has crashed since the last check. */
 static uint8_t force = TPMSIM_FORCE_ALWAYS;
 static bool has_crashed;
 
@@ -81,7 +81,7 @@ static bool cycle_telling(struct kept *kept) {
     return true;
 }
 
-/* Returns the number of extends of the present device. */
+/* Returns the number of extends of the device as it is now. */
 static long extends_there(struct kept *kept, const struct values *values) {
     uint8_t response[RESPONSE_BYTES];
     size_t size = answered_by(kept, PCR_READ, sizeof PCR_READ, response);

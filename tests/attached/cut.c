@@ -15,7 +15,7 @@ static struct {
     size_t size, ends[MANY + 2], records;
 } whole;
 
-/* The last reported sentence. */
+/* The last reported message. */
 static char sentence[512];
 
 static void hear(const char *told) {

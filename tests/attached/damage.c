@@ -6,7 +6,7 @@ enum { EXTENDS = 3 };
 
 static const char FOLDER[] = "state", JOURNAL[] = "state/journal";
 
-/* The bytes of a journal: those in the file, or those that were written at first. */
+/* The bytes of a journal: the original bytes, or those that are in the file now. */
 struct text {
     uint8_t *bytes;
     size_t size;
@@ -24,7 +24,7 @@ static void must_be(const struct text *wanted, const char *what) {
     free(there.bytes);
 }
 
-/* Opens the device. It must be refused; its sentence is counted. */
+/* Opens the device, which must fail. Counts the message. */
 static void refuse_opening(size_t counts[4]) {
     static const char *const sentences[] = {
         "state/journal is damaged, and stays as it is", "state/journal is no journal of a device",

@@ -1,5 +1,5 @@
-/* What the disk has of a kept device: what was forced to it, and nothing else. A crash of the host
- * replaces the folder with that. The processes of a test share it. */
+/* The content of the disk: exactly those bytes of a kept device that were synced. A crash of the host
+ * replaces the folder with this content. The processes of a test share it. */
 #ifndef DISK_H
 #define DISK_H
 #include "calls.h"
@@ -60,7 +60,7 @@ static inline void force_folder(const struct stat *status) {
     disk->journal = stat(JOURNAL, &journal) == 0 ? journal.st_ino : 0;
 }
 
-/* Puts on the disk what was forced. */
+/* Copies synced bytes to the disk. */
 static void put_on_disk(int file) {
     struct stat status;
     enum fault before = fault;
@@ -76,15 +76,15 @@ static void put_on_disk(int file) {
     fault = before;
 }
 
-/* Adds zeros by chance, which the disk has instead of bytes that did not get there. */
+/* By chance adds zeros to the disk, in place of bytes that were not written there. */
 static inline void add_zeros_by_chance(struct disk_file *there) {
     size_t more = rand() % 2 ? (size_t)rand() % (FILE_MOST - there->size) : 0;
     memset(there->bytes + there->size, 0, more);
     there->size += more;
 }
 
-/* Adds by chance some bytes that the file has beyond those on the disk, and perhaps zeros: bytes may get
- * there without being forced. */
+/* By chance adds some bytes of the file that were not synced, and perhaps zeros. A system may write
+ * such bytes to the disk before a sync. */
 static inline void add_by_chance(struct disk_file *there) {
     size_t size;
     struct stat status;
@@ -99,7 +99,7 @@ static inline void add_by_chance(struct disk_file *there) {
     free(bytes);
 }
 
-/* Replaces the folder with what the disk has, as a crash of the host does. */
+/* Replaces the folder with the content of the disk, as a crash of the host does. */
 static inline void crash(void) {
     struct stat status;
     struct disk_file *there = disk->journal ? disk_file_of(disk->journal) : NULL;

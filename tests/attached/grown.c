@@ -1,6 +1,6 @@
-/* A journal that has grown begins again, whoever holds the device. Past journals stay if that is
- * asked for. A long journal of an earlier version opens. The argument is the file of the values
- * of the PCR. */
+/* A journal that has grown is restarted, whichever process holds the device. Past journals are kept if
+ * the option `keep` is set. A long journal of an earlier version opens. The argument is the file of the
+ * values of the PCR. */
 #include "old_journal.h"
 #include <sys/stat.h>
 #include <sys/wait.h>

@@ -4,7 +4,7 @@
 #define OLD_JOURNAL_H
 #include "common.h"
 
-/* Its bytes, with the ends of its head and of each of its records. */
+/* The bytes of a journal, with the ends of its head and of each of its records. */
 struct old_journal {
     uint8_t *bytes;
     size_t size, *ends;

@@ -100,8 +100,8 @@ static void compare_draws(struct kept *kept, const char *label) {
     fflush(stdout);
 }
 
-/* The work of the first process with number 1. It opens the devices, forks the second process,
-   and then does the same as that. */
+/* The work of the first process with number 1. It opens the devices, forks the second process, and then
+   does the same work as the second process. */
 static void open_and_fork(const struct values *values) {
     struct kept_options in_memory = {.folder = NULL};
     struct kept *memory = kept_open(&in_memory, &(struct reason){0}), *kept = opened(FOLDER);

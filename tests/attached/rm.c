@@ -1,6 +1,6 @@
-/* The word `rm` of the module for libtss2. When a process finalizes its context, the objects and
- * sessions are flushed that it loaded and did not flush, and nothing else. Each context of the
- * module is one client. All of them share a device in a folder. */
+/* The option `rm` of the module for libtss2. When a process finalizes its context, the module flushes
+ * the objects and sessions that the process loaded and did not flush, and nothing else. Each context of
+ * the module is one client. All of them share a device in a folder. */
 #include "common.h"
 #include <signal.h>
 #include <sys/wait.h>
@@ -205,7 +205,7 @@ static void killed(void) {
     show("a process that was killed");
 }
 
-/* Handles that no longer exist at the end are not flushed, and that is no fault. */
+/* Handles that no longer exist when the process ends are not flushed, and that is not a fault. */
 static void gone(void) {
     TSS2_TCTI_CONTEXT *context = begun(RM);
     object(context);

@@ -1,4 +1,4 @@
-"""Tests tpmsim-simulator: what it keeps and records, reproducible runs, several devices, and
+"""Tests tpmsim-simulator: its saved states, its records, reproducible runs, several devices, and
 hostile clients:
 
     tools/python.sh tests/attached/simulator.py SIMULATOR

@@ -1,12 +1,11 @@
-/* Checks the sentences of the kept device about a damaged journal, for each number by which the
- * library can say why the journal does not open. The file stays as it was. The library's
- * function is wrapped. */
+/* Checks the messages of the kept device about a damaged journal, for each return code of the library's
+ * function that opens a journal. The file stays as it was. The test wraps that function. */
 #include "common.h"
 
 static const char FOLDER[] = "state", JOURNAL[] = "state/journal";
 
-/* The number that the wrapped function returns instead of its work. With TPMSIM_DONE it does its
-   work. */
+/* The return code of the wrapped function, which then does not open the journal. With TPMSIM_DONE the
+   function is called as usual. */
 static uint8_t opening;
 
 uint8_t __real_tpmsim_journal_open(tpmsim *device, const uint8_t *text, size_t size, size_t *taken);

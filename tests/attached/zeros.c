@@ -79,7 +79,7 @@ static void try_zeros(size_t front, size_t zeros, const struct values *values) {
     kept_close(kept);
 }
 
-/* Does the same with a nonzero byte among the zeros. */
+/* Does the same as try_zeros, with a nonzero byte among the zeros. */
 static void try_damage(size_t front, size_t zeros, size_t place, const struct values *values) {
     size_t size = last + front + zeros, there;
     struct reason reason;

@@ -12,9 +12,9 @@ in_c() {
     cc -std=c11 -O1 -Wall -Wextra -Werror -Wconversion -I"$dist" -I"$hosts/kept" "$@" || exit 1
 }
 
-# parts WORDS..: prints the folder with the compiled parts of the kept device, and compiles them first if
-# necessary. They are compiled with those of these words that are options. tools/scripts.sh names the folder
-# TPMSIM_BUILT; then they are compiled once for all its tests.
+# parts WORDS..: prints the folder with the compiled parts of the kept device, and compiles them first if necessary.
+# The options among the words are passed to the compiler. tools/scripts.sh names the folder TPMSIM_BUILT; then they are
+# compiled once for all its tests.
 parts() {
     how=$(printf '%s\n' "$@" | grep '^-[fg]')
     built=${TPMSIM_BUILT:-$room/built}/attached-$(echo "$how" | cksum | tr ' ' -)
@@ -41,7 +41,7 @@ attach() {
     in_c -O0 -o "$caller" "$source" "$built"/*.o "$@" "$archive"
 }
 
-# attach_both SOURCE WORDS..: compiles a caller twice: as NAME, the name of its source, and with sanitizers as
+# attach_both SOURCE WORDS..: compiles a caller twice: as NAME, after its source, and with sanitizers as
 # sanitized_NAME.
 attach_both() {
     attach "$1" "$@"

@@ -1,11 +1,12 @@
-"""Bends lines of commands token by token, and compares `tpmsim` with lines.py of the Python device:
+"""Alters lines of commands token by token, and compares `tpmsim` with lines.py of the Python
+device:
 
     tools/python.sh tests/common/bent_lines.py PROGRAM
 
-The test takes the first line of each command from assemble.lines. It applies each way to bend a
-token to every third token. For each way it prints how many lines were bent, how many buffers and
+The test takes the first line of each command from assemble.lines. It applies each way to alter a
+token to every third token. For each way it prints how many lines were altered, how many buffers and
 faults they make, and how many results differ from the program's. Each difference has a line that
-begins with DIFFERS. Then the test plays some bent lines in scripts. At last it inserts and
+begins with DIFFERS. Then the test plays some altered lines in scripts. At last it inserts and
 replaces single bytes in script lines, at each offset.
 """
 
@@ -24,7 +25,7 @@ from tests.common.shims import Ending, ran, Shim, Turns
 TESTS = pathlib.Path(__file__).resolve().parent.parent
 STARTUP, STARTED = b"do Startup 0\n", b"80010000000a00000000\n"
 
-# Each way bends every third token. It begins one token later than the way before it.
+# Each way alters every third token. It begins one token later than the way before it.
 EACH = 3
 
 # Every fifth bad line is also played in a script of its own, between two commands.
@@ -87,7 +88,7 @@ BYTES = {
 }
 
 
-# Ways to bend a line at one token. Each takes the tokens before it, the token itself, and the
+# Ways to alter a line at one token. Each takes the tokens before it, the token itself, and the
 # tokens after it.
 
 
@@ -132,8 +133,8 @@ def first_lines():
 
 
 def bent(first, bend, begin=0, step=1):
-    """The lines, each bent at one token. Of all tokens of the lines, every `step`-th one is bent,
-    from token number `begin` on.
+    """The lines, each altered at one token. Of all tokens of the lines, every `step`-th one is
+    altered, from token number `begin` on.
     """
     places = (
         (tokens, at) for tokens in (it.split(b" ") for it in first) for at in range(len(tokens))
@@ -182,7 +183,7 @@ def counted(outcomes):
 
 
 def try_bend(asm, name, bent_lines):
-    """Passes to `tpmsim asm` the lines that are bent in one way, and compares the outcomes."""
+    """Passes to `tpmsim asm` the lines that are altered in one way, and compares the outcomes."""
     want = [wanted(line) for line in bent_lines]
     give = [asm.run(word=line) for line in bent_lines]
     differ = compared(

@@ -1,10 +1,10 @@
-"""Checks bent lines of commands as one script, and compares with lines.py of the Python device:
+"""Checks altered lines of commands as one script, and compares with lines.py of the Python device:
 
     tools/python.sh tests/common/checked_lines.py PROGRAM
 
 The script has each line of bent_lines.py once. For each fault the test prints how many bad lines
-have it, and for how many of these `tpmsim check` reports something else. The last line counts
-the good lines. Each difference has a line that begins with DIFFERS.
+have it, and for how many of these `tpmsim check` reports something else. The last line counts the
+good lines. Each difference has a line that begins with DIFFERS.
 """
 
 import collections

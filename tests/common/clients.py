@@ -50,7 +50,7 @@ def fill(client):
 
 
 def leave(path, text, before):
-    """Sends the commands, calls `before`, and ends."""
+    """Sends the commands, calls `before`, and disconnects."""
     client = connected(path)
     client.sendall(text)
     before(client)

@@ -34,7 +34,7 @@ def documents() -> Documents:
 
 
 def between(text: str, before: str, behind: str) -> str:
-    """Returns the text between two others; empty if they are not there."""
+    """Returns the text between two other texts; empty if either is missing."""
     _, found, rest = text.partition(before)
     return rest.partition(behind)[0] if found else ""
 
@@ -97,7 +97,7 @@ def groups(texts: Documents) -> List:
 
 
 def not_served(texts: Documents) -> List:
-    """None of the commands that are listed as not served is served."""
+    """None of the commands that are listed as unsupported is supported."""
     text = between(texts[REFUSALS], "## Commands that are not served", "\n## ")
     return List([], [it for it in NAME.findall(text) if it in CC.__members__])
 

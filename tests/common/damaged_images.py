@@ -2,12 +2,12 @@
 
     damaged_images.py PROGRAM                      images of a device that saved its state, in both
                                                    versions, and bodies with one thing wrong
-    damaged_images.py PROGRAM full [SEED [COUNT]]  the largest image, and COUNT bent bodies of
+    damaged_images.py PROGRAM full [SEED [COUNT]]  the largest image, and COUNT altered bodies of
                                                    a full device
 
-For each kind of damage the test prints how many texts there were, and their faults. Each
-difference has a line of its own. The last line is `N agree, M differ`. The test works in the
-current folder. It leaves there the first texts that differ, in the files that these lines name.
+For each kind of damage the test prints how many texts there were, and their faults. Each difference
+has a line of its own. The last line is `N agree, M differ`. The test works in the current folder.
+It leaves there the first texts that differ, in the files that these lines name.
 """
 
 import collections
@@ -36,7 +36,7 @@ DEFAULTS = [1, 10_000]
 MOST_LEFT = 100
 
 # The program gets the first texts of a long series, and then one of every `step`. STEP divides no
-# number of ways to change a byte. The library gets all texts.
+# number of ways to change a byte. The library gets all the texts.
 FIRST, STEP = 100, 11
 
 # The clock of the device whose image is damaged, without the time that really passed.
@@ -54,8 +54,8 @@ class Program:
 
     @staticmethod
     def place(text):
-        """Writes the image as a new file. If the old file were shortened, the system might write it
-        to disk.
+        """Writes the image as a new file. If the file were overwritten in place, the system might
+        write it to disk at once.
         """
         path = pathlib.Path("image")
         path.unlink(missing_ok=True)

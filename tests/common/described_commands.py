@@ -72,7 +72,9 @@ class Program:
 
 @dataclass(frozen=True)
 class Asked:
-    """A question to the program, the answer by the description, and the program's answer."""
+    """A question to the program, the expected answer according to the description, and the
+    program's answer.
+    """
 
     what: str
     described: object
@@ -163,7 +165,7 @@ def attributes(program: Program, codes: list[CC]) -> Iterator[Asked]:
 
 
 def served(program: Program, codes: list[CC]) -> Iterator[Asked]:
-    """Compares which command codes are served, and which of them a policy can name."""
+    """Compares which commands the device supports, and which of them a policy can name."""
     numbers = range(0x100, 0x200) if len(codes) == len(CC) else [int(it) for it in codes]
     for wanted, refusal, buffer in (
         ("served", "COMMAND_CODE", lambda it: frames.command(it, b"\0")),
@@ -468,7 +470,9 @@ WRONG = (
 
 
 def is_missing_one_found(program: Program) -> bool:
-    """Returns whether the comparison finds a command that is served but not described."""
+    """Returns whether the comparison finds a command that the device supports and the description
+    lacks.
+    """
     with mock.patch.dict(NUMBERED):
         del NUMBERED[READ]
         return any(it.described != it.found for it in served(program, [READ]))

@@ -111,7 +111,7 @@ def played_by(script, device):
 
 
 def device_behind(script):
-    """Returns the device after a script."""
+    """Returns the device after it has executed a script."""
     device = Model()
     for _ in played_by(script, device):
         pass

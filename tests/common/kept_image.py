@@ -22,8 +22,8 @@ def identity():
 
 
 def check_image(label, device, compared=bytes):
-    """Checks that the image is the device's. `compared` selects the parts of both that are
-    compared.
+    """Checks that the file contains the device's image. `compared` selects the parts of the two
+    images that are compared.
     """
     if not IMAGE.exists():
         fail(f"{label}: there is no image")

@@ -6,8 +6,8 @@ Two checks apply to the buffer of each `do` line of tests/ and examples/. If it 
 device does and joined again by frames.py, it must be the same. The line that the Python device
 finds for it must assemble to it. In a script that a program wrote, each `cmd` line must be a
 command that no words can encode, unless the script says that its commands are bytes. The program
-must find the same lines. It is asked for the first buffers of each command and for a tenth of
-the others. Of the `cmd` lines it is asked for a twentieth, because bent scripts have many.
+must find the same lines. It is asked for the first buffers of each command and for a tenth of the
+others. Of the `cmd` lines it is asked for a twentieth, because altered scripts have many.
 """
 
 import collections
@@ -86,7 +86,7 @@ def check(turns, buffer):
 
 
 def some(buffers):
-    """Yields the first buffers of each command, and one of every few others."""
+    """Yields the first few buffers of each command, and a part of its other buffers."""
     seen = collections.Counter()
     for buffer in buffers:
         code = buffer[6:10]

@@ -91,7 +91,7 @@ class Script:
         return starved
 
     def check_alone(self, turn, ending):
-        """Checks that one failed allocation starves at most one command, which succeeds the next
+        """Checks that one failed allocation makes at most one command fail, which succeeds the next
         time.
         """
         starved = self.check_run(turn, ending)

@@ -19,7 +19,7 @@ MAKES = re.compile(r'"""Makes (\w+)\.tpm\b')
 
 
 def programs() -> dict[str, pathlib.Path]:
-    """Returns the programs of made scripts by their names, the largest first, since they take
+    """Returns the programs of generated scripts by their names, the largest first, since they take
     longest.
     """
     found = {}

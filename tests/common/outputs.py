@@ -1,5 +1,5 @@
-"""Writes the output of a script by the Python device: NAME.out, and NAME.trace if that exists
-already.
+"""Writes the output of a script as the Python device produces it: NAME.out, and NAME.trace if that
+file exists already.
 """
 
 import pathlib

@@ -42,7 +42,7 @@ def stored() -> list[pathlib.Path]:
 
 
 def scripts() -> list[pathlib.Path]:
-    """Returns all scripts; the made ones come last."""
+    """Returns all scripts; the generated ones come last."""
     return [*stored(), *sorted(folder_of_made().glob("*/*.tpm"), key=lambda it: it.name)]
 
 

@@ -103,8 +103,8 @@ class Comparison:
         return self.tables.get(head, [])
 
     def standing(self, name: str) -> str:
-        """Returns the replacement of a requested name, by the page, or the name itself if there is
-        none.
+        """Returns the name by which the page replaces a requested name, or the name itself if the
+        page has no replacement.
         """
         if name in self.others:
             return self.others[name][0]
@@ -122,7 +122,7 @@ class Comparison:
         return [self.standing(call) for call in calls]
 
     def call(self, name: str) -> Call | None:
-        """Returns the call of this name, if it exists."""
+        """Returns the call with this name, if it exists."""
         found = self.crates.find(name)
         return found.call if found else None
 

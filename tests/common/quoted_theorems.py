@@ -22,7 +22,7 @@ def bare(text: str) -> str:
 
 
 def stands(quote: str, text: str) -> bool:
-    """Returns whether a quote is in a text as whole lines. An empty quote is not."""
+    """Returns whether a text contains a quote as whole lines. An empty quote does not count."""
     lines = bare(quote).strip("\n")
     return lines != "" and f"\n{lines}\n" in f"\n{bare(text)}\n"
 

@@ -18,7 +18,7 @@ AT_MOST = 60
 SHOWN = 2000
 SERVE = "serve --socket socket --image image --entropy entropy --locality 0 --connections".split()
 
-# The files that a run may always leave.
+# The files that any run may leave.
 OWN = {"image", "image.lock", "entropy"}
 
 # Functions that allocate, other than the two that the shim refuse.c replaces.

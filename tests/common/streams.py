@@ -116,7 +116,7 @@ class Run:
 
 class Served:
     """The device in its runs, and the contents of its image's file, as the lines determine them. A
-    line at which it makes no sense does nothing.
+    line that makes no sense at its position does nothing.
     """
 
     def __init__(self) -> None:

@@ -29,7 +29,7 @@ static void note(const char *call, const char *file) {
     syscall(SYS_close, log);
 }
 
-/* Returns whether this call is the one that fails or is cut. */
+/* Returns whether this call is the one that fails or is cut short. */
 static int is_the_one(const char *call, const char *file) {
     note(call, file);
     if (++calls != atol(getenv("AT"))) return 0;

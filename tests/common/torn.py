@@ -49,7 +49,7 @@ OTHERS = (
     " sendfile sendmsg sendto shutdown splice stat sync unlinkat writev"
 ).split()
 
-# Further results of a failed call.
+# What else may happen when a call fails.
 NONE, ALONE = "", ", that connection alone ends"
 OLD, NEW = ", the old image stays", ", the new image is there"
 

@@ -1,10 +1,10 @@
-"""Plays the made scripts on wrong Python devices, each with one error:
+"""Plays the generated scripts on wrong Python devices, each with one error:
 
     wrong_made.py PROGRAM
 
-Each script has a wrong device. The program's response to some command of the script has to
-differ from that device's. The test prints whether it does. The status is 1 if it does not, or if
-a script has no wrong device.
+Each script has a wrong device. The program's response to some command of the script has to differ
+from that device's. The test prints whether it does. The status is 1 if it does not, or if a script
+has no wrong device.
 """
 
 import sys
@@ -114,9 +114,7 @@ WRONG = {
 
 
 def differs(script: bytes, printed: list[str]) -> bool:
-    """Returns whether the device in its present state prints something else for a script than
-    `printed`.
-    """
+    """Returns whether the wrong device's output for a script differs from `printed`."""
     player, wanted = Player(), iter(printed)
     for line in script.splitlines():
         if any(given != next(wanted, "") for given in player.play(line)):

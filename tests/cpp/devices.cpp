@@ -1,4 +1,4 @@
-// What a user in C++ does with devices. It prints a line for each fact, the same in each standard of C++.
+// Uses devices as a C++ program does. It prints a line for each fact, the same in each standard of C++.
 #include "tpmsim.hpp"
 #include <cstdio>
 #include <thread>
@@ -97,7 +97,7 @@ static void moves() {
 }
 #endif
 
-// The same with errors returned instead of thrown.
+// Does the same with errors that are returned instead of thrown.
 static int told() {
     libtpmsim::Told told = 99;
     std::optional<Device> tpm = Device::make(told, counting());

@@ -173,7 +173,7 @@ def raised_and_lowered(buffer, it):
 
 
 def bends(buffer):
-    """Yields a description of each change, with the bent buffer."""
+    """Yields a description of each change, with the altered buffer."""
     yield from raised_and_lowered(buffer, COMMAND_SIZE)
     yield "a zero byte more and commandSize corrected", changed(buffer + b"\0", COMMAND_SIZE, 1)
     for it in numbers(buffer):

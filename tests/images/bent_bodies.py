@@ -48,7 +48,7 @@ def add_lists(found, fields):
 
 
 class Bender(random.Random):
-    """Bends a body. Some ways bend its text, the others its fields."""
+    """Alters a body. Some ways alter its text, the others its fields."""
 
     def below(self, count):
         return int(self.random() * count)
@@ -57,7 +57,7 @@ class Bender(random.Random):
         return values[self.below(len(values))]
 
     def bent(self, body, version=VERSION_2):
-        """Bends one field, or sometimes two. Returns what was done, and the image."""
+        """Alters one field, or sometimes two. Returns what was done, and the image."""
         fields = body.fields
         text_bends = self.change_byte, self.remove_piece, self.double_piece, self.insert_piece
         field_bends = (
@@ -73,7 +73,7 @@ class Bender(random.Random):
             names.append(it.__name__)
         return " ".join(names), image_of(fields, version)
 
-    # Ways to bend the text.
+    # Ways to alter the text.
 
     def other_byte(self, byte):
         changed = (byte ^ 1 << self.below(8), self.one_of(BYTES), byte + 1 & 0xFF, self.below(256))
@@ -100,7 +100,7 @@ class Bender(random.Random):
         at, size = self.below(len(text) + 1), 1 + self.below(PIECE_BYTES)
         return text[:at] + bytes(self.below(256) for _ in range(size)) + text[at:]
 
-    # Ways to bend the fields. The content after a size or a count is written with the new size or
+    # Ways to alter the fields. The content after a size or a count is written with the new size or
     # count.
 
     def all_of(self, fields, *kinds):

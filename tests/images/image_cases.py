@@ -14,7 +14,7 @@ from tpmsim.standard import frames
 
 @dataclass(frozen=True)
 class Case:
-    """A text with its description. Also whether a device can be opened from it."""
+    """A text with its description, and whether a device can be opened from it."""
 
     words: str
     text: bytes

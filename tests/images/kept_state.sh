@@ -1,5 +1,5 @@
-# Checks what a device keeps in its image until it is served again: the value of the largest counter, and the
-# PCRs that TPM2_Shutdown saved. Its sessions are lost.
+# Checks what a device keeps in its image from one run of `tpmsim serve` to the next: the value of the largest counter,
+# and the PCRs that TPM2_Shutdown saved. Its sessions are lost.
 tests=$(cd "$(dirname "$0")/.." && pwd -P)
 . "$tests/common/cases.sh"
 . "$tests/common/served.sh"

@@ -132,7 +132,7 @@ stat -c '%n %F' link
 script_ends
 rm link link.lock
 
-# A path that is not a file's is not an image. No lock is made for it.
+# A path that is not a regular file is not an image. No lock is made for it.
 mkfifo pipe
 mkdir folder
 ln -s /dev/zero device
@@ -145,7 +145,7 @@ done
 # shellcheck disable=SC2012 # the names are known
 echo "all that is there: $(ls -A | tr '\n' ' ')"
 
-# A folder cannot give random bytes. A pipe gives those that are written to it, as soon as somebody writes.
+# A folder has no random bytes to read. A pipe has those that are written to it, as soon as somebody writes.
 run 'a folder of random bytes, a script' run --image image --entropy folder script
 run 'a folder of random bytes, a new device' run --image new --entropy folder script
 run 'a folder of random bytes, a served device' serve --socket own --image image --entropy folder \

@@ -39,7 +39,7 @@ VERSION = 5
 
 
 class Commands(PreparedCommands):
-    """Commands for a device in its present state, with its authorization values."""
+    """Commands for a device in its current state, with its authorization values."""
 
     def __init__(self, device):
         super().__init__()
@@ -70,8 +70,8 @@ class Commands(PreparedCommands):
 
 
 def looks(tpm):
-    """Yields commands that read all readable state, a command on a session that was lost, and a use
-    of each secret.
+    """Yields commands that read the whole readable state, a command on a session that was lost, and
+    a use of each secret.
     """
     for first in (NV, frames.HMAC_SESSION, TRANSIENT, PERSISTENT):
         yield tpm.capability(HANDLES, first << 24, 64)

@@ -1,5 +1,5 @@
-"""The device of the worked example of a state text, and that text. worked_state.txt lists the text's
-fields, and worked_state_1.txt those of a text of version 1 with the same device.
+"""The device of the worked example of a state text, and that text. worked_state.txt lists the
+fields of the text. worked_state_1.txt lists those of a text of version 1 with the same device.
 """
 
 import copy

@@ -1,4 +1,4 @@
-// A program that uses each declaration of the package. What is marked has to be refused.
+// A program that uses each declaration of the package. The marked lines must be refused.
 
 import { BadArgument, BadImage, BadLine, BadState, Device, DeviceEnded, NoModule, Words } from "tpmsim";
 import type { Answer, Event, Making, Meaning, PlayedCommand, PlayedPower, Row } from "tpmsim";

@@ -95,7 +95,9 @@ class Worker:
             self.forks()
 
     def asks(self, act: str) -> object:
-        """Returns the answer to an act. The device is started first if the act needs that."""
+        """Returns the answer to an operation. The device is started first if the operation needs
+        that.
+        """
         answer = answer_of(act, does(self.host, act, FOLDER))
         if answer == INITIALIZE:
             does(self.host, STARTUP, FOLDER)

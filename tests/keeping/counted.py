@@ -1,9 +1,9 @@
 """A counter in a kept device: its possible values after commands of which some were answered and
 some failed.
 
-A history of acts is recorded as it happens: an act with its answer, or several acts of which the
-first few were done. The knowledge is a set of possible states. An answer that no state of the
-set allows is wrong.
+A history of operations is recorded as it happens: an operation with its answer, or several
+operations of which the first few were done. From this follows a set of possible states. An answer
+that no state of the set allows is wrong.
 """
 
 from dataclasses import dataclass, replace
@@ -43,7 +43,9 @@ NOTHING = State()
 
 
 def outcome(state: State, act: str) -> tuple[State, object]:
-    """Returns the state after an act, and the act's answer: a response code, the count, or None."""
+    """Returns the state after an operation, and the operation's answer: a response code, the count,
+    or None.
+    """
     if act == BEGIN:
         return replace(state, is_there=True), None
     if act == POWER:
@@ -78,19 +80,19 @@ class Counted:
         self.states = set(states)
 
     def answers(self, act: str, response: bytes) -> bool:
-        """Records that an act was answered. Returns whether some state allows the answer."""
+        """Records that an operation was answered. Returns whether some state allows the answer."""
         told = answer_of(act, response)
         after = (outcome(state, act) for state in self.states if state.is_there or act == BEGIN)
         self.states = {state for state, answer in after if answer == told}
         return bool(self.states)
 
     def has(self, acts: Iterable[str]) -> None:
-        """Records that acts were done, whatever their answers were."""
+        """Records that operations were done, whatever their answers were."""
         for act in acts:
             self.states = {outcome(it, act)[0] for it in self.states if it.is_there or act == BEGIN}
 
     def may_have(self, acts: Iterable[str]) -> None:
-        """Records that acts were requested. Perhaps the first few of them were done."""
+        """Records that operations were requested. Perhaps only the first few of them were done."""
         done = set(self.states)
         for act in acts:
             done = {outcome(it, act)[0] if it.is_there or act == BEGIN else it for it in done}

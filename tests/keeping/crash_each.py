@@ -175,7 +175,7 @@ class Allowed:
 
 @dataclass(frozen=True)
 class Case:
-    """A host, the folder and device that it begins with, and the acts that it has to do."""
+    """A host, the folder and device that it begins with, and the operations that it has to do."""
 
     files: Files
     host: type[Host]

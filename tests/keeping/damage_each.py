@@ -69,7 +69,7 @@ class Damaged:
         self.journal = (room / "damaged" / "journal").read_bytes()
 
     def tries(self, meeting: Meeting) -> tuple[str, str]:
-        """Returns which call had the fault, and what is wrong."""
+        """Returns which call had the fault, and what went wrong."""
         self.start.put(self.folder)
         told = Told(Counted([FRONT]))
         Trial(self.make, (POWER,), str(self.folder), told, self.shim, meeting).as_a_program()

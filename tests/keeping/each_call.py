@@ -57,7 +57,7 @@ WELL, FAULT, KILLED = 0, 3, -signal.SIGKILL
 
 @dataclass(frozen=True)
 class Meeting:
-    """The number of the call that fails, and its fault."""
+    """The number of the call that fails, and the fault of that call."""
 
     number: int
     act: Act
@@ -100,8 +100,8 @@ class Shim:
 
 @dataclass
 class Told:
-    """The reports of a run. `waiting` are the acts that may be done, and are not answered yet.
-    `untold` are the acts that ended with an OSError and no sentence.
+    """The reports of a run. `waiting` are the operations that may be done, and are not answered
+    yet. `untold` are the operations that ended with an OSError without a message.
     """
 
     counted: Counted
@@ -114,7 +114,9 @@ class Told:
         self.waiting.append(act)
 
     def answers(self, response: bytes) -> None:
-        """Records that all waiting acts were done, and that this is the answer of the last one."""
+        """Records that all waiting operations were done, and that this is the answer of the last
+        one.
+        """
         *before, last = self.waiting
         self.waiting = []
         self.counted.has(before)
@@ -123,13 +125,13 @@ class Told:
             self.strange.append("no device answers so")
 
     def did(self) -> None:
-        """Records that all waiting acts were done."""
+        """Records that all waiting operations were done."""
         self.counted.has(self.waiting)
         self.acts += self.waiting
         self.waiting = []
 
     def ends(self, how: str) -> None:
-        """Records that the waiting acts ended without an answer. Perhaps they were done."""
+        """Records that the waiting operations ended without an answer. Perhaps they were done."""
         if self.waiting:
             self.acts.append(f"{'+'.join(self.waiting)}:{how}")
             self.counted.may_have(self.waiting)
@@ -156,7 +158,7 @@ def one_line(fault: object) -> str:
 
 
 class Child:
-    """A host in a fork of this process. It reports each act before and after the act."""
+    """A host in a fork of this process. It reports each operation before and after it."""
 
     def __init__(self, host: Host, folder: str, shim: Shim, tells: int) -> None:
         self.host, self.folder, self.shim, self.tells = host, folder, shim, tells
@@ -214,7 +216,7 @@ def lines_of(pipe: int, child: int) -> Iterator[tuple[str, str]]:
 
 @dataclass(frozen=True)
 class Trial:
-    """A host, the acts that it has to do, and the call with the fault."""
+    """A host, the operations that it has to do, and the call that fails."""
 
     make: Callable[..., Host]
     script: Sequence[str]
@@ -300,8 +302,8 @@ class Start:
 
 @dataclass(frozen=True)
 class Starts:
-    """The three beginnings: a kept device; one whose journal has grown so much that it begins
-    again; and no device.
+    """The three starting points: a kept device; one whose journal has grown so much that the next
+    command restarts it; and no device.
     """
 
     kept: Start
@@ -317,7 +319,7 @@ class Starts:
 
 @dataclass(frozen=True)
 class Case:
-    """A host, the folder and device that it begins with, and the acts that it has to do."""
+    """A host, the folder and device that it begins with, and the operations that it has to do."""
 
     files: Files
     host: type[Host]
@@ -330,7 +332,7 @@ class Case:
         return f"{self.host.name}, {self.start.label}"
 
     def tries(self, room: pathlib.Path, shim: Shim, meeting: Meeting) -> tuple[str, Told, str]:
-        """Returns which call had the fault, what was reported, and what is wrong."""
+        """Returns which call had the fault, what was reported, and what went wrong."""
         folder = room / "state"
         self.start.put(folder)
         told = Told(Counted([self.start.state]))

@@ -99,7 +99,7 @@ static void note(const char *name, const char *of) {
     syscall(SYS_close, file);
 }
 
-/* Returns whether a call of this kind may have the fault. */
+/* Returns whether a call of this kind may fail. */
 static int may_meet(int kind, const void *caller) {
     int halves = act == DOES_HALF || act == DOES_HALF_AND_IS_KILLED;
     if (kind & IS_MEMORY)

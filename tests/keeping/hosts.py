@@ -41,13 +41,13 @@ class Files:
 
 
 class Refused(Exception):
-    """Raised when a host reports that it did not do an act."""
+    """Raised when a host reports that it did not do an operation."""
 
 
 class Host:
-    """The acts of a host. `part` is a part of its library's name. A host without `answers_all`
-    reports a beginning or a power cycle only with the next response. If `comes_on` is true,
-    power comes on when the host begins.
+    """The operations of a host. `part` is a part of its library's name. A host without
+    `answers_all` reports that it began or cycled the power only with the next response. If
+    `comes_on` is true, beginning the host powers the device on.
     """
 
     name, part, answers_all, comes_on = "", "", True, False
@@ -321,7 +321,7 @@ class Simulator(Run):
 
 
 def does(host: Host, act: str, folder: str) -> bytes:
-    """Has a host do an act. Returns the response, if there is one."""
+    """Has a host do an operation. Returns the response, if there is one."""
     if act == BEGIN:
         host.begin(folder)
     elif act == POWER:

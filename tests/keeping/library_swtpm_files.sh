@@ -1,5 +1,5 @@
-# In swtpm with libtpms.so.0 of this repository, one call on the files of its states fails, fails after it is
-# done, does half, or kills swtpm: swtpm_states.py. One of ten runs is made.
+# In swtpm with this repository's libtpms.so.0, makes one call on the files of its states fail, fail after its effect,
+# or do half of its work, or kills swtpm at it: swtpm_states.py. One of ten runs is made.
 tests=$(cd "$(dirname "$0")/.." && pwd -P)
 . "$tests/common/cases.sh"
 . "$tests/common/library.sh"

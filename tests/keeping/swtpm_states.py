@@ -106,7 +106,7 @@ class Swtpm:
             return self.opened.execute(buffer).response
 
     def does(self, act: str, is_resumed: bool) -> bytes:
-        """Does an act, and returns the response of a command."""
+        """Does an operation, and returns the response if it is a command."""
         if act == BEGIN:
             self.begin(is_resumed)
         elif act == SUSPEND:
@@ -155,21 +155,21 @@ class Start:
 
 
 class Played:
-    """The acts of a run, and what is known of the device after them."""
+    """The operations of a run, and the possible states of the device after them."""
 
     def __init__(self, start: Start) -> None:
         self.told, self.is_resumed = Told(Counted([start.state])), start.is_suspended
         self.may_be_suspended, self.is_suspended = start.is_suspended, False
 
     def play(self, swtpm: Swtpm, script: Sequence[str]) -> None:
-        """Has swtpm do the acts, until one cannot be done because swtpm has ended."""
+        """Has swtpm do the operations, until one cannot be done because swtpm has ended."""
         for act in script:
             is_done = self.suspend(swtpm) if act == SUSPEND else self.act(swtpm, act)
             if not is_done and (act in (BEGIN, POWER) or not swtpm.is_running):
                 return
 
     def act(self, swtpm: Swtpm, act: str) -> bool:
-        """Has swtpm do an act. Returns whether it was answered."""
+        """Has swtpm do an operation. Returns whether it was answered."""
         self.told.asks(act)
         try:
             response = swtpm.does(act, self.is_resumed)
@@ -217,7 +217,7 @@ def seen(swtpm: Swtpm) -> State:
 
 @dataclass(frozen=True)
 class Case:
-    """What swtpm begins with, and the acts that it has to do."""
+    """The folder that swtpm begins with, and the operations that it has to do."""
 
     library: pathlib.Path
     start: Start
@@ -228,7 +228,7 @@ class Case:
         return f"swtpm, {self.start.label}"
 
     def tries(self, room: pathlib.Path, shim: Shim, meeting: Meeting) -> tuple[str, str, str]:
-        """Returns which call had the fault, what is wrong, and why there is no device."""
+        """Returns which call had the fault, what went wrong, and why there is no device."""
         folder = room / "state"
         self.start.put(folder)
         told = {**shim.environment(meeting), "FAILING_IN": str(folder)}

@@ -13,7 +13,7 @@ enum { RANDOM_BYTES = 256, RESPONSE_BYTES = 4096, FILLED = 0xa5 };
 static const uint8_t STARTUP[] = {0x80, 0x01, 0, 0, 0, 12, 0, 0, 0x01, 0x44, 0, 0};
 static const uint8_t GET_RANDOM[] = {0x80, 0x01, 0, 0, 0, 12, 0, 0, 0x01, 0x7b, 0, 16};
 
-/* Ends the program with a line unless this holds. */
+/* Ends the program with a message unless the condition holds. */
 static inline void must(int holds, const char *what) {
     if (holds) return;
     fflush(stdout);
@@ -28,8 +28,8 @@ static inline void *taken(size_t size) {
     return memory;
 }
 
-/* Whether a buffer has only the byte that filled it before a call: it begins with that byte, and each
- * byte equals the next one. */
+/* Whether a buffer still contains only the filler: it begins with that byte, and each byte equals the
+   next one. */
 static inline int is_filled(const uint8_t *room, size_t size) {
     return size == 0 || (room[0] == FILLED && memcmp(room, room + 1, size - 1) == 0);
 }
@@ -69,7 +69,7 @@ static inline size_t hex_bytes(const char *hex, uint8_t *bytes) {
     return size;
 }
 
-/* Executes a command at locality 0 with no time in between; it must succeed as a call. */
+/* Executes a command at locality 0 with no elapsed time. The call must succeed. */
 static inline struct tpmsim_answered answered_by(struct tpmsim *device, const uint8_t *buffer,
                                                  size_t size, uint8_t *response) {
     struct tpmsim_answered answered;

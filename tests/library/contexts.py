@@ -189,7 +189,8 @@ def counted(words, codes):
 
 
 def bent(client):
-    """Each prefix of a context, and each context with a byte changed, or of another kind."""
+    """Loads each prefix of a context, and each context with a byte changed, or with the wrong kind.
+    """
     handle = client.key()
     context = client.saved(handle)
     client.flush(handle)

@@ -203,7 +203,7 @@ static void check_none(void) {
     tpmsim_keeper_free(&none);
 }
 
-/* Makes a power cycle, and restores a state. Neither has a record. */
+/* Makes a power cycle, and restores a state. Neither adds an entry to the journal. */
 static void check_leaps(void) {
     static uint8_t state[TPMSIM_STATE_SIZE];
     tpmsim device = {0};

@@ -239,7 +239,8 @@ static void check_otherwise(void) {
 
 /* ---- calls that take no text */
 
-/* A call cuts damage itself, and then begins again; a device in memory is opened again for that. */
+/* Has a call of the keeper itself cut damage off, and then begin again. If the keeper has a device in
+   memory, the device is opened again for that. */
 static void check_cuts(void) {
     turn(sizes[4]);
     must(tpmsim_keeper_cuts(&alive.keeper, 1) == TPMSIM_DONE, "damage cannot be cut");
@@ -256,7 +257,7 @@ static void check_cuts(void) {
     tpmsim_keeper_free(&alive.keeper);
 }
 
-/* A state that is shown replaces the device of a damaged journal. */
+/* A restored state replaces the device of a damaged journal. */
 static void check_states(void) {
     static uint8_t state[TPMSIM_STATE_SIZE], again[TPMSIM_STATE_SIZE];
     uint8_t response[RESPONSE_BYTES];
@@ -311,7 +312,7 @@ static void check_answers(void) {
     tpmsim_keeper_free(&alive.keeper);
 }
 
-/* Each call on a handle without a keeper. */
+/* Makes each call on a handle without a keeper. */
 static void check_none(void) {
     tpmsim_keeper none = {0};
     uint8_t random[RANDOM_BYTES], response[RESPONSE_BYTES];

@@ -1,4 +1,4 @@
-/* A folder of the file system, and what a host does with it. Each call opens the lock's file again, so
+/* A folder of the file system, and how a host accesses it. Each call opens the lock's file again, so
  * that a forked process has its own lock. */
 #ifndef KEEPER_FILES_H
 #define KEEPER_FILES_H
@@ -30,7 +30,7 @@ static inline int files_lock(files *it) {
     return 0;
 }
 
-/* Opens the file that is named journal, unless that one is open already. */
+/* Opens the file with the name journal, unless it is open already. */
 static inline seen files_look(files *it) {
     struct stat named, open;
     if (fstatat(it->folder, "journal", &named, 0) != 0)
@@ -101,7 +101,7 @@ static inline seen files_do(host *by, const tpmsim_ask *ask, const uint8_t *text
     return (seen){is_done ? TPMSIM_GOT_DONE : TPMSIM_GOT_FAILED, it->number, 0, text, 0};
 }
 
-/* What the system does for a process that dies: it closes its files. */
+/* Closes the files of a process that dies, as the system does. */
 static inline void files_leave(host *by) {
     files *it = by->folder;
     files_close(&it->lock), files_close(&it->journal), files_close(&it->fresh);

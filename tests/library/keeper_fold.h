@@ -8,8 +8,8 @@
 /* The head after every EACHth command is kept, to go back to it. */
 enum { EACH = 16, HEAD_BYTES = 128 * 1024 };
 
-/* Kinds of commands, and the offsets in commands of the standard after the clock, or after the elapsed
- * time. */
+/* Kinds of commands, and the offsets in commands of the standard that follow the clock, or the elapsed
+   time. */
 enum { BY_CLOCK = 0, CYCLE = 1, RESTORING = 2, BY_ELAPSED = 3, NO_KIND = 9, MOMENT_AT = 1 };
 enum { LOCALITY_AFTER = 0, COMPLETES_AFTER = 1, RANDOM_AFTER = 2, BUFFER_AFTER = 258 };
 
@@ -36,7 +36,7 @@ static inline uint64_t number_at(const uint8_t *at, int size) {
     return number;
 }
 
-/* The head of the journal of a seed's new device; 0 bytes if the seed is not one. */
+/* Writes the head of the journal of a seed's new device. Returns 0 if the seed is not valid. */
 static inline size_t head_of_seed(const uint8_t *seed, size_t size) {
     tpmsim_ask ask = {0};
     tpmsim_keeper keeper = {0};
@@ -136,7 +136,7 @@ static inline void fold_forgets_sessions(void) {
          "an empty command is not executed");
 }
 
-/* After a power cycle, the journal begins with the state of the device. The layer keeps its start. */
+/* Restarts the journal with the device's state after a power cycle. The layer keeps its start. */
 static inline size_t fold_cycles(const uint8_t *text) {
     static uint8_t seed[HEAD_BYTES];
     must(tpmsim_power_cycle(&fold.device) == TPMSIM_DONE, "the power is not cycled");
@@ -188,7 +188,7 @@ static inline void fold_follows(void) {
     }
 }
 
-/* The journal opens as the device that executed the history. */
+/* Checks that the journal opens as the device that executed the history. */
 static inline void fold_compares(void) {
     static uint8_t state[2][TPMSIM_STATE_SIZE];
     tpmsim device = {0};

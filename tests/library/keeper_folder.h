@@ -43,7 +43,7 @@ typedef struct world {
     int is_locked, locker;
     executed history[COMMANDS];
     int commands, promised, is_lasting;
-    /* The latest answer of a holder that forces always. */
+    /* The latest answer of a holder that always syncs. */
     int always;
     /* The seed of the device, and the number of its beginning. */
     const uint8_t *seed;
@@ -56,7 +56,7 @@ typedef struct world {
 
 static world *all;
 
-/* The next number of a generator, below a bound. */
+/* Returns the next number of a generator, below a bound. */
 static inline unsigned rolled(unsigned bound) {
     all->draws ^= all->draws << 13;
     all->draws ^= all->draws >> 7;
@@ -102,7 +102,7 @@ static inline void world_begins(uint64_t seed) {
     all->draws = seed * 0x9e3779b97f4a7c15u + 1;
 }
 
-/* Keeps the file's content, which a crash may leave. */
+/* Keeps the file's content, which may be on the disk after a crash. */
 static inline void remember(file *it) {
     int at = it->pasts < PAST ? it->pasts++ : (int)rolled(PAST);
     copy_content(&it->past[at], &it->now);
@@ -131,7 +131,7 @@ static inline void file_puts(file *it, size_t cut, size_t at, const uint8_t *tex
     if (adds && count == size) it->ends[now->commands++ - it->before] = at + count;
 }
 
-/* The whole file is on the disk, unless some of it was dropped. */
+/* Records that the whole file is on the disk, unless some of it was dropped. */
 static inline void file_forced(file *it) {
     if (it->is_dropped) return;
     it->pasts = 0;
@@ -162,8 +162,8 @@ static inline int whole_in(const file *it, const content *from, size_t size) {
     return it->before + count;
 }
 
-/* The host crashes. One of the files stays, with one of its contents, up to a byte that is on the disk
- * or later, and then zeros. */
+/* Crashes the host. One of the files remains, with one of its contents. The content is cut at the last
+ * byte that is on the disk, or later, and zeros may follow. */
 static inline void world_crashes(void) {
     int place = all->names[rolled((unsigned)all->olders + 1)];
     file *it = &all->files[place];

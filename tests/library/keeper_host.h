@@ -1,5 +1,5 @@
-/* A host of a keeper: its loop, with any way to do a task; the texts of commands and seeds; and a host
- * that is killed in the middle of a call. */
+/* A host of a keeper: its loop, which calls any function for a task; the texts of commands and seeds;
+ * and a host that is killed in the middle of a call. */
 #ifndef KEEPER_HOST_H
 #define KEEPER_HOST_H
 #include "common.h"
@@ -8,7 +8,7 @@
  * that is not killed. */
 enum { TEXT_BYTES = 128 * 1024, KILLED = 255, NEVER = -1 };
 
-/* What a host saw when it did a task. */
+/* What a host found when it did a task. */
 typedef struct seen {
     uint8_t got;
     uint64_t file, file_size;
@@ -16,11 +16,11 @@ typedef struct seen {
     size_t size;
 } seen;
 
-/* How much a host does of a task at which it is killed: nothing, a part, or all. */
+/* How much of a task a host does when it is killed at it: nothing, a part, or all. */
 typedef enum extent { NOTHING, A_PART, ALL } extent;
 
-/* A host: how it does a task in its folder, and what the system does when it dies. It is killed at one
- * task of a call, or reports that one as failed. */
+/* A host: its function for a task in its folder, and the system's function for its death. It is killed
+ * at one task of a call, or reports that task as failed. */
 typedef struct host host;
 struct host {
     tpmsim_keeper keeper;
@@ -42,7 +42,7 @@ struct host {
 
 static uint8_t host_text[TEXT_BYTES];
 
-/* Does as much of a task as a host that is killed at it. */
+/* Does as much of a task as a host does that is killed at it. */
 static inline void host_dies(host *it, tpmsim_ask *ask, extent how_much) {
     int is_writing = ask->task == TPMSIM_TASK_PUT || ask->task == TPMSIM_TASK_MAKE;
     if (how_much == A_PART) ask->size /= 2;
@@ -73,14 +73,14 @@ static inline uint8_t host_finishes(host *it) {
     return ask.fault;
 }
 
-/* Does a job with its text, as host_finishes does. */
+/* Does a job with its text. Returns the same results as host_finishes. */
 static inline uint8_t host_run(host *it, uint8_t job, const uint8_t *text, size_t size) {
     if (tpmsim_keeper_begin(&it->keeper, job, text, size) != TPMSIM_DONE)
         return TPMSIM_FAULT_MEMORY;
     return host_finishes(it);
 }
 
-/* A host begins as a process does: its keeper has seen nothing. */
+/* Begins a host as a process does: its keeper knows nothing of the folder yet. */
 static inline void host_starts(host *it, uint8_t force, uint64_t limit) {
     it->killed_at = it->fails_at = NEVER;
     must(tpmsim_keeper_new(&it->keeper, force, limit) == TPMSIM_DONE, "there is no keeper");
@@ -91,7 +91,7 @@ static inline uint8_t *put_number(uint8_t *at, uint64_t number) {
     return at;
 }
 
-/* A seed: its kind, the clock, the number of the layer's start, and the content for its kind. */
+/* Writes a seed: its kind, the clock, the number of the layer's start, and the content for its kind. */
 static inline size_t put_seed(uint8_t *text, uint8_t kind, const uint8_t *content, size_t size) {
     uint8_t *at = text;
     *at++ = kind;
@@ -100,14 +100,14 @@ static inline size_t put_seed(uint8_t *text, uint8_t kind, const uint8_t *conten
     return (size_t)(at - text) + size;
 }
 
-/* Begins a device of random bytes, or finds that there is one. */
+/* Begins a device from random bytes, or finds an existing one. */
 static inline uint8_t host_begins(host *it) {
     uint8_t random[RANDOM_BYTES], text[512];
     count_up(random, 1);
     return host_run(it, TPMSIM_JOB_BEGIN, text, put_seed(text, 0, random, sizeof random));
 }
 
-/* Takes the report from the beginning of the response to a command of the standard. */
+/* Takes the report from the start of the response to a command of the standard. */
 static inline void host_takes_report(host *it) {
     must(it->response_size >= TPMSIM_REPORT_SIZE, "a response without a report");
     memcpy(it->report, it->response, TPMSIM_REPORT_SIZE);
@@ -135,7 +135,8 @@ static inline uint8_t host_executes(host *it, const uint8_t *command, size_t siz
     return host_gives(it, text, put_number(text + 1, it->clock += 10), command, size);
 }
 
-/* Executes one some milliseconds after the command before it: kind 3, and these in four bytes. */
+/* Executes a command of the standard some milliseconds after the previous one: kind 3, and the
+   milliseconds in four bytes. */
 static inline uint8_t host_waits(host *it, uint32_t elapsed, const uint8_t *command, size_t size) {
     uint8_t text[4096] = {3}, number[8];
     put_number(number, elapsed);

@@ -1,4 +1,4 @@
-/* The answers of a kept device: its responses show a test which commands it executed. */
+/* The responses of a kept device, which show how many commands it has executed. */
 #ifndef KEEPER_KNOWN_H
 #define KEEPER_KNOWN_H
 #include "keeper_host.h"
@@ -35,7 +35,7 @@ static void start(host *it) {
     executes(it, GET_RANDOM, sizeof GET_RANDOM, 0);
 }
 
-/* Learns the responses from a host in its own folder, which nobody kills. */
+/* Learns the responses from a host that has its own folder and is never killed. */
 static void learn(host *it) {
     start(it);
     for (int count = 0; count < EXTENDS; count++) {
@@ -53,7 +53,7 @@ static int is_after(const host *it, int count) {
            memcmp(it->response, known[count], it->response_size) == 0;
 }
 
-/* How many EXTENDs the device executed: `count` or one more. */
+/* Returns how many EXTENDs the device executed: `count` or one more. */
 static int count_of(host *it, int count) {
     executes(it, READ, sizeof READ, 0);
     if (is_after(it, count)) return count;

@@ -1,4 +1,4 @@
-/* A folder in memory, and what a host does with it. */
+/* A folder in memory, and how a host accesses it. */
 #ifndef KEEPER_MEMORY_H
 #define KEEPER_MEMORY_H
 #include "keeper_host.h"

@@ -1,4 +1,4 @@
-/* Hosts that do something wrong, as a test of the test: each of them has to be caught. */
+/* Hosts with a mistake each, which check the test itself: it has to catch every one of them. */
 #ifndef KEEPER_WRONG_H
 #define KEEPER_WRONG_H
 

@@ -1,5 +1,5 @@
-"""Functions that the tests of a device that Python keeps in a folder share. The first word of the
-command line names the library's shared object.
+"""Shared by the tests of a device that Python keeps in a folder. The first word of the command line
+names the library's shared object.
 """
 
 import hashlib

@@ -28,7 +28,7 @@ FAULTS = BadImage, BadState, DeviceEnded, MemoryError, OSError, TypeError, Value
 
 
 def told(act):
-    """Returns the result of `act`, in words."""
+    """Describes the result of `act` in words."""
     try:
         within(SECONDS, act)
     except FAULTS as fault:

@@ -1,6 +1,6 @@
-# Checks the modes of the files that a device in Python makes: an image with its lock, and a kept device. Only
-# their user may read and write them, whatever the umask. If that user could not, the user's next process
-# would have no device, unless the user is root.
+# Checks the modes of the files that a device in Python makes: an image with its lock, and a kept device. Only their
+# user may read and write them, whatever the umask. Otherwise the user's next process would have no device, unless the
+# user is root.
 tests=$(cd "$(dirname "$0")/.." && pwd -P)
 . "$tests/common/cases.sh"
 . "$tests/common/library.sh"

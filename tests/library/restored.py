@@ -80,7 +80,7 @@ class Played:
         extend(self.device)
 
     def told(self, allowed):
-        """Describes what the device reports after an interrupt, and after it is restored."""
+        """Describes the reports of the device after an interrupt, and after it is restored."""
         try:
             said = "known" if values(self.device) in allowed else "unknown values"
         except Refused:

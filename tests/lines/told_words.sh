@@ -4,7 +4,7 @@ tests=$(cd "$(dirname "$0")/.." && pwd -P)
 . "$tests/common/cases.sh"
 table=${tests%/*}/docs/table
 
-# count WHAT NUMBER WRONG: prints the number of things of a kind, and the number of wrong ones.
+# count WHAT NUMBER WRONG: prints how many items of a kind were checked, and how many of them are wrong.
 count() {
     printf '%s: %s, of which wrong: %s\n' "$1" "$2" "$3"
 }

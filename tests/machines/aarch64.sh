@@ -1,6 +1,6 @@
-# Runs the program for ARM64 in qemu. It plays every third script, stored or made; with EVERY=1 it plays each.
-# Each prints the responses and traces of its files. Each machine reads the other one's device in a folder and
-# image.
+# Runs the program for ARM64 in qemu. It plays every third script, stored or generated; with EVERY=1 it plays all of
+# them. Each script must print the responses and traces in its files. Each of the two machines reads the folder and the
+# image that the other one wrote.
 tests=$(cd "$(dirname "$0")/.." && pwd -P)
 . "$tests/common/cases.sh"
 needs qemu-aarch64 python3

@@ -1,5 +1,5 @@
-"""Writes nv_policies.tpm. Indices and policy sessions: with POLICYWRITE and POLICYREAD the policy
-of an index can authorize writing and reading.
+"""Writes nv_policies.tpm. NV indices and policy sessions: with POLICYWRITE and POLICYREAD the
+policy of an index can authorize writing and reading.
 """
 
 from tests.common.steps import AFTER_AUTH_VALUE, Steps, with_value

@@ -175,7 +175,7 @@ right_hash, wrong_hash = tpm.cp_hash(tpm.unsealing(handle)), bytes([7]) * 32
 
 
 def wrong(handle, session):
-    """Returns a command whose HMAC is wrong too. The HMAC is compared last."""
+    """Returns the command with a wrong HMAC in addition. The HMAC is compared last."""
     return others_in(tpm.unsealing(handle, session), 1)
 
 

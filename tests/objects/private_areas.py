@@ -77,7 +77,7 @@ class Forger:
         return sized(mac(algorithm, key, protected + name)) + protected
 
     def behind(self, rest):
-        """Returns a private area in which any bytes follow the right integrity value."""
+        """Returns a private area with the right integrity value, followed by arbitrary bytes."""
         return sized(object_rules.integrity(self.known, rest, self.public.name)) + rest
 
     def refused(self, what, *privates):

@@ -1,4 +1,4 @@
-# Unpacks the Debian package into an empty root, and runs its contents from there.
+# Unpacks the Debian package into an empty root, and runs the installed programs from there.
 tests=$(cd "$(dirname "$0")/.." && pwd -P)
 . "$tests/common/cases.sh"
 needs dpkg-deb cc c++ pkg-config man python3

@@ -1,7 +1,7 @@
 """Writes localities.tpm: extends and resets each PCR from each locality.
 
 The table of TPM2_PCR_Extend in docs/table/pcrs.md says which locality can change which PCR. This
-program contains that table once more.
+program contains a copy of that table.
 """
 
 from tpmsim.standard import CC, command, digests, on_handle, selection, SHA1, SHA256

@@ -1,5 +1,5 @@
-"""Makes policy_or.tpm. TPM2_PolicyOR: the digest must be one of two to eight digests in a list;
-then it becomes that of the list.
+"""Makes policy_or.tpm. TPM2_PolicyOR: the policyDigest must be one of two to eight digests in a
+list. It then becomes the digest of the list.
 """
 
 from tests.common.policy_teller import PolicyTeller

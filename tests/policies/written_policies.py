@@ -42,7 +42,7 @@ def ends(session):
 
 
 def no_way(session, **demand):
-    """Checks that the session meets neither branch."""
+    """Checks that the session meets neither of the two branches."""
     tpm.says("TPM2_PolicyOR: VALUE/p1", ends(session)[0])
     asserts("TPM2_PolicyCommandCode", ends(session)[1])
     lost("TPM2_Unseal: POLICY_FAIL/s1", tpm.unsealing(disk, Use(session, **demand)))

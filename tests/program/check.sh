@@ -24,13 +24,13 @@ second 'cmd\t00'
 second ' '
 second '\377'
 
-# A word without the words that have to follow it.
+# A first word without the words that must follow it.
 second 'do'
 second 'loc'
 second 'wait'
 second 'entropy'
 
-# What follows the first word.
+# Wrong words after the first word.
 second 'cmd 0'
 second 'cmd 0g'
 second 'cmd  00'

@@ -25,11 +25,11 @@ words run ./-
 # The script is read from standard input, although there is a file with the name `-`.
 words run -
 
-# No words, and no script.
+# No words; and `run` without a script.
 words
 words run
 
-# A script and one word too many.
+# `run` with a script and one word too many.
 words run a b
 words run - a
 words run a -
@@ -40,7 +40,7 @@ words run a --trace
 words run --trace ./-
 words run --trace -
 
-# The option without a script, and before the command.
+# `--trace` without a script, and before the subcommand.
 words run --trace
 words --trace run a
 

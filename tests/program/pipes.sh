@@ -3,7 +3,7 @@
 tests=$(cd "$(dirname "$0")/.." && pwd -P)
 . "$tests/common/cases.sh"
 
-# If the program ends early, this test goes on.
+# If the program ends early, this test continues.
 trap '' PIPE
 mkfifo lines responses
 

@@ -19,7 +19,7 @@ run 'an empty folder, power' power empty
 run 'an empty folder, script' script empty
 ls empty
 
-# Other things at the paths of the device's files.
+# Links, folders and other wrong kinds of files at the paths of the device's files.
 echo elsewhere >elsewhere
 cp elsewhere elsewhere.kept
 for name in journal lock journal.new; do

@@ -1,4 +1,4 @@
-# `--keep N`: N finished journals stay in the folder of a device, as with the word keep=N of libtss2's module.
+# `--keep N`: N finished journals stay in the folder of a device, as with the option keep=N of libtss2's module.
 tests=$(cd "$(dirname "$0")/.." && pwd -P)
 . "$tests/common/cases.sh"
 . "$tests/common/served.sh"
@@ -21,12 +21,12 @@ asks() {
     done | "$program" run --state state "$@" >answers || echo 'the run failed'
 }
 
-# Without the option no journal stays.
+# Without the option no finished journal is kept.
 asks 1
 "$program" power state
 journals
 
-# Three stay. The fourth power cycle drops the oldest one.
+# Three journals are kept. The fourth power cycle removes the oldest one.
 for count in 1 2 3 4 5; do
     asks "$count"
     "$program" power --keep 3 state
@@ -36,18 +36,18 @@ for number in 1 2 3; do
     "$program" replay "state/journal.$number" | grep -c GetRandom
 done
 
-# A killed process left a number free. The journals after it stay.
+# A killed process left a number unused. The journals with higher numbers are kept.
 asks 6
 rm state/journal.2
 "$program" power state --keep=3
 journals
 
-# With a smaller number, the last one is replaced, and the others stay.
+# With a smaller number N, the last journal is replaced, and the others are kept.
 asks 7
 "$program" power --keep 1 state
 journals
 
-# The other commands that begin a new journal.
+# The other subcommands that begin a new journal.
 asks 8 --keep 2
 echo power | "$program" run --state state --keep 2
 journals
@@ -66,7 +66,7 @@ asks 0
 "$program" power --keep 3 state
 journals
 
-# If something is in the way, the journal stays, and the device continues.
+# If a folder has the name of a finished journal, the journal stays, and the device continues.
 asks 1
 rm -f state/journal.[23] && mkdir state/journal.2 && echo >state/journal.3
 run 'a folder in place of the second journal' power --keep 3 state

@@ -1,7 +1,7 @@
-# A crash of the host can leave three things at the end of a kept device's journal: the beginning of an entry,
-# the same with zeros after it, or only zeros. The next command or power cycle cuts it off, and reports its
-# size on standard error. Anything else is damage. Then the journal is refused and stays as it is, until
-# `power --cut` drops everything after the last whole entry before the damage, and reports the dropped size.
+# A crash of the host can leave three things at the end of a kept device's journal: an incomplete entry, an incomplete
+# entry followed by zeros, or only zeros. The next command or power cycle removes these bytes, and reports their number
+# on standard error. Anything else is damage. Then the journal is refused and stays as it is, until `power --cut` drops
+# everything after the last whole entry before the damage, and reports the dropped size.
 tests=$(cd "$(dirname "$0")/.." && pwd -P)
 . "$tests/common/cases.sh"
 
@@ -46,7 +46,7 @@ cut() {
     entries
 }
 
-# refused WHAT BYTES COMMAND..: does the same for a journal whose end is damage.
+# refused WHAT BYTES COMMAND..: does the same as `cut` for a journal whose end is damaged.
 refused() {
     ending "$@"
     run "$what, run" run --state state one

@@ -1,5 +1,5 @@
-# Makes system calls of the program fail: those on its files, its socket and the clock, each in turn.
-# common/torn.py says what must become of the run, of the image and of each connection.
+# Makes system calls of the program fail: those on its files, its socket and the clock, each in turn. common/torn.py
+# says how the run and each connection must end, and what the image must contain.
 tests=$(cd "$(dirname "$0")/.." && pwd -P)
 . "$tests/common/cases.sh"
 needs cc nm python3

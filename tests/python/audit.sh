@@ -1,7 +1,7 @@
-# Logs that tools/audit.py judges. The log of each script of tests/ and examples/ agrees. The log of the
-# unlocking of a disk is shown with the whole report. Then come logs that are bent, cut or too long, or that
-# begin with another device; scripts with a bad line; and wrong command lines. At the end come devices in
-# Python, each of which does one thing wrong; only the comparison with the history finds that.
+# Logs that tools/audit.py judges. The log of each script of tests/ and examples/ agrees. The log of the unlocking of a
+# disk is shown with the whole report. Then come logs that are altered, cut or too long, or that begin with another
+# device; scripts with a bad line; and wrong command lines. At the end come devices in Python, each of which does one
+# thing wrong; only the comparison with the history finds that.
 tests=$(cd "$(dirname "$0")/.." && pwd -P)
 . "$tests/common/cases.sh"
 needs python3
@@ -96,7 +96,7 @@ judge 'bad_do_line' "$tests/lines/bad_do_line.tpm" bad_do
 judge 'a log that goes on after a bad line' "$tests/lines/bad_do_line.tpm" longer
 judge 'nothing of nothing' empty empty
 
-# A device that has a counter, a persistent object and saved PCRs, and what it does next.
+# A device with a counter, a persistent object and saved PCRs, and its next commands.
 cat >before.tpm <<'END'
 do Startup 0
 do PCR_Event 00000007 pw:- 01

@@ -126,7 +126,7 @@ def simulated():
 
 def interrupted(act, left):
     """Calls `act`, and interrupts it after `left` lines of the package's devices. Returns whether
-    it got that far.
+    it executes that many lines.
     """
 
     def trace(frame, event, _):
@@ -190,7 +190,7 @@ def late(made):
 
 
 def alarmed(made):
-    """Does the same with a signal handler that raises its own exception."""
+    """Does the same as at_each_line, with a signal handler that raises its own exception."""
 
     def raise_fault(*_):
         raise LookupError("a test's time")

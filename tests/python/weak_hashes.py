@@ -107,7 +107,7 @@ WEAK = (
 
 
 def weakly(other):
-    """Gives these texts other hashes whenever policies are hashed."""
+    """Replaces the hashes of these texts whenever policies are hashed."""
     stack = ExitStack()
     weak = lambda algorithm, text: other.get(text) or digest(algorithm, text)
     for module in (policy, pcr_values, policy_texts, broken, written):

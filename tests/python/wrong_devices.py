@@ -85,7 +85,7 @@ def keeps_a_digest(self, request):
 
 
 def in_rows(code, row):
-    """Returns the change of the device in which a command does something else."""
+    """Returns the change of the device in which a command has another effect."""
     return mock.patch.dict(machine.ROWS, {code: row})
 
 

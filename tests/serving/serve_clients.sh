@@ -1,4 +1,4 @@
-# Clients that break off, clients that keep the device from others, and a long connection. The device serves
+# Clients that disconnect early, clients that keep other clients waiting, and a long connection. The device serves
 # connections one after another, each to its end.
 tests=$(cd "$(dirname "$0")/.." && pwd -P)
 . "$tests/common/cases.sh"

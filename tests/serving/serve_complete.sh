@@ -1,4 +1,5 @@
-# `serve --state DIR --complete`: the completing layer answers what the device in the folder lacks.
+# `serve --state DIR --complete`: the completing layer answers the commands that the device in the folder does not
+# support.
 tests=$(cd "$(dirname "$0")/.." && pwd -P)
 . "$tests/common/cases.sh"
 . "$tests/common/served.sh"

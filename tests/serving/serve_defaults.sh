@@ -1,5 +1,5 @@
-# What `serve` does without --entropy, --locality and --connections: random bytes of the system, locality 0,
-# and connections without end.
+# The defaults of `serve` without --entropy, --locality and --connections: random bytes of the system, locality 0, and
+# any number of connections.
 tests=$(cd "$(dirname "$0")/.." && pwd -P)
 . "$tests/common/cases.sh"
 . "$tests/common/served.sh"

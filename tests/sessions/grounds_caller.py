@@ -12,7 +12,7 @@ OWNER, PIN, SECRET, DATA = b"owner", b"pin", b"secret", b"8 bytes."
 PCR_16 = [(SHA256, [16])]
 AT_LOCALITY_1 = 0b10
 
-# The initial digest of a session, and its digests after one assertion.
+# The initial policyDigest of a session, and its policyDigest after one assertion of each kind.
 ZEROS = bytes(32)
 AFTER_AUTH_VALUE = policy.after_auth_value(SHA256, ZEROS)
 AFTER_PCR_16 = policy.after_pcr(SHA256, ZEROS, frames.selection(*PCR_16), digest(SHA256, bytes(32)))

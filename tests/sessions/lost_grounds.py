@@ -1,6 +1,6 @@
-"""Writes lost_grounds.tpm. How the grounds of tests/sessions/grounds.tpm are lost: each way is
-refused, by G9 unless stated otherwise; next to it the same command meets the condition. How a
-session itself is lost is in tests/sessions/replays.tpm.
+"""Writes lost_grounds.tpm. How the grounds of tests/sessions/grounds.tpm are lost. In each case the
+command is refused, by G9 unless stated otherwise. Next to it the same command is sent while the
+condition holds. How a session itself is lost is in tests/sessions/replays.tpm.
 """
 
 from tpmsim.standard import digests

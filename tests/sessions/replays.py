@@ -54,7 +54,7 @@ class Start:
         self.session.nonce_tpm = self.at_first.nonce_tpm
 
     def otherwise(self, what, seed=SEED, nonce=None):
-        """Starts another session in the session's slot. The caller does not use it."""
+        """Starts another session in the same slot. The caller does not use it."""
         assert self.sent(what, seed, nonce or self.nonce).handle == self.session.handle
 
 

@@ -38,7 +38,7 @@ def start_text(**changes):
 
 
 def heads(words, *texts, tag=frames.NO_SESSIONS):
-    """Sends the command with these bytes after the header."""
+    """Sends the command with these bytes after its header."""
     tpm.raw(words, *(command(CC.StartAuthSession, it, tag) for it in texts))
 
 

@@ -51,7 +51,7 @@ struct library {
  * callbacks. The library's log goes to standard output. */
 void open_library(struct library *library, const char *path);
 
-/* Sets what the callbacks do from now on. */
+/* Sets how the callbacks behave from now on. */
 void tell_locality(const char *number);
 void let_stores_fail(int fail);
 void let_loads_fail(int fail);

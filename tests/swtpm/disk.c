@@ -1,4 +1,5 @@
-/* Simulates the disk of a library's record. These functions replace those of the C library. */
+/* Simulates the disk to which a library writes its record. These functions replace those of the C
+   library. */
 #include "caller.h"
 
 #include <errno.h>

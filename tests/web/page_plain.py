@@ -15,7 +15,7 @@ MOST_BYTES = 500_000
 
 
 def scripts() -> list[pathlib.Path]:
-    """Returns all scripts of tests/ and examples/, and the made scripts."""
+    """Returns all scripts of tests/ and examples/, and the generated scripts."""
     found = [*places.TESTS.glob("**/*.tpm"), *places.EXAMPLES.glob("*.tpm")]
     return [*sorted(found), *sorted(places.folder_of_made().glob("*/*.tpm"))]
 
