@@ -31,7 +31,7 @@ compile() (
         "$beside/libtpmsim.so.0" && "$strip" --strip-unneeded "$made" && chmod 644 "$made"
 )
 
-# Replaces the lines about the kept shared object in PROVED.
+# Writes its lines to the end of PROVED.
 tell_proved() {
     {
         sed '/^kept /d' "$proved"

@@ -76,7 +76,7 @@ static void put_on_disk(int file) {
     fault = before;
 }
 
-/* By chance adds zeros to the disk, in place of bytes that were not written there. */
+/* By chance adds zeros to the disk instead of bytes that were not written there. */
 static inline void add_zeros_by_chance(struct disk_file *there) {
     size_t more = rand() % 2 ? (size_t)rand() % (FILE_MOST - there->size) : 0;
     memset(there->bytes + there->size, 0, more);

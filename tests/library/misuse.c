@@ -139,7 +139,8 @@ static void of_rooms(struct tpmsim *device) {
     in_rooms(device, "snapshot", tpmsim_snapshot);
 }
 
-/* Returns how many bytes of the text differ from the image's bytes between its head and its digest. */
+/* Returns the number of bytes of the text that differ from the image's bytes between its head and its
+ * digest. */
 static size_t others_than_in_image(const uint8_t *text, size_t size) {
     size_t others = 0;
     for (size_t i = 0; i < size; i++) others += text[i] != image[HEAD_BYTES + i];
