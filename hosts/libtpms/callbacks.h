@@ -1,4 +1,4 @@
-/* What swtpm does for its TPM: it stores states by name, and reports the locality. */
+/* The callbacks of swtpm: they store states by name, and report the locality. */
 #ifndef CALLBACKS_H
 #define CALLBACKS_H
 

@@ -1,4 +1,4 @@
-/* What the device keeps without power, as it was last stored. */
+/* The last stored copy of the state that the device keeps without power. */
 #include "permanent.h"
 
 #include "callbacks.h"

@@ -17,7 +17,7 @@ bool open_permanent_state(tpmsim *device, const struct state *state);
 /* Notes that the image of this device is the stored one. */
 void take_as_permanent(tpmsim *device);
 
-/* Whether what a device keeps without power is what is stored, except for its clock. */
+/* Whether the stored state is the state that the device keeps without power, except for its clock. */
 bool is_permanent(tpmsim *device);
 
 /* Makes swtpm store the image of a device. */

@@ -8,7 +8,7 @@
 #include <sys/socket.h>
 #include <unistd.h>
 
-/* What a client needs while a request or its answer is in transit. */
+/* The buffers and counts of a client while a request or its answer is in transit. */
 struct traffic {
     size_t came;
     size_t sent;
@@ -20,7 +20,7 @@ struct client {
     int socket;
     struct board *board;
     bool is_of_platform;
-    /* What is done once the client has received the answer. */
+    /* The next step once the client has received the answer. */
     enum outcome next;
     /* NULL for an idle client. */
     struct traffic *traffic;

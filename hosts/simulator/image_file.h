@@ -12,7 +12,7 @@
 struct image_file {
     const char *path;
     int lock;
-    /* What the device keeps without power, except its clock, as it was last written. */
+    /* The last written state that the device keeps without power, except its clock. */
     uint8_t *kept;
     size_t kept_size;
     /* Memory for the current value of the same, and for an image. */

@@ -69,7 +69,7 @@ static bool listen_at_two(const char *text, uint16_t port, int sockets[2]) {
     return false;
 }
 
-/* The same, but port 0 stands for two free ports. */
+/* Opens a port and the next one, as listen_at_two does. If the port is 0, opens two free ports. */
 static bool open_pair(const char *text, uint16_t port, int sockets[2]) {
     int tries = port == 0 ? TRIES : 1;
     while (tries-- > 0)

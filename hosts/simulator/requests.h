@@ -19,7 +19,7 @@ enum {
    `size`, more bytes have to arrive first. */
 size_t request_size(const uint8_t *bytes, size_t size, bool is_of_platform);
 
-/* What happens to the connection, or to the simulator, after an answer. */
+/* The effect of a request on the connection, or on the simulator, after the answer. */
 enum outcome { GOES_ON, ENDS, STOPS, FAILS };
 
 struct answer {

@@ -17,7 +17,7 @@ enum { FILES_LEFT = 8, MILLISECONDS_TO_NEXT_TRY = 1000, MOST_IN_A_TURN = 64 };
 struct source {
     struct client *client;
     size_t number;
-    /* The events of the client that are waited for. */
+    /* The events of the client for which the server waits. */
     uint32_t events;
 };
 

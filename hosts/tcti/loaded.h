@@ -1,8 +1,6 @@
-/* What this process has loaded into a device and not flushed: transient objects and sessions. With the
- * option `rm` they are flushed at the end.
- *
- * The handles are those of responses that this process received. A forked child starts with none, so
- * that it does not flush what its parent has loaded. */
+/* The transient objects and sessions that this process has loaded into a device and not flushed. With
+ * the option `rm` they are flushed at the end.  The handles are those of responses that this process
+ * received. A forked child starts with none, so that it does not flush what its parent has loaded. */
 #ifndef LOADED_H
 #define LOADED_H
 #include "fork_mark.h"
@@ -25,8 +23,8 @@ void loaded_begin(struct loaded *loaded);
 void loaded_follow(struct loaded *loaded, const uint8_t *command, size_t size,
                    const uint8_t *response, size_t response_size);
 
-/* Flushes what is left, the latest first. What the device refuses to flush is already gone. False with
- * the reason if a command was not answered; the rest then stays loaded. */
+/* Flushes the remaining objects and sessions, the latest first. If the device refuses to flush one, it
+ * no longer exists. False with the reason if a command was not answered; the rest then stays loaded. */
 bool loaded_flush(struct loaded *loaded, struct kept *kept, uint8_t locality,
                   struct reason *reason);
 

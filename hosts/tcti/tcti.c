@@ -19,7 +19,8 @@ struct context {
     TSS2_TCTI_CONTEXT_COMMON_V2 common;
     struct kept *kept;
     uint8_t locality;
-    /* Whether what this process has loaded is flushed at the end, and what it has loaded. */
+    /* Whether the objects and sessions that this process loaded are flushed at the end; and these
+       objects and sessions. */
     bool flushes;
     struct loaded loaded;
     /* Whether a response is ready to be received, and its bytes. */

@@ -32,7 +32,7 @@ RESPONSES: dict[CC, type[Response]]
 
 NEXT_EMPTY = r"^(class .*: \.\.\.\n)\n(?=class .*: \.\.\.$)"
 
-# What a parameter of a command takes.
+# The Python types that a parameter of a command accepts.
 TAKEN = {
     Kind.CODE: "int | str",
     Kind.HANDLE: "Handle",

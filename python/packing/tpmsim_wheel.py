@@ -73,7 +73,7 @@ def package() -> list[Entry]:
 
 
 def metadata() -> str:
-    """What Python learns about the installed package."""
+    """Returns the metadata of the installed package."""
     facts = project()
     return (
         f"Metadata-Version: 2.1\nName: {facts['name']}\nVersion: {facts['version']}\n"
@@ -111,7 +111,9 @@ def described(machine: str | None) -> list[Entry]:
 
 
 def contents(machine: str | None) -> Iterator[Entry]:
-    """What a wheel installs: the package, and the libraries and the program for a machine."""
+    """Returns the files that a wheel installs: the package, and the libraries and the program for a
+    machine.
+    """
     yield from package()
     if machine:
         folder = shipped(machine)
@@ -155,7 +157,9 @@ def write_wheel(folder: str, machine: str | None) -> pathlib.Path:
 
 
 def this_machine() -> str | None:
-    """This machine, if dist/ has a library for it and it has the C library that this one needs."""
+    """Returns this machine, if dist/ has a library for it, and if it has the C library that this
+    library needs.
+    """
     system, version = platform.libc_ver()
     numbers = tuple(int(it) for it in version.split(".") if it.isdigit())
     machine = platform.machine()

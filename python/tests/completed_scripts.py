@@ -124,9 +124,7 @@ class Scripts:
         return context if self.chance.random() < 0.9 else self.bent_context(context)
 
     def bent_context(self, context):
-        """Returns a context in which a bit is flipped, mostly in its first fields, or whose end is
-        changed.
-        """
+        """Returns a context that is extended by a byte, truncated, or has a flipped bit."""
         size = self.chance.choice((BLOB_AT, len(context)))
         way = self.chance.randrange(3)
         if way == 0:

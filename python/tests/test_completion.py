@@ -84,7 +84,7 @@ def trace_of(event):
 
 
 def in_python(seed, count):
-    """Returns a log of this many random commands, as the Python device records it."""
+    """Returns the Python device's journal of random commands, and its responses to the commands."""
     with RecordedModel() as device:
         answered = completed_scripts.play(device, random.Random(seed), count, changes=True)
     return device.journal.text, answered

@@ -1,4 +1,4 @@
-"""The same twenty tests over each kind of device, and tests of one kind alone."""
+"""Tests with twenty common uses of each kind of device, and tests of one kind alone."""
 
 import contextlib
 import doctest

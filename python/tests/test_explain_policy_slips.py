@@ -238,8 +238,8 @@ NONE = (
 
 
 def pairs_of(rows, most=60):
-    """Yields pairs of rows: first rows that compute a digest differently, then rows that change the
-    order of the assertions.
+    """Yields some pairs of mistakes. In each pair, a mistake in one digest comes before a mistake in
+    the order of the assertions.
     """
     pairs = list(itertools.combinations(rows, 2))
     for first, second in random.Random("pairs").sample(pairs, most):

@@ -1,4 +1,4 @@
-/* Opens a device with the module's configuration string and uses it: `ask WORDS ACT..`. An act is one
+/* Opens a device with the module's configuration string and uses it: `ask WORDS ACT..`. An ACT is one
  * of these: a command in hex, whose response is printed; `power`, a power cycle; or `locality N`. A
  * fault is printed, and ends the program. */
 #include "common.h"

@@ -1,4 +1,4 @@
-# Journals that have grown are begun again, with and without keep=N: attached/grown.c is the caller.
+# Journals that have grown are restarted, with and without keep=N: attached/grown.c is the caller.
 tests=$(cd "$(dirname "$0")/.." && pwd -P)
 . "$tests/common/cases.sh"
 . "$tests/common/library.sh"

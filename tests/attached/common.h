@@ -112,7 +112,7 @@ static inline const char *path_in(const char *folder, const char *name, char roo
     return room;
 }
 
-/* Makes a file have exactly these bytes, in place. */
+/* Overwrites a file with exactly these bytes, without replacing it. */
 static inline void put_bytes(const char *path, const uint8_t *bytes, size_t size) {
     int file = open(path, O_WRONLY | O_CREAT, 0600);
     must(file >= 0 && pwrite(file, bytes, size, 0) == (ssize_t)size &&

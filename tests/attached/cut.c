@@ -1,6 +1,6 @@
-/* The next record or a power cycle cuts off an incomplete record at the end of a journal. If the
- * caller asks for it, the next call drops damage, and the journal begins again. A sentence
- * reports each cut. The argument is the file of the values of the PCR. */
+/* The next record or a power cycle cuts off an incomplete record at the end of a journal. If the caller
+ * asks for it, the next call drops damage, and restarts the journal. A message reports each cut. The
+ * argument is the file of the values of the PCR. */
 #include "old_journal.h"
 #include <inttypes.h>
 
@@ -95,8 +95,8 @@ static void must_be_refused(bool cuts) {
     must_be_told("");
 }
 
-/* Changes a byte in a record. The device then has the effects of the records before it. Its
- * journal begins again when it is opened. */
+/* Changes a byte in a record. The device then has the effects of the records before it. Opening the
+ * device restarts its journal. */
 static void cut_at(size_t place, const struct values *values) {
     size_t record = record_at(place), size = whole.ends[record - 1];
     uint8_t response[RESPONSE_BYTES];
@@ -150,8 +150,8 @@ static void cut_fronts(const struct values *values) {
     puts("the front of a record: cut off");
 }
 
-/* Writes a journal with this many extends, as an older library did: its journals begin again
- * only at a power cycle. */
+/* Writes a journal with this many extends, as an older library did: which restarted a journal only at a
+ * power cycle. */
 static void write_old(size_t extends) {
     struct old_journal old = old_journal_of(extends);
     free(whole.bytes);

@@ -37,7 +37,8 @@ static inline void remove_state(void) {
     must(access(FOLDER, F_OK) != 0, "there is more in the folder than a state");
 }
 
-/* What the disk has of a file; a free place, not the journal's, if it has nothing of it. */
+/* Returns the entry of a file on the disk. If there is none, an entry that is not the journal's is
+   used for it. */
 static inline struct disk_file *disk_file_of(ino_t inode) {
     struct disk_file *free_one = NULL;
     for (int i = 0; i < FILES; i++) {

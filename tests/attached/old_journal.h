@@ -1,5 +1,5 @@
-/* A journal that the library writes in memory. Like those of earlier versions it begins with an image, and
- * never begins again, however long it is. */
+/* A journal that the library writes in memory. Like those of earlier versions it begins with an image,
+ * and is never restarted, however long it is. */
 #ifndef OLD_JOURNAL_H
 #define OLD_JOURNAL_H
 #include "common.h"

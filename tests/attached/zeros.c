@@ -35,8 +35,8 @@ static struct kept *opened_to(bool cuts, struct reason *reason) {
     return kept_open(&options, reason);
 }
 
-/* Extends a device whose journal has this size, and checks the file. If `begins` is true, the
-   journal begins again. */
+/* Extends a device whose journal has this size, and checks the file. If `begins` is true, the journal
+   is restarted. */
 static void extend_and_look(struct kept *kept, size_t size, const char *behind, bool begins,
                             const struct values *values) {
     extend(kept);

@@ -36,7 +36,7 @@ against() {
     LD_PRELOAD=$shim python3 "$played" "$dist/tpmsim" "$built" "$shim" "$@"
 }
 
-# swtpm_states SHARE: runs swtpm_states.py, with one of so many runs.
+# swtpm_states SHARE: runs swtpm_states.py, which makes one of SHARE runs.
 swtpm_states() {
     needs swtpm libtpms/tpm_library.h
     "$top/hosts/build.sh" libtpms "$room/swtpm" || return 1

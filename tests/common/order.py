@@ -21,9 +21,9 @@ class OrderTeller(Teller):
         closed: int | None = None,
         both: str = "BAD_AUTH/s1",
     ) -> None:
-        """Sends the faults of the authorization area, of the entries, and of their HMACs. The
-        parameters are `cut`. No password can authorize the index `closed`. `both` is the outcome
-        of two wrong entries.
+        """Sends the faults of the authorization area, of the entries, and of their HMACs. `cut` are
+        truncated parameters. No password can authorize the index `closed`. `both` is the outcome of
+        two wrong entries.
         """
         text, last = b"".join(number(it, 4) for it in handles), len(uses)
         if code.authorized:

@@ -76,8 +76,8 @@ class ScriptCaller(PreparedCommands):
         return self.received(prepared, self.script.command(words, prepared.buffer(), fresh=fresh))
 
     def does(self, what: str, prepared: Prepared) -> bytes:
-        """Sends a command that must be accepted, with fresh random bytes if a session has an entry.
-        Returns the parameters.
+        """Sends a command that must be accepted. The device gets fresh random bytes if a session
+        has an entry. Returns the parameters.
         """
         return self.accepted(what, prepared, self.draws(prepared))[1]
 

@@ -59,7 +59,7 @@ def together(program: str, processes: int, each: int) -> None:
 
 
 def killed(program: str, times: int) -> None:
-    """Kills processes at random moments while others go on."""
+    """Kills processes at random moments while others continue."""
     rolls = random.Random(57)
     lost = 0
     for _ in range(times):

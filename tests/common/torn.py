@@ -159,7 +159,7 @@ class Service:
 
     @property
     def told(self):
-        """The same with a description of the image, for comparison."""
+        """Returns the same service with a description of the image, for comparison."""
         return replace(self, image=image_told(self.image))
 
 

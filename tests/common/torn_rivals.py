@@ -1,6 +1,6 @@
 """Two runs of `tpmsim serve` at once. Either each has its own image and they share the socket, or
-each has its own socket and they share the image. One run goes on while the other one waits at
-one of its calls.
+each has its own socket and they share the image. One run continues while the other waits at one of
+its calls.
 """
 
 import socket

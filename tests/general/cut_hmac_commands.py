@@ -166,7 +166,7 @@ tpm.restarts(told)
 by_each_command(unbound, told, key)
 beside(unbound, bound)
 
-# The same for entities without dictionary attack protection.
+# Repeats the cuts for entities without dictionary attack protection.
 case = "TPM2_NV_Write of the index with TPMA_NV_NO_DA"
 cut(case, tpm.writing(FOURTH, DATA, unbound), "BAD_AUTH/s1", NO_TRY)
 tpm('ownerAuth is "pin"').change_auth(RH_OWNER, PIN, b"")

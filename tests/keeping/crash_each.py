@@ -2,15 +2,15 @@
 
     python3 crash_each.py PROGRAM HOSTS SHIM SHARE [WORD]
 
-SHIM is the library of disk.c, which LD_PRELOAD has loaded into this process too. It logs what
-each host does to its folder. A crash keeps the bytes that were synced, and any prefix of the
-rest, perhaps followed by zeros. A name that was not synced may be lost, or may be an earlier
-file's again.
+SHIM is the library of disk.c, which LD_PRELOAD has loaded into this process too. It logs what each
+host does to its folder. A crash keeps the bytes that were synced, and any prefix of the rest,
+perhaps followed by zeros. A name that was not synced may be lost, or may be an earlier file's
+again.
 
 After each line of the log some such folders are made, and another host opens them. With
-force=always each has the device that executed the answered acts, and perhaps the unanswered one.
-Otherwise it has one of the devices since the last power cycle. One of SHARE crashes is made;
-with WORD, only those of hosts whose name contains it.
+force=always each folder has the device that executed the answered operations, and perhaps the
+unanswered one. Otherwise it has one of the devices since the last power cycle. One of SHARE crashes
+is made; with WORD, only those of hosts whose name contains it.
 """
 
 import ctypes
@@ -138,8 +138,8 @@ class Disk:
 
 
 class Allowed:
-    """The devices that may be in the folder: the device after the answered acts, or all devices
-    since the last power cycle.
+    """The devices that may be in the folder: the device after the answered operations, or all
+    devices since the last power cycle.
     """
 
     def __init__(self, state: State, is_always: bool) -> None:
@@ -159,7 +159,7 @@ class Allowed:
         self.holds(last)
 
     def holds(self, act: str) -> None:
-        """Records that an act was done. The act may be lost, unless it was a power cycle."""
+        """Records that an operation was done. A crash may undo it, unless it was a power cycle."""
         before = set() if act == POWER else {it for it in self.since if it.is_there}
         self.since = before | self.counted.states
 

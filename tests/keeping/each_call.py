@@ -4,9 +4,10 @@
 
 HOSTS is the folder with the module and the programs. SHIM is the library of failing.c, which
 LD_PRELOAD has loaded into this process too. One of SHARE runs is made; with WORD, only those of
-hosts whose name contains it. In each run a host has to do some acts, and one system call has a
-fault of VARIANTS. Then another host opens the folder. The device has executed the answered acts,
-and perhaps the unanswered one. Standard error says what is wrong, and the number of runs.
+hosts whose name contains it. In each run a host has to do some operations, and one system call has
+a fault of VARIANTS. Then another host opens the folder. The device has executed the answered
+operations, and perhaps the unanswered one. Standard error says what is wrong, and the number of
+runs.
 """
 
 import collections

@@ -1,4 +1,5 @@
-"""The hosts of a kept device, each with the acts of counted.py. `Files` says where the hosts are.
+"""The hosts of a kept device, each with the operations of counted.py. `Files` says where the hosts
+are.
 
 The module and Python run in this process, and fork with it. The other hosts are programs, which
 begin with an environment.

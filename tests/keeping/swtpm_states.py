@@ -4,11 +4,11 @@ repository:
     python3 swtpm_states.py FOLDER SHIM SHARE [WORD]
 
 FOLDER is that of `hosts/build.sh libtpms`, and SHIM is the library of failing.c. One of SHARE runs
-is made; with WORD, only those whose label contains it. In each run swtpm has to do some acts, and
-one call on a file in its folder has a fault of VARIANTS. Then swtpm is started again, without a
-fault. Its device has executed the answered acts, and perhaps the unanswered ones; or swtpm or the
-library says why there is no device. Standard error says what is wrong, and the numbers of runs and
-of such faults.
+is made; with WORD, only those whose label contains it. In each run swtpm has to do some operations,
+and one call on a file in its folder has a fault of VARIANTS. Then swtpm is started again, without a
+fault. Its device has executed the answered operations, and perhaps the unanswered ones; or swtpm or
+the library says why there is no device. Standard error says what is wrong, and the numbers of runs
+and of such faults.
 """
 
 import contextlib

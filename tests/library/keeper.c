@@ -83,7 +83,7 @@ static void show_tasks(void) {
     }
 }
 
-/* Kills a host at each task while the journal is begun again. The device stays the same. */
+/* Kills a host at each task while the journal is restarted. The device stays the same. */
 static void kill_renewals(extent how_much) {
     uint8_t fault = KILLED;
     memset(&folder, 0, sizeof folder);
@@ -131,7 +131,7 @@ static void check_head(void) {
          "another head is shown");
 }
 
-/* Checks that a journal at its limit begins again, with the same state. */
+/* Checks that a journal at its limit is restarted, with the same state. */
 static void check_limit(void) {
     int count = 0;
     memset(&folder, 0, sizeof folder);

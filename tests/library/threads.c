@@ -1,6 +1,6 @@
-/* Runs four devices in four threads. The first argument is the size of each thread's stack, in
- * bytes. Each device executes commands, and is saved and opened. Another thread than its maker
- * frees it. All four must have the same image at the end. */
+/* Runs four devices in four threads. The first argument is the size of each thread's stack, in bytes.
+ * Each device executes commands, and is saved and opened. A thread that did not make it frees it. All
+ * four must have the same image at the end. */
 #define _POSIX_C_SOURCE 200809L
 #include "common.h"
 #include <pthread.h>

@@ -29,7 +29,7 @@ third 'cmd\r'
 third 'cmd 00\000'
 third 'cmd\t00'
 
-# Another first word than cmd.
+# Lines whose first word is not `cmd`.
 third ' cmd 00'
 third 'CMD 00'
 third 'cmd00'
@@ -110,7 +110,7 @@ third '\303\251'
 third '\377'
 third '\000'
 
-# Similar lines that are good.
+# Valid lines that resemble the bad ones.
 third 'cmd '
 third 'cmd 00'
 third 'do GetRandom 4'

@@ -72,7 +72,7 @@ def says(words, text, session=policy, attributes=CONTINUE_SESSION):
 
 
 def decrypted(words, text, session=policy):
-    """Sends the command of the chapter while the HMAC session decrypts."""
+    """Sends the command of the chapter with these parameters, while the HMAC session decrypts."""
     says(words, text, session, DECRYPTS)
 
 

@@ -91,7 +91,7 @@ second 'do PolicyPCR 03000000 - sha256'
 second 'do PCR_Extend 0000000a pw:- sha256:00'
 second 'do PolicyOR 03000000 00+'
 
-# Similar lines that are good.
+# Valid lines that resemble the bad ones.
 second 'cmd'
 second 'cmd '
 second 'cmd 00'

@@ -190,7 +190,7 @@ def late(made):
 
 
 def alarmed(made):
-    """Does the same as at_each_line, with a signal handler that raises its own exception."""
+    """Does the same as `late`, with a signal handler that raises its own exception."""
 
     def raise_fault(*_):
         raise LookupError("a test's time")

@@ -200,7 +200,9 @@ class CounterLines:
 
 
 class Repeats:
-    """Commands that one live HMAC session accepted again, byte for byte."""
+    """Commands that were sent again, byte for byte, and accepted a second time in one live HMAC
+    session.
+    """
 
     def __init__(self, sessions: SessionLines) -> None:
         self.sessions, self.told = sessions, list[str]()

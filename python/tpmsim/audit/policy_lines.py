@@ -24,7 +24,9 @@ from tpmsim.standard.lines import handle_word
 
 @dataclass(frozen=True)
 class Told:
-    """What a session asserted in the log, and the digest that it had before the log, if any."""
+    """The assertions of a session in the log, and the digest that the session had before the log,
+    if any.
+    """
 
     asserted: Sequence[Asserted]
     before: bytes = b""

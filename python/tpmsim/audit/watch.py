@@ -22,7 +22,7 @@ OF_PARAMETERS = "INSUFFICIENT/p1"
 
 
 class View:
-    """What anyone may read about the entity of a handle: its public area, if it has one."""
+    """The part of an entity that anyone may read: its public area, if it has one."""
 
     def __init__(self, handle: int, public: Public | None = None) -> None:
         self.handle, self.public = handle, public

@@ -54,7 +54,9 @@ class Use:
 
 @dataclass(frozen=True)
 class Made:
-    """What TPM2_Create returned, for TPM2_Load, and the authorization value that was requested."""
+    """The areas that TPM2_Create returned, for TPM2_Load, and the authorization value that was
+    requested.
+    """
 
     private: bytes
     public: Public

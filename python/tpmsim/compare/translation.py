@@ -27,7 +27,9 @@ class NotComparable(TpmsimError):
 
 
 class Translation:
-    """What is known about the other TPM, each thing by its name in the script."""
+    """Everything that is known about the other TPM: each entity and value by its name in the
+    script.
+    """
 
     def __init__(self, here: Reference) -> None:
         self.here, self.known = here, Knowledge()

@@ -205,7 +205,7 @@ def stop_calls() -> None:
 
 
 def go_on() -> None:
-    """Lets the other threads go on after a fork."""
+    """Lets the other threads continue after a fork."""
     for device in stopped.pop():
         device.turn.release()
     FORKS.release()

@@ -32,7 +32,7 @@ class Connection:
             self.socket.setsockopt(socket.IPPROTO_TCP, socket.TCP_NODELAY, 1)
 
     def send(self, data: bytes) -> Self:
-        """Sends bytes; raises DeviceEnded if the other end is gone."""
+        """Sends bytes; raises DeviceEnded if the other end has closed the connection."""
         try:
             self.socket.sendall(data)
         except (BrokenPipeError, ConnectionResetError):

@@ -28,7 +28,7 @@ PAIRED, MOST_NONCES = 3, 100
 LEAST_CUT = 4
 
 
-# What the user can still try.
+# The hint about values that the user can still try.
 TRY = "--try VALUE tries one that the log does not have, as another PIN"
 
 

@@ -158,7 +158,7 @@ class Completion:
         return self.reply(device, event[0], own, place)
 
     def forget(self, device: Model) -> None:
-        """The contexts of the sessions that are gone."""
+        """Forgets the contexts of sessions that have ended."""
         taken = {it & PLACE_BITS for it in device.sessions}
         self.sessions = [it if at in taken else 0 for at, it in enumerate(self.sessions)]
 

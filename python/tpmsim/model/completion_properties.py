@@ -38,7 +38,8 @@ LIMITS = {
 }
 TOTAL_COMMANDS, LIBRARY_COMMANDS = 0x129, 0x12A
 
-# What the device has none of: ALGORITHM_SET, LOADED_CURVES, NV_WRITE_RECOVERY, AUDIT_COUNTER_0 and 1.
+# Properties that are 0 because the device has no such feature: ALGORITHM_SET, LOADED_CURVES,
+# NV_WRITE_RECOVERY, AUDIT_COUNTER_0 and 1.
 NOTHING = {0x20C: 0, 0x20D: 0, 0x212: 0, 0x213: 0, 0x214: 0}
 
 # TPMA_PERMANENT: what says that a value is set, and the rest.

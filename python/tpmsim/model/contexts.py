@@ -50,7 +50,8 @@ FAULTS = TRUNCATED, SAVED_HANDLE, HIERARCHY, SIZE, INTEGRITY
 
 @dataclass(frozen=True)
 class Binding:
-    """What a context is bound to: the start of the layer, resetCount and restartCount."""
+    """The values to which a context is bound: the start of the layer, resetCount and restartCount.
+    """
 
     start: int
     resets: int

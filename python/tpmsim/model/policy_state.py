@@ -13,7 +13,9 @@ from tpmsim.standard.policy import ALL_LOCALITIES
 
 @dataclass
 class State:
-    """What a policy recorded, to be compared at a use; None if it was not recorded."""
+    """The values that assertions recorded, to be compared at a use. None means that no value was
+    recorded.
+    """
 
     digest: bytes
     update_counter: int | None = None
@@ -54,7 +56,9 @@ class Session:
 
 @dataclass(frozen=True)
 class Use:
-    """What a use is compared with in a policy; `written` is None if there is no NV index."""
+    """The facts of a use that are compared with the policy. `written` is None if the entity is not
+    an NV index.
+    """
 
     code: int
     is_admin: bool

@@ -23,9 +23,9 @@ HASHED_NAMES = {number(it, 2): 2 + digest_bytes(it) for it in (SHA1, SHA256)}
 
 @dataclass(frozen=True)
 class Update:
-    """What an assertion adds to the digest: its code, the entity that it is about, its policyRef,
-    if any, and the text that is hashed separately, if any. It also says whether the assertion
-    discards the previous digest.
+    """The bytes that an assertion adds to the digest: its code, the entity that it is about, its
+    policyRef, if any, and the text that is hashed separately, if any. It also says whether the
+    assertion discards the previous digest.
     """
 
     code: CC

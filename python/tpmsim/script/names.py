@@ -13,7 +13,7 @@ NONCE, NONCE_BYTES = "nonce", 16
 
 
 class Bad(TpmsimError):
-    """What is wrong with a line, as text, and the column where it starts, counted from 1."""
+    """The fault of a line, as text, and the column where it starts, counted from 1."""
 
     def __init__(self, column: int, words: str) -> None:
         super().__init__(words)

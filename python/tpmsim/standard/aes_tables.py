@@ -20,7 +20,7 @@ def column_of(byte: int) -> int:
     return int.from_bytes(bytes((doubled, substituted, substituted, tripled)), "big")
 
 
-# What a byte adds to its column, by its row.
+# The bytes that a byte adds to its column in a round, by its row.
 ROWS = [[column_of(byte) for byte in range(256)]]
 for _ in range(3):
     ROWS.append([turned(it) for it in ROWS[-1]])

@@ -7,7 +7,7 @@ from tpmsim.standard.sessions import digest, digest_bytes
 # One bit for each locality from 0 to 4.
 ALL_LOCALITIES = 0x1F
 
-# What a policy demands of the entry of its session, in addition to the session itself.
+# The demands of a policy on the entry of its session, in addition to the session itself.
 PASSWORD, AUTH_VALUE = "password", "authorization value"
 
 # The smallest and the largest number of digests in TPM2_PolicyOR.
