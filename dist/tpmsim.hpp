@@ -41,7 +41,7 @@ inline std::string name_of(Told told) {
         "IMAGE_MAGIC",   "IMAGE_VERSION", "IMAGE_LENGTH", "IMAGE_DIGEST", "IMAGE_BODY",
         "NO_JOURNAL",    "DAMAGED",       "OTHERWISE",    "STATE_SHORT",  "STATE_MAGIC",
         "STATE_VERSION", "STATE_LENGTH",  "STATE_DIGEST", "STATE_BODY",   "NO_WORD",
-        "NO_ANSWER"};
+        "NO_ANSWER",     "STATE_EARLIER"};
     return std::string("TPMSIM_") + (told < std::size(names) ? names[told] : "NO_RANDOM");
 }
 

@@ -82,7 +82,7 @@ enum tpmsim_told {
     TPMSIM_STATE_SHORT = 13,
     /* The bytes do not begin with TPMS. */
     TPMSIM_STATE_MAGIC = 14,
-    /* The version of the state text is not 1. */
+    /* The version of the state text is not 1 or 2. */
     TPMSIM_STATE_VERSION = 15,
     /* The length field is not the number of bytes. */
     TPMSIM_STATE_LENGTH = 16,
@@ -93,11 +93,14 @@ enum tpmsim_told {
     /* An argument is not a number of tpmsim_force or of tpmsim_job. */
     TPMSIM_NO_WORD = 19,
     /* The keeper has no response to a TPM command. */
-    TPMSIM_NO_ANSWER = 20
+    TPMSIM_NO_ANSWER = 20,
+    /* The journal begins with a state text of version 1, whose completing layer answered otherwise. Save the
+       device with the library that wrote the journal (tpmsim_snapshot), and restore it with this one. */
+    TPMSIM_STATE_EARLIER = 21
 };
 
 /* A buffer size that is enough for every state text. */
-enum { TPMSIM_STATE_SIZE = 36323 };
+enum { TPMSIM_STATE_SIZE = 36195 };
 
 /* A buffer size that is enough for every record of a journal. */
 enum { TPMSIM_RECORD_ROOM = 9216 };
@@ -231,7 +234,7 @@ size_t tpmsim_journal_begin(tpmsim *device, uint64_t now_ms, uint8_t *buffer, si
    head contains the time of the journal, so that the time since the last command still counts. `now_ms`
    is used only if the device has no journal yet, for example after tpmsim_restore.
 
-   Returns the size of the head, written or not, at most 72,726; 0 without a device. */
+   Returns the size of the head, written or not, at most 72,470; 0 without a device. */
 size_t tpmsim_journal_checkpoint(tpmsim *device, uint64_t now_ms, uint8_t *buffer, size_t size);
 
 /* Opens the device of a journal. The handle's previous device is freed. `taken` is the size of the head
@@ -240,7 +243,7 @@ size_t tpmsim_journal_checkpoint(tpmsim *device, uint64_t now_ms, uint8_t *buffe
 
    Returns TPMSIM_DONE, TPMSIM_NO_JOURNAL, TPMSIM_DAMAGED, TPMSIM_OTHERWISE or TPMSIM_NO_MEMORY;
    TPMSIM_IMAGE_SHORT to TPMSIM_IMAGE_BODY if the image in the head is invalid; TPMSIM_STATE_SHORT to
-   TPMSIM_STATE_BODY if the state text in the head is invalid. */
+   TPMSIM_STATE_BODY if the state text in the head is invalid; TPMSIM_STATE_EARLIER if it has version 1. */
 uint8_t tpmsim_journal_open(tpmsim *device, const uint8_t *text, size_t size, size_t *taken);
 
 /* Executes the complete records of a later part of the journal: the text after the records that this
@@ -257,9 +260,9 @@ uint8_t tpmsim_journal_follow(tpmsim *device, const uint8_t *text, size_t size, 
    If `completes` is not 0, the completing layer is above the device for this command, and the record
    says so. The device is asked first. The layer responds where the device by design does not:
    to TPM2_ContextSave, TPM2_ContextLoad, TPM2_StirRandom, to more of TPM2_GetCapability, and to the
-   command by which firmware looks for a TPM 1.2. It also makes room for a ninth object if one of the
-   eight can be reloaded. `code` and `check` are the device's own. The layer's memory belongs to the
-   journal: it is empty after each head except that of a checkpoint.
+   command by which firmware looks for a TPM 1.2. TPM2_ContextLoad of an object's context puts the object
+   into a free slot. `code` and `check` are the device's own. The layer's memory belongs to the journal:
+   it is empty after each head except that of a checkpoint.
 
    Returns TPMSIM_DONE, TPMSIM_NO_LOCALITY or TPMSIM_NO_DEVICE. */
 uint8_t tpmsim_journal_execute(tpmsim *device, const uint8_t *buffer, size_t size,
@@ -409,8 +412,8 @@ uint8_t tpmsim_keeper_begin(tpmsim_keeper *keeper, uint8_t job, const uint8_t *t
 uint8_t tpmsim_keeper_execute(tpmsim_keeper *keeper, const uint8_t *buffer, size_t size, uint8_t locality,
                               uint64_t now_ms, uint8_t completes, const uint8_t random[256]);
 
-/* Begins a power cycle. `start` is a number for the completing layer's start. Use a number that no earlier
-   start of the device had.
+/* Begins a power cycle. `start` has no effect: the completing layer keeps its start and its count of contexts,
+   so that contexts of objects load after a TPM Resume.
 
    Returns TPMSIM_DONE, TPMSIM_NO_DEVICE or TPMSIM_NO_MEMORY. */
 uint8_t tpmsim_keeper_power(tpmsim_keeper *keeper, uint64_t now_ms, uint64_t start);
@@ -427,7 +430,9 @@ uint8_t tpmsim_keeper_seed(tpmsim_keeper *keeper, uint8_t seed, uint64_t now_ms,
                            const uint8_t *content, size_t size);
 
 /* Begins the call that replaces the device by the device of a state text. A damaged journal is cut first.
-   The response is one byte: 1, or 0 if the text is not a state text; then the device is unchanged.
+   The response is one byte: 1, or 0 if the text is not a state text; then the device is unchanged. `start` is
+   the start of the completing layer, which no earlier start of the device had: contexts that were made before
+   the call do not load.
 
    Returns TPMSIM_DONE, TPMSIM_NO_DEVICE or TPMSIM_NO_MEMORY. */
 uint8_t tpmsim_keeper_restore(tpmsim_keeper *keeper, uint64_t now_ms, uint64_t start, const uint8_t *state,
