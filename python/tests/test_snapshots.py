@@ -189,7 +189,7 @@ class Told(Snapshots):
         with self.device() as other:
             for it in off, taken, off:
                 other.restore(it)
-                self.assertEqual(other.snapshot(), it)
+                self.assert_same(other.snapshot(), it)
             self.tpm.device = other
             self.tpm.start_up()
 
@@ -198,7 +198,15 @@ class OverModel(Told, unittest.TestCase):
     device = functools.partial(ModelDevice, seed=SEED)
 
 
-class OverChild(Told, unittest.TestCase):
+class InFolder:
+    """Tests of devices in a folder: the completing layer of a restored device gets a new start."""
+
+    def assert_same(self, found, wanted):
+        self.assertNotEqual(found, wanted)
+        self.assertEqual(without_start(found), without_start(wanted))
+
+
+class OverChild(InFolder, Told, unittest.TestCase):
     device = functools.partial(ChildDevice, seed=SEED)
 
     def test_at_once(self):
@@ -206,7 +214,7 @@ class OverChild(Told, unittest.TestCase):
         with self.device() as first, self.device() as other:
             taken = first.snapshot()
             other.restore(taken)
-            self.assertEqual(other.snapshot(), taken)
+            self.assert_same(other.snapshot(), taken)
 
     def test_image(self):
         folder = self.enterContext(tempfile.TemporaryDirectory())
@@ -276,15 +284,10 @@ class InProcess(Told, unittest.TestCase):
 
 
 @NEEDS_LIBRARY
-class OverKeptState(Snapshots, unittest.TestCase):
+class OverKeptState(InFolder, Snapshots, unittest.TestCase):
     def device(self):
         self.folder = self.enterContext(tempfile.TemporaryDirectory())
         return KeptDevice(self.folder, forces=False)
-
-    def assert_same(self, found, wanted):
-        """The completing layer of a restored device has a new start."""
-        self.assertNotEqual(found, wanted)
-        self.assertEqual(without_start(found), without_start(wanted))
 
     def test_other_holders(self):
         """Each holder continues from the snapshot, and so does a process that opens the folder."""

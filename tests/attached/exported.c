@@ -1,6 +1,7 @@
 /* Uses the kept device as another program does, by tpmsim_kept.h. */
-#include "../common/same_state.h"
 #include "common.h"
+
+#include "../common/same_state.h"
 #include "tpmsim_kept.h"
 
 static const char FOLDER[] = "state";
