@@ -102,7 +102,7 @@ export class Words {
   static load(options?: { module?: ModuleSource }): Promise<Words>;
   /** The version of the module, such as `0.1.0`. */
   readonly version: string;
-  /** The buffer of a command in words, such as `GetRandom 4`. Throws BadLine for other words. */
+  /** The buffer of a command in words, such as `GetRandom 4`. Throws BadLine if the words encode no command. */
   assemble(line: string): Uint8Array;
   /** A line in words that encodes exactly these bytes; null if there is none. */
   spell(command: Uint8Array): string | null;

@@ -145,7 +145,7 @@ export class Device {
   }
 
   /**
-   * Executes a command in words, such as `GetRandom 4`. Throws BadLine for other words.
+   * Executes a command in words, such as `GetRandom 4`. Throws BadLine if the words encode no command.
    * @param {string} line
    * @param {Event} [event]
    * @returns {Answer}

@@ -45,7 +45,7 @@ export class Words {
   }
 
   /**
-   * Returns the buffer of a command in words, such as `GetRandom 4`. Throws BadLine for other words.
+   * Returns the buffer of a command in words, such as `GetRandom 4`. Throws BadLine if the words encode no command.
    * @param {string} line
    * @returns {Uint8Array}
    */

@@ -38,7 +38,7 @@ impl fmt::Display for Fault {
     }
 }
 
-/// Why a call of this package failed.
+/// Why a call to this package failed.
 #[derive(Debug)]
 #[non_exhaustive]
 pub enum Error {

@@ -7,7 +7,7 @@ use tpmsim::Device;
 
 const DEVICES: usize = 1000;
 
-/// TPM2_PCR_Extend of PCR 7 by the SHA-256 digest of a number, and TPM2_PCR_Read of that PCR.
+/// Extends PCR 7 in the SHA-256 bank with a number as the digest, then reads that PCR.
 fn test(number: usize) -> Vec<u8> {
     let mut device = Device::new().expect("there is memory");
     device.start_up().expect("it was not started");

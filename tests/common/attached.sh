@@ -67,7 +67,7 @@ both() {
     fi
 }
 
-# extended COUNT: prints the values of a SHA-256 PCR after 0, 1, .. COUNT extends by a digest of 32 bytes 5a.
+# extended COUNT: prints the values of a SHA-256 PCR after 0, 1, .. COUNT extends with a digest of 32 bytes 5a.
 extended() {
     python3 -c '
 import hashlib, sys

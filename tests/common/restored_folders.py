@@ -78,7 +78,7 @@ def killed(program: Tears, at: int) -> bool:
 
 
 def failed(program: Tears, at: int) -> Ending:
-    """Returns how a run ends in which call number `at` fails."""
+    """Returns how a run ends if its call number `at` fails."""
     return ended(program.begun(WORDS, at=at, error=errno.EIO))
 
 

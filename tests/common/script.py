@@ -148,7 +148,8 @@ class Script:
 
     def wait_each_time(self) -> None:
         """Lets a second pass before each further command, since a wrong value for lockoutAuth
-        disables lockoutAuth until lockoutRecovery has passed. Call allow_tries first.
+        disables lockoutAuth until lockoutRecovery has passed. Call allow_tries first, to make that
+        a second.
         """
         self.chapter(
             "A wrong try at lockoutAuth closes it for lockoutRecovery. So a second passes before "

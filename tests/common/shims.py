@@ -210,7 +210,7 @@ class Tears(Shim):
         super().__init__(program, "tear")
 
     def begun(self, words, folder=".", at=0, error=0, calls=CALLS, **told):
-        """Begins a run whose call number `at` fails with an error. If the error is 0, the call
+        """Begins a run in which call number `at` fails with an error. If the error is 0, the call
         moves half its bytes.
         """
         calls.unlink(missing_ok=True)
@@ -224,8 +224,8 @@ class Tears(Shim):
 
 
 class Refusals(Shim):
-    """A program with the shim refuse.c, which makes allocations fail. In a run these are the
-    allocations from the first number to the second.
+    """A program with the shim refuse.c, which makes allocations fail. The two numbers of a run are
+    those of the first and the last allocation that fails.
     """
 
     def __init__(self, program):
@@ -240,9 +240,9 @@ class Refusals(Shim):
 
     @staticmethod
     def each(turns, run):
-        """Makes each allocation fail in turn: in one run only that one, and in another also all
-        that follow. `run` makes a run from the two numbers. Yields each allocation's number,
-        with the results of both runs.
+        """Makes each allocation fail in turn: in one run only that one, and in another that one
+        and all later ones. `run` makes a run from the two numbers. Yields each allocation's
+        number, with the results of both runs.
         """
         turn = 1
         while True:

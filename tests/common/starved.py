@@ -2,10 +2,10 @@
 
     python3 starved.py PROGRAM
 
-Each allocation fails in turn: in one run only that one, in another also all that follow. If all
-that follow fail too, the run has to end with status 3 and `tpmsim: memory`. If only one fails, the
-run has to end in the same way, or exactly as without a failure, because some collections retry with
-a smaller size.
+Each allocation fails in turn: in one run only that one, in another that one and all later ones. If
+all later ones fail too, the run has to end with status 3 and `tpmsim: memory`. If only one fails,
+the run has to end in the same way, or exactly as without a failure, because some collections retry
+with a smaller size.
 """
 
 import functools

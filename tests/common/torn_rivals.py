@@ -16,8 +16,8 @@ A_WHILE = 0.3
 
 
 class Rival:
-    """A run that serves many connections, and whose call number `at` waits for the file `go`. `own`
-    is `image` or `socket`: the file that the run does not share.
+    """A run that serves many connections. Before its call number `at`, it waits until the file `go`
+    exists. `own` says which file it has to itself: `image` or `socket`.
     """
 
     def __init__(self, program, name, own, at=0):

@@ -227,8 +227,8 @@ class Case:
         return [line.split() for line in log.read_text("ascii").splitlines()]
 
     def check(self, room: pathlib.Path, share: int) -> tuple[int, int]:
-        """Makes one of `share` crashes. Returns the number of crashes, and the number of wrong
-        ones.
+        """Tries one in every `share` possible crashes. Returns how many were tried, and the number
+        of faults found.
         """
         folder, left = room / "state", room / "left"
         self.start.put(folder)

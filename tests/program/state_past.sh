@@ -21,7 +21,7 @@ asks() {
     done | "$program" run --state state "$@" >answers || echo 'the run failed'
 }
 
-# Without the option no finished journal is kept.
+# Without `--keep`, no finished journal is kept.
 asks 1
 "$program" power state
 journals

@@ -88,7 +88,7 @@ loaded() {
     tpm2 getcap handles-transient 2>error | sed -n 's/^- //p'
 }
 
-# PCR 10 after an extend by a digest of zeros that ends with 1, as hashlib computes it.
+# PCR 10 after it was extended with a digest of zeros that ends with 1, as computed by hashlib.
 extended=$(python3 -c 'import hashlib; print(hashlib.sha256(bytes(63) + b"\1").hexdigest())')
 
 # The tools that need only the device.

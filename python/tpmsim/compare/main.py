@@ -23,7 +23,7 @@ from tpmsim.model.player import BadLine
 
 
 def other_tpm(words: str) -> Transport:
-    """Returns the TPM that the words describe; raises ValueError for other words."""
+    """Returns the TPM that the words describe; raises ValueError if they describe none."""
     kind, _, rest = words.partition(":")
     if kind == "device" and rest:
         return FileDevice(rest)

@@ -66,7 +66,9 @@ class Asked:
 
 
 def tried_of(word: str) -> bytes:
-    """Returns a value to try, from a text or from bytes in hex; raises Usage for other words."""
+    """Returns a value to try: a text's bytes, or those after `hex:`; raises Usage if these are not
+    hex.
+    """
     if not word.startswith("hex:"):
         return word.encode()
     try:

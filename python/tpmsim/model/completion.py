@@ -98,7 +98,7 @@ def asked_of(buffer: bytes) -> Asked | None:
 
 
 def numbers_of(parameters: bytes, count: int) -> list[int] | None:
-    """So many numbers of four bytes, and nothing else."""
+    """Returns `count` numbers of four bytes; None if the parameters are not exactly that."""
     if len(parameters) != 4 * count:
         return None
     fields = Fields(parameters)

@@ -201,8 +201,8 @@ class Layer:
 
     @staticmethod
     def field(answer: Response, given: Token) -> str:
-        """Returns the word for a field, named as in Part 3; `.N` selects an element of a list, from
-        0.
+        """Returns the word for the field with this name from Part 3; `.N` selects element N of a
+        list, counted from 0.
         """
         name, dot, at = given.text.partition(".")
         words = {it.name: handle_word(answer.handle or 0) for it in answer.code.answered_handles}

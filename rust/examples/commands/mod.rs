@@ -1,4 +1,4 @@
-//! The bytes of the commands that the examples need. A program would use a TPM library.
+//! The bytes of the commands that the examples need. A real program would use a TPM library instead.
 #![allow(dead_code)] // no example uses all of them
 
 use tpmsim::{Device, Refusal};
