@@ -1,5 +1,5 @@
-"""A method for each command. If a command needs authorization and no `uses` are passed, most methods
-send the known authorization value of the first handle as a password.
+"""A method for each command. If a command needs authorization and no `uses` are passed, most
+methods send the known authorization value of the first handle as a password.
 """
 
 from typing import Any, Sequence

@@ -21,8 +21,8 @@ MARK_LINE_BYTES = 72
 # sent.
 LINES_BYTES = 36
 
-# The sizes of an entry's lines for the time, the locality and the random bytes (the last without the
-# two digits for each random byte).
+# The sizes of an entry's lines for the time, the locality and the random bytes (the last without
+# the two digits for each random byte).
 WAIT_BYTES, LOC_BYTES, ENTROPY_BYTES = 16, 6, 9
 
 

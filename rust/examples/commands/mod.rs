@@ -1,4 +1,4 @@
-//! The bytes of the commands that the examples need. A real program would use a TPM library instead.
+//! The bytes of the commands that the examples need. A real program would use a TPM library.
 #![allow(dead_code)] // no example uses all of them
 
 use tpmsim::{Device, Refusal};
