@@ -29,13 +29,13 @@ PUBLICS = "00100008000b0004044000000005000b0000", "00100008000b00040444000000050
 SENSITIVE = "000f00080001610002736400044a656665"
 CONTEXTS = (
     "00000000000000018000000040000001006d0020"
-    "238853da727cd43290cdb0b64da7597fbbc36e6b3081949b0a9a69298b9456cf"
-    "163da5cad2154d1fd7bf39bb019402d9c1227f1eb1a02511ef33e4919a78bc78"
-    "30eb87e60564f8f64de718096657d778ffb6c5abde8d91175ceeb8c963de887b87ea887cced9f5c0d21dbb",
+    "b19c79c3bd744f4025d6200d328b3e65512e9e6d3d28117ea7f5515233344192"
+    "aaed5d5bb3029560a54898678a62cb8293e5b55ee605a0292294cd785a613502"
+    "008238fea4630f8ba21b1e6cda1e1ab701ed1b04d66a3c7c12e445a177afc6dc890b2c79d24e887e7cbfd2",
     "00000000000000028000000240000001006d0020"
-    "e7d1c0487cbfb1a10faf18269eec103fd4c4b523bf3d6971dcb3fc5b2939e458"
-    "da283a473dc8d919f0583c8def3e0775e145c09aa8b88f8d579955b09661302b"
-    "afa3cd1d2f87db3972c6fe074403a08d00ef50cd1b773e75a7761d8703a4804112b66ebd997709e021f84e",
+    "e01cf9b099cef297d5f9d1ff55d8392d8c4ac98fb1ee96ac0a9888f760423a51"
+    "f4dbb02e987a4e384c5a1d782c8018ad0c5b8e39642533b6b5c239adf8f29906"
+    "3d92336a6ae62b8e0662c59b4a0a7ef21d1e9e2548daa675b6c1377c0505b7ab39c3edca158ed644f2eb55",
 )
 
 # Response codes.
@@ -166,7 +166,8 @@ class Computed(unittest.TestCase):
             bound = counts + number(9, 8) + number(contexts.ST_CLEAR, 4)
             given = context[INTEGRITY_AT:CIPHER_AT], context[CIPHER_AT:]
             self.assertEqual(given[0], hmac_by_openssl(proof, bound + given[1]))
-            label = b"CONTEXT\0" + number(9, 8) + number(contexts.ST_CLEAR, 4) + number(256, 4)
+            parties = number(9, 8) + number(contexts.ST_CLEAR, 4) + number(START, 8)
+            label = b"CONTEXT\0" + parties + number(256, 4)
             made_bytes = hmac_by_openssl(proof, number(1, 4) + label)
             words = "openssl", "enc", "-d", "-aes-128-cfb"
             keys = "-K", made_bytes[:16].hex(), "-iv", made_bytes[16:].hex()
@@ -188,7 +189,7 @@ def made(head, plain):
     """Returns a context with this head and this decrypted text."""
     device, proof = device_of(), bytes([PROOF_BYTE]) * 32
     binding = contexts.Binding.of(device, START)
-    cipher = aes.cfb_encrypt(*contexts.key_and_iv(proof, head), plain, device.block_cipher)
+    cipher = aes.cfb_encrypt(*contexts.key_and_iv(proof, START, head), plain, device.block_cipher)
     right = contexts.integrity(proof, binding, head, cipher)
     return head.text + sized(sized(right) + cipher)
 

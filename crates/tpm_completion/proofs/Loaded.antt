@@ -32,9 +32,10 @@ unfolding context_text
 same_text g h a b sequence o proof alike =
     let head : ContextHead = head_of sequence o in
     let fields : List ℕ = object_fields_text o in
-    ap (λ (p : List ℕ). sealed_text p b head (encrypted p head fields)) proof
-    ∙ ap (λ (i : List ℕ). head_text head ++ sized_text (blob_text i (object_cipher g sequence o)))
-    (same_integrity (proof_of g o.hierarchy) a b sequence o (object_cipher g sequence o) alike)
+    ap (λ (p : List ℕ). sealed_text p b head (encrypted p b.start head fields)) proof
+    ∙ ap (λ (s : ℕ). sealed_text (proof_of g o.hierarchy) b head (encrypted (proof_of g o.hierarchy) s head fields)) alike.start
+    ∙ ap (λ (i : List ℕ). head_text head ++ sized_text (blob_text i (object_cipher g a.start sequence o)))
+    (same_integrity (proof_of g o.hierarchy) a b sequence o (object_cipher g a.start sequence o) alike)
 
 pub loads_what_was_saved : LoadsWhatWasSaved
 loads_what_was_saved r later c d number o small is stays =

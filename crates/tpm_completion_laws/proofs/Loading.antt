@@ -60,7 +60,7 @@ context_handle : (h : Hierarchies) (b : Binding) (sequence : ℕ) (o : Object) �
 unfolding context_text saved_handle_at
 context_handle h b sequence o small =
     let number = saved_number (saved_of o.public) in
-    let cipher = object_cipher h sequence o in
+    let cipher = object_cipher h b.start sequence o in
     let blob = sized_text (blob_text (integrity_of (proof_of h o.hierarchy) b (head_of sequence o) cipher) cipher) in
     let after_number : List ℕ = to_be_bytes w32 (hierarchy_number o) ++ blob in
     let after_sequence : List ℕ = to_be_bytes w32 number ++ after_number in
@@ -84,10 +84,10 @@ asked_is context none = ap (λ (b : Bool). if not b then Some context else None)
 context_small : (h : Hierarchies) (b : Binding) (sequence : ℕ) (o : Object) → IsObject o → length (context_text h b sequence o) ≤ 4086
 unfolding context_text
 context_small h b sequence o is =
-    let cipher = object_cipher h sequence o in
+    let cipher = object_cipher h b.start sequence o in
     let integrity = integrity_of (proof_of h o.hierarchy) b (head_of sequence o) cipher in
     let one = integrity_size (proof_of h o.hierarchy) b (head_of sequence o) cipher in
-    let two = cipher_small h sequence o is in
+    let two = cipher_small h b.start sequence o is in
     let three = length-append (sized_text integrity) cipher in
     omega (arith, one, two, three)
 

@@ -85,21 +85,22 @@ same_bound a b h k is js counted numbered e =
 
 -- ---- the object of a text
 
-same_bytes : (proof other : List ℕ) (h k : ContextHead) → proof ≡ other → h.sequence ≡ k.sequence → h.saved ≡ k.saved → cipher_bytes proof h ≡ cipher_bytes other k
+same_bytes : (proof other : List ℕ) (m n : ℕ) (h k : ContextHead) → proof ≡ other → m ≡ n → h.sequence ≡ k.sequence → h.saved ≡ k.saved → cipher_bytes proof m h ≡ cipher_bytes other n k
 unfolding cipher_bytes
-same_bytes proof other h k key sequence one =
-    ap (λ (p : List ℕ). cipher_bytes p h) key
-    ∙ ap (λ (n : ℕ). cipher_bytes other (record h { sequence = n })) sequence
-    ∙ ap (λ (s : SavedHandle). cipher_bytes other (record h { sequence = k.sequence; saved = s })) one
+same_bytes proof other m n h k key start sequence one =
+    ap (λ (p : List ℕ). cipher_bytes p m h) key
+    ∙ ap (λ (s : ℕ). cipher_bytes other s h) start
+    ∙ ap (λ (s : ℕ). cipher_bytes other n (record h { sequence = s })) sequence
+    ∙ ap (λ (s : SavedHandle). cipher_bytes other n (record h { sequence = k.sequence; saved = s })) one
 
 -- if two texts have the same ciphertext, with the same key and IV, they are equal
-same_plain : (proof other : List ℕ) (h k : ContextHead) (plain text : List ℕ) → cipher_bytes proof h ≡ cipher_bytes other k
-    → encrypted proof h plain ≡ encrypted other k text → plain ≡ text
-same_plain proof other h k plain text bytes e =
-    sym (decrypted_again proof h plain)
-    ∙ ap (λ (l : List ℕ). cfb_decrypt_of (cipher_key l) (cipher_iv l) (encrypted proof h plain)) bytes
-    ∙ ap (decrypted other k) e
-    ∙ decrypted_again other k text
+same_plain : (proof other : List ℕ) (m n : ℕ) (h k : ContextHead) (plain text : List ℕ) → cipher_bytes proof m h ≡ cipher_bytes other n k
+    → encrypted proof m h plain ≡ encrypted other n k text → plain ≡ text
+same_plain proof other m n h k plain text bytes e =
+    sym (decrypted_again proof m h plain)
+    ∙ ap (λ (l : List ℕ). cfb_decrypt_of (cipher_key l) (cipher_iv l) (encrypted proof m h plain)) bytes
+    ∙ ap (decrypted other n k) e
+    ∙ decrypted_again other n k text
 
 object_read : (o : Object) → IsObject o → object_fields_in (object_fields_text o) ≡ Ok (o, [])
 object_read o is = ap object_fields_in (sym (append-nil (object_fields_text o))) ∙ object_fields_spelled.again o [] is
@@ -118,10 +119,10 @@ same_making c d is js key text =
     let h = head_of c.sequence c.object in
     let k = head_of d.sequence d.object in
     let t = parted (bound_text c.binding h) (bound_text d.binding k)
-    (object_cipher c.hierarchies c.sequence c.object) (object_cipher d.hierarchies d.sequence d.object) refl text in
+    (object_cipher c.hierarchies c.binding.start c.sequence c.object) (object_cipher d.hierarchies d.binding.start d.sequence d.object) refl text in
     let bound = same_bound c.binding d.binding h k is.binding js.binding is.sequence js.sequence t.0 in
-    let bytes = same_bytes (key_of c) (key_of d) h k key bound.sequence bound.saved in
-    let plain = same_plain (key_of c) (key_of d) h k (object_fields_text c.object) (object_fields_text d.object) bytes t.1 in
+    let bytes = same_bytes (key_of c) (key_of d) c.binding.start d.binding.start h k key bound.start bound.sequence bound.saved in
+    let plain = same_plain (key_of c) (key_of d) c.binding.start d.binding.start h k (object_fields_text c.object) (object_fields_text d.object) bytes t.1 in
     record {
       key = key;
       start = bound.start;
@@ -158,16 +159,17 @@ integrity_means c d is js e = by (alike (key_of c) (covered_text c.binding c) (k
 -- ---- a context that opens
 
 -- the object that opens is that of the context
-opened_object : (proof other : List ℕ) (sequence : ℕ) (o object : Object) → IsObject o → proof ≡ other
-    → object_in (head_of sequence o) (decrypted other (head_of sequence o) (encrypted proof (head_of sequence o) (object_fields_text o))) ≡ Ok object
+opened_object : (proof other : List ℕ) (m n sequence : ℕ) (o object : Object) → IsObject o → proof ≡ other → m ≡ n
+    → object_in (head_of sequence o) (decrypted other n (head_of sequence o) (encrypted proof m (head_of sequence o) (object_fields_text o))) ≡ Ok object
     → o ≡ object
-opened_object proof other sequence o object is key e =
+opened_object proof other m n sequence o object is key start e =
     let head = head_of sequence o in
     let plain : List ℕ = object_fields_text o in
     ok_is {E = ContextFault} o object (
     sym (object_again sequence o is)
-    ∙ ap (object_in head) (sym (decrypted_again proof head plain))
-    ∙ ap (λ (p : List ℕ). object_in head (decrypted p head (encrypted proof head plain))) key
+    ∙ ap (object_in head) (sym (decrypted_again proof m head plain))
+    ∙ ap (λ (p : List ℕ). object_in head (decrypted p m head (encrypted proof m head plain))) key
+    ∙ ap (λ (s : ℕ). object_in head (decrypted other s head (encrypted proof m head plain))) start
     ∙ e
     )
 
@@ -175,17 +177,17 @@ opened_object proof other sequence o object is key e =
 abbrev Finds : Making → Hierarchies → Binding → Object → Type 0
 Finds c h b object =
     let head = head_of c.sequence c.object in
-    let cipher : List ℕ = object_cipher c.hierarchies c.sequence c.object in
+    let cipher : List ℕ = object_cipher c.hierarchies c.binding.start c.sequence c.object in
     let proof : List ℕ = proof_of h c.object.hierarchy in
     (integrity_of (key_of c) c.binding head cipher ≡ integrity_of proof b head cipher)
-    × (object_in head (decrypted proof head cipher) ≡ Ok object)
+    × (object_in head (decrypted proof b.start head cipher) ≡ Ok object)
 
 finds : (c : Making) (h : Hierarchies) (b : Binding) (object : Object) → IsMaking c → opened h b (context_of c) ≡ Ok object → Finds c h b object
 unfolding context_text
 finds c h b object is e =
     let head = head_of c.sequence c.object in
-    let cipher : List ℕ = object_cipher c.hierarchies c.sequence c.object in
-    let small = cipher_small c.hierarchies c.sequence c.object is.object in
+    let cipher : List ℕ = object_cipher c.hierarchies c.binding.start c.sequence c.object in
+    let small = cipher_small c.hierarchies c.binding.start c.sequence c.object is.object in
     parts_right (proof_of h c.object.hierarchy) b head (integrity_of (key_of c) c.binding head cipher) cipher object
     (sym (opened_is h c.binding b (key_of c) head cipher is.sequence small) ∙ e)
 
@@ -205,10 +207,10 @@ opens_only_as_made c h b object is bound e =
     by found (inr collision) = inr collision
     by found (inl same) =
         let head = head_of c.sequence c.object in
-        let cipher : List ℕ = object_cipher c.hierarchies c.sequence c.object in
+        let cipher : List ℕ = object_cipher c.hierarchies c.binding.start c.sequence c.object in
         let t = parted (bound_text c.binding head) (bound_text b head) cipher cipher refl same.1 in
         let fields = same_bound c.binding b head head is.binding bound is.sequence is.sequence t.0 in
-        let opens = opened_object (key_of c) (proof_of h c.object.hierarchy) c.sequence c.object object is.object same.0 found.1 in
+        let opens = opened_object (key_of c) (proof_of h c.object.hierarchy) c.binding.start b.start c.sequence c.object object is.object same.0 fields.start found.1 in
         inl (
         record {
           key = same.0 ∙ ap (λ (o : Object). proof_of h o.hierarchy) opens;

@@ -37,23 +37,23 @@ pub integrity_size : (proof : List ℕ) (b : Binding) (head : ContextHead) (ciph
 unfolding integrity_of
 integrity_size proof b head cipher = length-hmac_of Sha256 proof (protected_text b head cipher)
 
-pub encrypted_size : (proof : List ℕ) (head : ContextHead) (plain : List ℕ) → length (encrypted proof head plain) ≡ length plain
-encrypted_size proof head plain =
-    length-cfb_encrypt_of (cipher_key (cipher_bytes proof head)) (cipher_iv (cipher_bytes proof head)) plain
+pub encrypted_size : (proof : List ℕ) (start : ℕ) (head : ContextHead) (plain : List ℕ) → length (encrypted proof start head plain) ≡ length plain
+encrypted_size proof start head plain =
+    length-cfb_encrypt_of (cipher_key (cipher_bytes proof start head)) (cipher_iv (cipher_bytes proof start head)) plain
 
-pub cipher_small : (h : Hierarchies) (sequence : ℕ) (o : Object) → IsObject o → length (object_cipher h sequence o) ≤ object_fields_size
-cipher_small h sequence o is =
+pub cipher_small : (h : Hierarchies) (start sequence : ℕ) (o : Object) → IsObject o → length (object_cipher h start sequence o) ≤ object_fields_size
+cipher_small h start sequence o is =
     subst (λ (n : ℕ). n ≤ object_fields_size)
-    (sym (encrypted_size (proof_of h o.hierarchy) (head_of sequence o) (object_fields_text o)))
+    (sym (encrypted_size (proof_of h o.hierarchy) start (head_of sequence o) (object_fields_text o)))
     (object_fields_small o is)
 
-pub decrypted_again : (proof : List ℕ) (head : ContextHead) (plain : List ℕ) → decrypted proof head (encrypted proof head plain) ≡ plain
-decrypted_again proof head plain =
-    cfb_undone (cipher_key (cipher_bytes proof head)) (cipher_iv (cipher_bytes proof head)) plain
+pub decrypted_again : (proof : List ℕ) (start : ℕ) (head : ContextHead) (plain : List ℕ) → decrypted proof start head (encrypted proof start head plain) ≡ plain
+decrypted_again proof start head plain =
+    cfb_undone (cipher_key (cipher_bytes proof start head)) (cipher_iv (cipher_bytes proof start head)) plain
 
-pub encrypted_again : (proof : List ℕ) (head : ContextHead) (cipher : List ℕ) → encrypted proof head (decrypted proof head cipher) ≡ cipher
-encrypted_again proof head cipher =
-    cfb_redone (cipher_key (cipher_bytes proof head)) (cipher_iv (cipher_bytes proof head)) cipher
+pub encrypted_again : (proof : List ℕ) (start : ℕ) (head : ContextHead) (cipher : List ℕ) → encrypted proof start head (decrypted proof start head cipher) ≡ cipher
+encrypted_again proof start head cipher =
+    cfb_redone (cipher_key (cipher_bytes proof start head)) (cipher_iv (cipher_bytes proof start head)) cipher
 
 -- ---- the contextBlob
 
@@ -147,20 +147,20 @@ opened_is h a b proof head cipher counted small =
     ∙ ap (λ (r : Result (List ℕ × List ℕ) ContextFault). r >>= λ p. opened_parts (proof_of h head.hierarchy) b head p.0 p.1) (parts_again integrity cipher whole)
 
 -- if the integrity value is correct, the parts open as the object
-pub parts_open : (proof : List ℕ) (b : Binding) (head : ContextHead) (cipher : List ℕ) → opened_parts proof b head (integrity_of proof b head cipher) cipher ≡ object_in head (decrypted proof head cipher)
+pub parts_open : (proof : List ℕ) (b : Binding) (head : ContextHead) (cipher : List ℕ) → opened_parts proof b head (integrity_of proof b head cipher) cipher ≡ object_in head (decrypted proof b.start head cipher)
 unfolding opened_parts
 parts_open proof b head cipher =
     let value : List ℕ = integrity_of proof b head cipher in
-    ap (λ (right : Bool). refused_if (not right) fault.Integrity >>= λ passed. object_in head (decrypted proof head cipher)) ((bytes_eq-Decides value value).1 refl)
+    ap (λ (right : Bool). refused_if (not right) fault.Integrity >>= λ passed. object_in head (decrypted proof b.start head cipher)) ((bytes_eq-Decides value value).1 refl)
 
 -- if the parts open, the integrity value is correct
 pub parts_right : (proof : List ℕ) (b : Binding) (head : ContextHead) (integrity cipher : List ℕ) (o : Object)
     → opened_parts proof b head integrity cipher ≡ Ok o
-    → (integrity ≡ integrity_of proof b head cipher) × (object_in head (decrypted proof head cipher) ≡ Ok o)
+    → (integrity ≡ integrity_of proof b head cipher) × (object_in head (decrypted proof b.start head cipher) ≡ Ok o)
 unfolding opened_parts
 parts_right proof b head integrity cipher o e =
     let value : List ℕ = integrity_of proof b head cipher in
-    let a = bind_ok (refused_if (not (bytes_eq integrity value)) fault.Integrity) (λ right. object_in head (decrypted proof head cipher)) o e in
+    let a = bind_ok (refused_if (not (bytes_eq integrity value)) fault.Integrity) (λ right. object_in head (decrypted proof b.start head cipher)) o e in
     ((bytes_eq-Decides integrity value).0 (not_false _ (passed (not (bytes_eq integrity value)) fault.Integrity a.0 a.1)), a.2)
 
 pub context_opens : (h : Hierarchies) (b : Binding) (sequence : ℕ) (o : Object) → sequence < 2 ^ 64 → IsObject o
@@ -169,16 +169,16 @@ unfolding context_text
 context_opens h b sequence o counted is =
     let proof : List ℕ = proof_of h o.hierarchy in
     let head = head_of sequence o in
-    let cipher : List ℕ = object_cipher h sequence o in
-    opened_is h b b proof head cipher counted (cipher_small h sequence o is)
+    let cipher : List ℕ = object_cipher h b.start sequence o in
+    opened_is h b b proof head cipher counted (cipher_small h b.start sequence o is)
     ∙ parts_open proof b head cipher
-    ∙ ap (object_in head) (decrypted_again proof head (object_fields_text o))
+    ∙ ap (object_in head) (decrypted_again proof b.start head (object_fields_text o))
     ∙ object_again sequence o is
 
 -- bytes that open are the context of their object
 pub context_found : (h : Hierarchies) (b : Binding) (bytes text blob integrity cipher : List ℕ) (head : ContextHead) (o : Object)
     → AreBytes bytes → head_at bytes ≡ Ok (head, text) → blob_in text ≡ Ok blob → parts_in blob ≡ Ok (integrity, cipher)
-    → AreBytes (decrypted (proof_of h head.hierarchy) head cipher)
+    → AreBytes (decrypted (proof_of h head.hierarchy) b.start head cipher)
     → opened_parts (proof_of h head.hierarchy) b head integrity cipher ≡ Ok o
     → IsContext h b bytes o
 unfolding context_text
@@ -188,9 +188,9 @@ context_found h b bytes text blob integrity cipher head o fits first second thir
     let v = parts_found blob integrity cipher u.2 third in
     let proof : List ℕ = proof_of h head.hierarchy in
     let w = parts_right proof b head integrity cipher o e in
-    let f = object_found head (decrypted proof head cipher) o plain w.1 in
-    let again : cipher ≡ encrypted proof head (object_fields_text o) =
-    sym (encrypted_again proof head cipher) ∙ ap (encrypted proof head) f.1 in
+    let f = object_found head (decrypted proof b.start head cipher) o plain w.1 in
+    let again : cipher ≡ encrypted proof b.start head (object_fields_text o) =
+    sym (encrypted_again proof b.start head cipher) ∙ ap (encrypted proof b.start head) f.1 in
     let whole : bytes ≡ sealed_text proof b head cipher =
     t.0.parts ∙ ap (λ (l : List ℕ). head_text head ++ l) (u.0 ∙ ap sized_text (v.0 ∙ ap (λ (i : List ℕ). blob_text i cipher) w.0)) in
     record {
@@ -198,7 +198,7 @@ context_found h b bytes text blob integrity cipher head o fits first second thir
       counted = t.1;
       sized = f.0;
       text = whole ∙ ap (sealed_text proof b head) again
-          ∙ ap (λ (k : ContextHead). sealed_text (proof_of h k.hierarchy) b k (encrypted (proof_of h k.hierarchy) k (object_fields_text o))) (sym f.2);
+          ∙ ap (λ (k : ContextHead). sealed_text (proof_of h k.hierarchy) b k (encrypted (proof_of h k.hierarchy) b.start k (object_fields_text o))) (sym f.2);
     }
 
 -- ---- what the code finds
@@ -212,10 +212,10 @@ pub found_if : (h : Hierarchies) (b : Binding) (bytes text blob integrity cipher
     → AreBytes bytes → head_at bytes ≡ Ok (head, text) → blob_in text ≡ Ok blob → parts_in blob ≡ Ok (integrity, cipher)
     → proof ≡ proof_of h head.hierarchy
     → r ≡ opened_parts proof b head integrity cipher
-    → IfOk r (λ object. AreBytes (decrypted proof head cipher))
+    → IfOk r (λ object. AreBytes (decrypted proof b.start head cipher))
     → IfOk r (λ object. IsContext h b bytes object)
 found_if h b bytes text blob integrity cipher proof head (Ok o) fits first second third same is plain =
     context_found h b bytes text blob integrity cipher head o fits first second third
-    (subst (λ (p : List ℕ). AreBytes (decrypted p head cipher)) same plain)
+    (subst (λ (p : List ℕ). AreBytes (decrypted p b.start head cipher)) same plain)
     (ap (λ (p : List ℕ). opened_parts p b head integrity cipher) (sym same) ∙ sym is)
 found_if h b bytes text blob integrity cipher proof head (Err e) fits first second third same is plain = tt

@@ -43,16 +43,16 @@ sealed_text proof b head cipher =
 
 -- the encrypted object of a context: its hierarchy, qualified Name, public area and sensitive
 -- area, as in an image
-abbrev pub object_cipher : Hierarchies → (sequence : ℕ) → Object → List ℕ
-object_cipher h sequence object =
-    encrypted (proof_of h object.hierarchy) (head_of sequence object)
+abbrev pub object_cipher : Hierarchies → (start sequence : ℕ) → Object → List ℕ
+object_cipher h start sequence object =
+    encrypted (proof_of h object.hierarchy) start (head_of sequence object)
     (object_fields_text object)
 
 -- the context of an object, with this sequence
 unfoldable pub context_text : Hierarchies → Binding → (sequence : ℕ) → Object → List ℕ
 context_text h b sequence object =
     sealed_text (proof_of h object.hierarchy) b (head_of sequence object)
-    (object_cipher h sequence object)
+    (object_cipher h b.start sequence object)
 
 -- ---- reading a context
 
@@ -97,7 +97,7 @@ unfoldable pub opened_parts : (proof : List ℕ)
 opened_parts proof b head integrity cipher = do
   right ← refused_if (not (bytes_eq integrity (integrity_of proof b head cipher)))
       fault.Integrity
-  object_in head (decrypted proof head cipher)
+  object_in head (decrypted proof b.start head cipher)
 
 -- the object of a context. The faults, in the order of the checks: those of the head, which is read
 -- field by field; those of the contextBlob; bytes after it; an integrity value of the wrong size; a

@@ -37,7 +37,7 @@ key_of c = proof_of c.hierarchies c.object.hierarchy
 abbrev pub covered_text : Binding → Making → List ℕ
 covered_text b c =
     protected_text b (head_of c.sequence c.object)
-    (object_cipher c.hierarchies c.sequence c.object)
+    (object_cipher c.hierarchies c.binding.start c.sequence c.object)
 
 -- the restartCount to which an object is bound
 abbrev pub restart_of : Binding → Object → ℕ

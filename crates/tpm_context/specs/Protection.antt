@@ -16,12 +16,18 @@ use Rattle.tpm_context.specs.declared.head.SavedHandle.TheVariants as saved
 abbrev pub context_label : List ℕ
 context_label = 0x43 ∷ 0x4f ∷ 0x4e ∷ 0x54 ∷ 0x45 ∷ 0x58 ∷ 0x54 ∷ []
 
+-- KDFa's contextV: the savedHandle, then the start of the layer. The standard has the savedHandle
+-- alone. This device adds the start, since each start counts its contexts from 1 again
+abbrev pub context_party : (start : ℕ) → ContextHead → List ℕ
+context_party start head =
+    to_be_bytes w32 (saved_number head.saved) ++ to_be_bytes w64 start
+
 -- the key and the IV of a context, one after the other: KDFa(SHA-256, the proof of the hierarchy,
--- "CONTEXT", sequence, savedHandle, 256 bits)
-unfoldable pub cipher_bytes : (proof : List ℕ) → ContextHead → List ℕ
-cipher_bytes proof head =
+-- "CONTEXT", sequence, savedHandle and start, 256 bits)
+unfoldable pub cipher_bytes : (proof : List ℕ) → (start : ℕ) → ContextHead → List ℕ
+cipher_bytes proof start head =
     kdfa_of Sha256 proof context_label (to_be_bytes w64 head.sequence)
-    (to_be_bytes w32 (saved_number head.saved)) 32
+    (context_party start head) 32
 
 -- the key, which is the first 128 bits; and the IV, the remaining bits
 abbrev pub cipher_key : List ℕ → List ℕ
@@ -31,14 +37,14 @@ abbrev pub cipher_iv : List ℕ → List ℕ
 cipher_iv bytes = drop 16 bytes
 
 -- a text encrypted for a context, and decrypted from it
-abbrev pub encrypted : (proof : List ℕ) → ContextHead → (plain : List ℕ) → List ℕ
-encrypted proof head plain =
-    let bytes : List ℕ = cipher_bytes proof head in
+abbrev pub encrypted : (proof : List ℕ) → (start : ℕ) → ContextHead → (plain : List ℕ) → List ℕ
+encrypted proof start head plain =
+    let bytes : List ℕ = cipher_bytes proof start head in
     cfb_encrypt_of (cipher_key bytes) (cipher_iv bytes) plain
 
-abbrev pub decrypted : (proof : List ℕ) → ContextHead → (cipher : List ℕ) → List ℕ
-decrypted proof head cipher =
-    let bytes : List ℕ = cipher_bytes proof head in
+abbrev pub decrypted : (proof : List ℕ) → (start : ℕ) → ContextHead → (cipher : List ℕ) → List ℕ
+decrypted proof start head cipher =
+    let bytes : List ℕ = cipher_bytes proof start head in
     cfb_decrypt_of (cipher_key bytes) (cipher_iv bytes) cipher
 
 -- the restartCount to which a context is bound: an object with stClear does not outlive a TPM

@@ -77,13 +77,19 @@ fn object_in(head: ContextHead, plain: &[u8]) -> Result<Object, ContextFault>
 }
 
 /// Decrypts the object of a context into a buffer.
-fn decrypt_into(proof: &[u8; 32], head: ContextHead, cipher: &[u8], plain: &mut Sink<OBJECT_SIZE>)
+fn decrypt_into(
+    proof: &[u8; 32],
+    start: u64,
+    head: ContextHead,
+    cipher: &[u8],
+    plain: &mut Sink<OBJECT_SIZE>,
+)
     requires empty { plain.old ≡ [] }
     requires fits { length cipher.now ≤ OBJECT_SIZE }
-    ensures { plain.new ≡ decrypted proof.now head cipher.now }
+    ensures { plain.new ≡ decrypted proof.now start head cipher.now }
 {
     plain.append(cipher);
-    decrypt(proof, head, plain.as_mut_slice());
+    decrypt(proof, start, head, plain.as_mut_slice());
 }
 
 /// Returns the object of a context with these parts, if the integrity value is correct. Checks the
@@ -99,14 +105,14 @@ fn open_parts(
     ensures value { result ≡ opened_parts proof.now binding head
         parts.now.integrity.now parts.now.cipher.now }
     ensures bytes { IfOk result (λ object. AreBytes
-        (decrypted proof.now head parts.now.cipher.now)) }
+        (decrypted proof.now binding.start head parts.now.cipher.now)) }
 {
     let right = integrity(proof, binding, head, parts.cipher);
     if !is_equal(parts.integrity, right.as_slice()) {
         return Err(ContextFault::Integrity);
     }
     let mut plain: Sink<OBJECT_SIZE> = Sink::new();
-    decrypt_into(proof, head, parts.cipher, &mut plain);
+    decrypt_into(proof, binding.start, head, parts.cipher, &mut plain);
     object_in(head, plain.as_slice())
 }
 

@@ -1,7 +1,7 @@
 //! How a context is encrypted and authenticated (TPM 2.0 Library, Part 1, section 30.3).
 
 ghost use Rattle.std.specs.Prelude.{◌≡◌, ◌++◌, length};
-ghost use Rattle.tpm_context.specs.Protection.{bound_text, cipher_bytes, cipher_iv, cipher_key, context_label, decrypted, encrypted, integrity_of, protected_text, restart_bound};
+ghost use Rattle.tpm_context.specs.Protection.{bound_text, cipher_bytes, cipher_iv, cipher_key, context_label, context_party, decrypted, encrypted, integrity_of, protected_text, restart_bound};
 
 use crate::binding::Binding;
 use crate::head::{ContextHead, SavedHandle};
@@ -34,11 +34,22 @@ fn cipher_from(bytes: &[u8; 32]) -> ContextCipher
     }
 }
 
-/// Returns the cipher of the context with this head, derived from the proof of its hierarchy.
+/// Returns KDFa's contextV of a context.
+fn context_party(start: u64, head: ContextHead) -> Sink<12>
+    ensures { result ≡ context_party start head }
+{
+    let mut party = Sink::new();
+    party.append_u32(head.saved.number());
+    party.append_u64(start);
+    party
+}
+
+/// Returns the cipher of the context with this head, derived from the proof of its hierarchy and
+/// from the start of the layer.
 #[tactic(auto, unfolding(crate::specs::Protection::cipher_bytes))]
-fn context_cipher(proof: &[u8; 32], head: ContextHead) -> ContextCipher
-    ensures key { result.cipher ≡ cipher_key (cipher_bytes proof.now head) }
-    ensures iv { result.iv ≡ cipher_iv (cipher_bytes proof.now head) }
+fn context_cipher(proof: &[u8; 32], start: u64, head: ContextHead) -> ContextCipher
+    ensures key { result.cipher ≡ cipher_key (cipher_bytes proof.now start head) }
+    ensures iv { result.iv ≡ cipher_iv (cipher_bytes proof.now start head) }
 {
     let mut bytes = [0; 32];
     kdfa(
@@ -46,25 +57,25 @@ fn context_cipher(proof: &[u8; 32], head: ContextHead) -> ContextCipher
         proof,
         CONTEXT_LABEL,
         &head.sequence.to_be_bytes(),
-        &head.saved.number().to_be_bytes(),
+        context_party(start, head).as_slice(),
         &mut bytes,
     );
     cipher_from(&bytes)
 }
 
 /// Encrypts a text in place.
-pub(crate) fn encrypt(proof: &[u8; 32], head: ContextHead, text: &mut [u8])
-    ensures { text.new ≡ encrypted proof.now head text.old }
+pub(crate) fn encrypt(proof: &[u8; 32], start: u64, head: ContextHead, text: &mut [u8])
+    ensures { text.new ≡ encrypted proof.now start head text.old }
 {
-    let by = context_cipher(proof, head);
+    let by = context_cipher(proof, start, head);
     by.cipher.cfb_encrypt(&by.iv, text);
 }
 
 /// Decrypts a text in place.
-pub(crate) fn decrypt(proof: &[u8; 32], head: ContextHead, text: &mut [u8])
-    ensures { text.new ≡ decrypted proof.now head text.old }
+pub(crate) fn decrypt(proof: &[u8; 32], start: u64, head: ContextHead, text: &mut [u8])
+    ensures { text.new ≡ decrypted proof.now start head text.old }
 {
-    let by = context_cipher(proof, head);
+    let by = context_cipher(proof, start, head);
     by.cipher.cfb_decrypt(&by.iv, text);
 }
 

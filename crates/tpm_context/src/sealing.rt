@@ -45,7 +45,8 @@ fn write_object(object: &Object, text: &mut Sink<OBJECT_SIZE>)
 }
 
 /// Writes the context of an object. No two contexts of one start of the layer may have the same
-/// sequence, since they would be encrypted with the same key and IV.
+/// sequence, since they would be encrypted with the same key and IV. Contexts of different starts
+/// have different keys.
 #[tactic(auto, unfolding(crate::specs::Context::context_text))]
 pub fn seal(
     hierarchies: &Hierarchies,
@@ -61,7 +62,7 @@ pub fn seal(
     let proof = &hierarchies.secrets(head.hierarchy).proof;
     let mut cipher: Sink<OBJECT_SIZE> = Sink::new();
     write_object(object, &mut cipher);
-    encrypt(proof, head, cipher.as_mut_slice());
+    encrypt(proof, binding.start, head, cipher.as_mut_slice());
     let integrity = integrity(proof, binding, head, cipher.as_slice());
     let mut blob: Sink<BLOB_SIZE> = Sink::new();
     blob.append_sized(integrity.as_slice());

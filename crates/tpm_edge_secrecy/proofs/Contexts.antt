@@ -60,8 +60,8 @@ module _ (s : Secrecy) (one other : Record) (differ : DifferInSecrets s one othe
   pub context_alike : (c : Completion) (number : ℕ) (o : Object) → context_text one.fixed.hierarchies (binding_of one c) number o ≡ context_text other.fixed.hierarchies (binding_of other c) number o
   unfolding context_text
   context_alike c number o =
-      ap (λ (p : List ℕ). sealed_text p (binding_of one c) (head_of number o) (encrypted p (head_of number o) (object_fields_text o))) (proof_alike o.hierarchy)
-      ∙ ap (λ (b : Binding). sealed_text (proof_of other.fixed.hierarchies o.hierarchy) b (head_of number o) (object_cipher other.fixed.hierarchies number o)) (binding_alike c)
+      ap (λ (p : List ℕ). sealed_text p (binding_of one c) (head_of number o) (encrypted p c.start (head_of number o) (object_fields_text o))) (proof_alike o.hierarchy)
+      ∙ ap (λ (b : Binding). sealed_text (proof_of other.fixed.hierarchies o.hierarchy) b (head_of number o) (object_cipher other.fixed.hierarchies c.start number o)) (binding_alike c)
 
   opened_alike : (c : Completion) (context : List ℕ) → object_opened one c context ≡ object_opened other c context
   unfolding opened

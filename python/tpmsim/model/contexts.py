@@ -83,9 +83,11 @@ class Head:
 # How a context is protected (Part 1, section 30.3).
 
 
-def key_and_iv(proof: bytes, head: Head) -> tuple[bytes, bytes]:
-    """Returns the key and the IV with which the object is encrypted."""
-    newer, older = number(head.sequence, 8), number(head.saved_handle, 4)
+def key_and_iv(proof: bytes, start: int, head: Head) -> tuple[bytes, bytes]:
+    """Returns the key and the IV with which the object is encrypted. Part 1 does not require the
+    start; with it, contexts of different starts have different keys.
+    """
+    newer, older = number(head.sequence, 8), number(head.saved_handle, 4) + number(start, 8)
     made = kdfa(SHA256, proof, b"CONTEXT", newer, older, 2 * aes.BLOCK)
     return made[: aes.BLOCK], made[aes.BLOCK :]
 
@@ -101,7 +103,7 @@ def integrity(proof: bytes, binding: Binding, head: Head, cipher: bytes) -> byte
 def sealed(device: Model, start: int, sequence: int, kept: Object) -> bytes:
     """Returns the context of an object of this device."""
     head, proof = Head.of(sequence, kept), device.proofs[kept.hierarchy]
-    keys = key_and_iv(proof, head)
+    keys = key_and_iv(proof, start, head)
     cipher = aes.cfb_encrypt(*keys, image.object_text(kept), device.block_cipher)
     right = integrity(proof, Binding.of(device, start), head, cipher)
     return head.text + sized(sized(right) + cipher)
@@ -118,7 +120,8 @@ def opened(device: Model, start: int, context: bytes) -> Object:
     proof = device.proofs[head.hierarchy]
     if given != integrity(proof, Binding.of(device, start), head, cipher):
         raise Fault(*INTEGRITY)
-    return read_object(head, aes.cfb_decrypt(*key_and_iv(proof, head), cipher, device.block_cipher))
+    keys = key_and_iv(proof, start, head)
+    return read_object(head, aes.cfb_decrypt(*keys, cipher, device.block_cipher))
 
 
 def read_number(fields: Fields, size: int) -> int:
