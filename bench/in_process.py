@@ -54,10 +54,16 @@ def create(public: Public) -> str:
 
 
 class Program:
-    def __init__(self, path: str) -> None:
-        process = subprocess.Popen([path], stdin=subprocess.PIPE, stdout=subprocess.PIPE, text=True)
-        assert process.stdin and process.stdout
-        self.lines, self.answers = process.stdin, process.stdout
+    def __init__(self, *words: str) -> None:
+        pipe = subprocess.PIPE
+        self.process = subprocess.Popen(words, stdin=pipe, stdout=pipe, text=True)
+        assert self.process.stdin and self.process.stdout
+        self.lines, self.answers = self.process.stdin, self.process.stdout
+
+    def end(self) -> None:
+        self.lines.close()
+        if self.process.wait():
+            sys.exit(f"the program ends with {self.process.returncode}")
 
     def tell(self, line: str) -> None:
         self.lines.write(line + "\n")
@@ -189,15 +195,20 @@ def print_call(program: Program, rounds: int, call: str, count: int) -> None:
     print(f"{call}: {statistics.median(times):.2f} ({min(times):.2f})")
 
 
-def main() -> None:
-    program = Program(sys.argv[1])
-    rounds = int(sys.argv[2]) if len(sys.argv) > 2 else ROUNDS
+def prepare_all(program: Program) -> dict[str, str]:
+    """Prepares both devices; returns for each target the line that seals."""
     program.tell("use tpms")
     for buffer in hex_of("Startup 0"), ALLOCATE, hex_of("Shutdown 0"):
         program.command(buffer)
     program.tell("power")
     seals = {it: prepare(program, it) for it in ("tpms", "sim")}
-    table = rows({**seals, "still": seals["sim"]})
+    return {**seals, "still": seals["sim"]}
+
+
+def main() -> None:
+    program = Program(sys.argv[1])
+    rounds = int(sys.argv[2]) if len(sys.argv) > 2 else ROUNDS
+    table = rows(prepare_all(program))
     for number in range(rounds + 1):
         for row, target in itertools.product(table, TARGETS):
             measure(program, row, target)
@@ -213,4 +224,5 @@ def main() -> None:
     print_calls(program, rounds)
 
 
-main()
+if __name__ == "__main__":
+    main()
