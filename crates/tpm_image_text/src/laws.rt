@@ -1,4 +1,4 @@
-//! What holds for every image.
+//! Laws about every image.
 
 ghost use Rattle.std.specs.Prelude.{◌≡◌, ◌≤◌, ◌<◌, ℕ, List, Ok, Err, length, take};
 ghost use Rattle.tpm_image_text.specs.Image.{IsImage, IsWithin, image_of, image_text};

@@ -1,6 +1,7 @@
 #![tactic(auto)]
 
-//! The text of an image: encodes what a device keeps without power, and decodes it into a state.
+//! Encodes the state that a device keeps without power as the text of an image, and decodes this
+//! text.
 //!
 //! There are two [versions](Version) of the image: the device writes the second ([`saving`]) and
 //! reads both ([`opening`]). For each part of the kept state, one file reads and writes its text;
