@@ -23,8 +23,8 @@ abbrev pub is_enabled_by_lockout : Handle → (disables : Bool) → Bool
 is_enabled_by_lockout handle disables = handle.number == lockout_handle.number && not disables
 
 -- the row of TPM2_ClearControl. Handle: authHandle (lockout or the platform), authorized.
--- Parameter: disable. Refused by A1 if lockout requests that TPM2_Clear be enabled; this refusal
--- does not count as a failed try
+-- Parameter: disable. Refused by check A1 if lockout requests that TPM2_Clear be enabled; this
+-- refusal does not count as a failed try
 unfoldable pub clear_control_row : Record → Request → Result Success Refused
 clear_control_row r q = do
   handle ← first_handle q.handles

@@ -44,7 +44,7 @@ use Rattle.tpm_actions_object.specs.Hmac as keyed
 abbrev pub reading_code : Public → CommandCode
 reading_code public = if has public.attributes attribute.Sign then command.Hmac else command.Unseal
 
--- A command with this code and this request succeeds by its row, and reads the secret data of one
+-- The row of a command with this code and this request succeeds, and reads the secret data of one
 -- of these objects.
 pub record ReadsObject (objects : Public → Bool) (r : Record) (code : CommandCode) (q : Request) : Type 0 where
   pub handle : Handle

@@ -136,7 +136,7 @@ RunTellsNothing =
 -- ---- wrong guesses
 
 -- In a command that passed the general checks, all guesses fail, and the command reads no secret
--- data.
+-- data. The bindings of the device's sessions hold.
 pub record KeepsSecrets (s : Secrecy) (r : Record) (c : Whole) (locality : ℕ) (random : List ℕ)
     : Type 0
   where
