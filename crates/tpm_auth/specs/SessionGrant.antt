@@ -163,8 +163,8 @@ use_of state command locality number handle session = record {
   entity = policy_of state handle;
 }
 
--- An HMAC session demands nothing in an entry, in addition to the comparison. But the handle's
--- entity must allow authorization with its authorization value.
+-- An HMAC session demands nothing in its entry except that the comparison succeeds. But the
+-- handle's entity must allow authorization with its authorization value.
 abbrev by_value : Record → Whole → (n : ℕ) → Handle → Result Demand Refused
 by_value r c n handle = do
   available ← refused_if (not (is_available r handle means.AuthValue (nv_use_at c.code (n - 1))))

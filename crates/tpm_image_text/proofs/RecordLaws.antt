@@ -29,7 +29,7 @@ record_small version r is = image_small version (kept_of r) (kept_is r is)
 pub record_cut : (version : Version) (r : Record) (n : ℕ) → IsRecord r → 42 ≤ n → n < length (image_text version (kept_of r)) → image_of (take n (image_text version (kept_of r))) ≡ Err fault.Length
 record_cut version r n is long less = front_cut version (kept_of r) n (kept_is r is) long less
 
--- ---- the kept state without Clock
+-- ---- the non-volatile state without Clock
 
 without_clock : (r : Record) → IsRecord r → IsNonVolatile (kept_but_clock r)
 without_clock r is =

@@ -371,6 +371,6 @@ kept_in version text = do
     indices.1,
   )
 
--- the kept state in a body, which must take up all of the bytes
+-- the non-volatile state in a body, which must take up all of the bytes
 unfoldable pub body_of : Version → List ℕ → Result NonVolatile Malformed
 body_of version text = filling (kept_in version) text

@@ -54,7 +54,8 @@ if_memory P Q (Ok handle) so holds = so holds
 if_memory P Q (Err Full) so holds = so holds
 if_memory P Q (Err NoMemory) so holds = tt
 
--- The facts about a device on which an object was placed. They are those of every execution.
+-- The facts that hold after an object was placed on a device. They are those that hold after every
+-- execution.
 pub record Tells (can : Bool) (old : Record) (object : Object) (result : Result Handle SlotFault) (new : Record) : Type 0 where
   pub places : Places can old result new
   pub executes : IfMemory result (Executes can old (Placed object) (placing_seen new))

@@ -1,4 +1,4 @@
--- The response to a refusal is its encoding. A refusal changes only the time and what it counts.
+-- The response to a refusal is its encoding. A refusal changes only the time and the lockout state.
 use Rattle.std.proofs.Common.{◌≡◌, ◌≢◌, ℕ, List, length, Bool, true, false, cond, Result, Ok, Err, refl, ap, sym, ◌∙◌}
 use Rattle.std.proofs.lemmas.Bool.{false≢true}
 use Rattle.tpm_types_command.specs.Command.{Whole}
@@ -16,7 +16,7 @@ use Rattle.tpm_step.specs.Step.{Accepted, Answers, RefusesOrWantsMemory, Stepped
 use Rattle.tpm_step.specs.declared.refused_command.RefusedCommand.{RefusedCommand}
 
 -- After the elapsed time was added to the record, a refusal has a response of ten bytes, reports
--- its check, and changes only what it counts.
+-- its check, and changes only the lockout state.
 abbrev LeavesRecord : Record → Stepped → Type 0
 LeavesRecord r x = x.row.check ≢ 0 → (length x.response ≡ 10) × (refused : Refused) × (x.response ≡ refusal_text refused) × (x.row.check ≡ check_number refused.check) × (x.after ≡ counted_in refused.counted r)
 

@@ -1,5 +1,4 @@
--- The number of its random bytes that an event draws. It draws them in order, from the first one
--- on.
+-- The number of random bytes that an event draws. It draws them in order, starting with the first.
 use Rattle.std.specs.Prelude.{ℕ, zero, suc, ◌-◌, List, drop, length, Result, Ok, Err}
 use Rattle.tpm_types_command.specs.AuthEntry.{Entry}
 use Rattle.tpm_record.specs.Record.{Record}

@@ -13,8 +13,8 @@ use Rattle.tpm_step.specs.Step.{Stepped}
 abbrev pub placing_seen : Record → Stepped
 placing_seen r = record { response = []; row = record { code = 0; check = 0 }; after = r }
 
--- On success, the object got the lowest free handle. On an error, either all slots were taken, or
--- an allocation failed, if that is possible; then the record is unchanged.
+-- On success, the object got the lowest free handle. On an error, all slots were taken, or an
+-- allocation failed, and the record is unchanged. Allocations can fail only if the flag is true.
 abbrev pub Places : Bool → Record → Result Handle SlotFault → Record → Type 0
 Places can old (Ok handle) new = next_handle old.objects ≡ Some handle
 Places can old (Err Full) new = (next_handle old.objects ≡ None) × (new ≡ old)

@@ -1,5 +1,5 @@
 //! The device itself: how it is manufactured, and how it executes one event or a run of events. The
-//! module Step of tpm_step defines the effect of an event.
+//! definitions of tpm_step specify the effect of each event.
 
 ghost use Rattle.tpm_types.specs.Limits.{buffer_limit, response_limit};
 ghost use Rattle.std.specs.Prelude.{◌≡◌, ◌≤◌, ◌<◌, ◌^◌, List, [], IfOk, OnErr, false, length, map, true};
@@ -124,9 +124,9 @@ impl<K: Keep> Machine<K> {
         // If the device followed a history, it now follows that history, extended by this event if
         // it was accepted: the history determines its counters, PCRs, authorization values and
         // sessions. In the history, every replay repeats a nonce or an HMAC, and every use of a
-        // handle was authorized on one of the three grounds. If a policy session authorized it, the
-        // use satisfies each policy whose digest is the entity's authPolicy, unless the hash is
-        // broken.
+        // handle that needs authorization was authorized by a password, an HMAC session or a policy
+        // session. In the last case, the use satisfies each policy whose digest is the entity's
+        // authPolicy, unless the hash is broken.
         ensures history { After Follows (state_of K.record_of self.old) (plain_event event.now)
             (outcome_step (state_of K.record_of self.new) result) }
         ensures counters { After HasCounters (state_of K.record_of self.old)
@@ -162,9 +162,9 @@ impl<K: Keep> Machine<K> {
         // If the device followed a history, it now follows that history, extended by this event if
         // it was accepted: the history determines its counters, PCRs, authorization values and
         // sessions. In the history, every replay repeats a nonce or an HMAC, and every use of a
-        // handle was authorized on one of the three grounds. If a policy session authorized it, the
-        // use satisfies each policy whose digest is the entity's authPolicy, unless the hash is
-        // broken.
+        // handle that needs authorization was authorized by a password, an HMAC session or a policy
+        // session. In the last case, the use satisfies each policy whose digest is the entity's
+        // authPolicy, unless the hash is broken.
         ensures history { After Follows (state_of K.record_of self.old) (plain_event event.now)
             (outcome_step (state_of K.record_of self.new) outcome.new) }
         ensures counters { After HasCounters (state_of K.record_of self.old)

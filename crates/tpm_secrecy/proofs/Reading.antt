@@ -1,4 +1,5 @@
--- A command that reads sealed data is an accepted TPM2_Unseal or TPM2_HMAC with such an object.
+-- A command that reads the sealed data or the key of an object is an accepted TPM2_Unseal or
+-- TPM2_HMAC with that object.
 use Rattle.tpm_types_object.specs.ObjectAttributes.{has}
 use Rattle.std.proofs.Common.{ap, inl, inr, refl, sym, ◌∙◌}
 use Rattle.std.proofs.lemmas.Bool.{and_parts, eqb-true, false≢true, or_cases}

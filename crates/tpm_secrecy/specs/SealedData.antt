@@ -1,5 +1,5 @@
--- What a device reveals about sealed data and HMAC keys: nothing, except through a TPM2_Unseal or
--- a TPM2_HMAC that met the object's policy. TPM 2.0 Library, Part 1, sections 19.7 (enhanced
+-- What a device reveals about sealed data and HMAC keys: nothing, except through a TPM2_Unseal or a
+-- TPM2_HMAC that satisfied the object's policy. TPM 2.0 Library, Part 1, sections 19.7 (enhanced
 -- authorization) and 23 (protected storage), and Part 3, sections 12.7 and 15.5.
 use Rattle.std.specs.Prelude.{Bool, List, Some, [], false, if◌then◌else◌, slice_get, true, ℕ, ◌∷◌, ◌≡◌, ◌⊎◌}
 use Rattle.tpm_mac.specs.Hasher.{Holds}
@@ -34,10 +34,10 @@ sealed objects = of_data (λ number. false) objects
 
 -- ---- an accepted command that reads sealed data
 
--- An accepted command reads the secret data of an object with one of these public areas:
--- TPM2_HMAC if the object signs, otherwise TPM2_Unseal. If the object has no userWithAuth, and
--- its authPolicy is the digest of a policy, a policy session authorized the command and met the
--- policy; or the hash is broken.
+-- An accepted command reads the secret data of an object with one of these public areas: TPM2_HMAC
+-- if the object signs, otherwise TPM2_Unseal. If the object has no userWithAuth, and its authPolicy
+-- is the digest of a policy, then a policy session authorized the command and satisfied the policy,
+-- or the hash is broken.
 pub record ReadsSealed (objects : Public → Bool) (history : History) (c : AcceptedCommand) : Type 0
   where
     pub public : Public
