@@ -69,8 +69,8 @@ lacks_cipher r e =
     uses_cipher e.attributes
     && option_map_or (λ (s : Session). is_null s.symmetric) (session_of r e) false
 
--- the checks of an entry after these earlier entries: the sizes of its nonce and HMAC, its session,
--- the reserved bits 3 and 4, the other attributes, the session's algorithm
+-- the checks of an entry that follows these earlier entries: the sizes of its nonce and HMAC, its
+-- session, the reserved bits 3 and 4, the other attributes, the session's algorithm
 unfoldable pub entry_passes : Record → CommandCode → List Entry → Entry → Result (Unit {0}) Rc
 entry_passes r c before e = do
   let n : ℕ = length before + 1

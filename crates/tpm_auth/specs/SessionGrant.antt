@@ -203,7 +203,7 @@ comparison state command number grant entry session = do
   Ok grant
 
 -- the grant of entry n, whose handle names a session. The entry has to authorize the given handle,
--- or none. An entry of a trial session that authorizes no handle is accepted, for example to
+-- or none. A trial session may be used in an entry that has no handle to authorize, for example to
 -- encrypt a parameter (this device's own choice)
 unfoldable pub session_grant : Record
     → Whole → (locality n : ℕ) → Option Handle → Entry → Session → Result (Option Grant) Refused

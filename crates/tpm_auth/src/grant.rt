@@ -178,8 +178,8 @@ fn resolved_at<'a>(resolved: &[Resolved<'a>], place: usize) -> Resolved<'a>
     resolved[place]
 }
 
-/// The Name of the next handle, if `names` contains the Names of the handles before it. If it
-/// equals the first handle, the first Name is copied.
+/// The Name of the next handle, if `names` contains the Names of the handles before it. A handle
+/// that equals the first one gets a copy of the first Name.
 fn next_name<K: Keep>(keep: &K, sent: &Sent, names: &[Name], latest: &mut LatestName) -> Name
     requires resolved { IsResolved (K.record_of keep.now) sent.now }
     requires named { names.now ≡ map (name_of (K.record_of keep.now))

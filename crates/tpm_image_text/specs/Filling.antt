@@ -67,7 +67,7 @@ PowersOn can read (Err unfilled.Malformed) new = read ≡ Err malformed
 PowersOn can read (Err unfilled.NoMemory) new = can ≡ true
 
 -- The record became that of a device that was powered on with the non-volatile state at the
--- beginning of the text, and `rest` is left to read; or the text is malformed; or an allocation
+-- beginning of the text, and `rest` remains to be read; or the text is malformed; or an allocation
 -- failed, in which case the text may be anything.
 abbrev pub PowersOnFrom : Bool → Result (NonVolatile × List ℕ) Malformed
     → Result (Unit {0}) FillFault → Record → (rest : List ℕ) → Type 0
