@@ -63,10 +63,10 @@ pub fn any_device_laws()
 
 /// Suppose that two devices differ only in authorization values and other secrets. An event reveals
 /// nothing about them if it reads no secret data and if, on both devices, every guess of a secret
-/// value fails. The same holds for a list of events. In a list without a reset, at most maxTries
-/// tries fail, plus one for each recoveryTime that passes. An entry that encrypts with a secret
-/// value counts as a guess, although nothing is compared. The number of guesses that are not tries
-/// is not limited.
+/// value fails. The same holds for a list of events. If recoveryTime is not 0 and the list contains
+/// no reset, at most maxTries tries fail, plus one for each recoveryTime that passes. An entry that
+/// encrypts with a secret value counts as a guess, although nothing is compared. The number of
+/// guesses that are not tries is not limited.
 #[inline(always)]
 pub fn guess_laws()
     ensures event { WrongGuessesTellNothing }
