@@ -1,7 +1,6 @@
 #![tactic(auto)]
 
-//! Encodes the state that a device keeps without power as the text of an image, and decodes this
-//! text.
+//! The text of an image: encodes the state that a device keeps without power, and decodes it again.
 //!
 //! There are two [versions](Version) of the image: the device writes the second ([`saving`]) and
 //! reads both ([`opening`]). For each part of the non-volatile state, one file reads and writes its

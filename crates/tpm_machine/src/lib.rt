@@ -1,7 +1,7 @@
 #![tactic(auto)]
 
-//! The device. It executes one event at a time, a command or a power cycle, as the written table
-//! specifies.
+//! The device: it executes one event at a time, a command or a power cycle, as the written table
+//! says.
 //!
 //! A command is executed in these steps. [`decoding`] decodes it and makes the general checks.
 //! tpm_auth checks its authorizations. If a session decrypts, `parameters` decrypts the first
