@@ -23,7 +23,7 @@ told_text tell.NumberAndValue e = to_be_bytes w32 e.number ++ to_be_bytes w32 e.
 abbrev pub is_from : ℕ → Element → Bool
 is_from from e = nat_le from e.number
 
--- the number of elements that have at least this number; and how many of these are listed: the
+-- the number of elements whose number is at least `from`; and how many of these are listed: the
 -- requested number, but at most 64
 abbrev pub found_count : ℕ → List Element → ℕ
 found_count from elements = count_by (is_from from) elements
@@ -31,7 +31,7 @@ found_count from elements = count_by (is_from from) elements
 abbrev pub told_count : (from count : ℕ) → List Element → ℕ
 told_count from count elements = min (found_count from elements) (min count 64)
 
--- the encoding of the first elements whose number is at least this one, at most `count`
+-- the encoding of the first elements whose number is at least `from`, at most `count` of them
 abbrev pub text_of : Telling → (from count : ℕ) → List Element → List ℕ
 text_of telling from count elements =
     flat_map (told_text telling) (take count (filter (is_from from) elements))

@@ -31,7 +31,7 @@ capability_parameters text = do
   ended ← all_read count.1
   Ok (record { capability = capability.0; property = property.0; count = count.0 })
 
--- the capability with this number. Refused by A1 if it is not supported
+-- the capability with this number. Refused by check A1 if it is not supported
 abbrev pub capability_of : ℕ → Result Capability Refused
 capability_of number =
     if number == 1 then Ok capability.Handles
@@ -40,8 +40,8 @@ capability_of number =
     else (if number == 6 then Ok capability.Properties
     else Err (parameter_refusal action.First 1 code.Value))))
 
--- the handles with this highest byte; there are never saved sessions (03). Refused by A2 if no
--- handle type has this byte
+-- the handles with this highest byte; there are never saved sessions (03). Refused by check A2 if
+-- no handle type has this byte
 abbrev pub handle_elements : Record → (kind : ℕ) → Result (List Element) Refused
 handle_elements r kind =
     if kind == 0x00 then Ok pcr_elements

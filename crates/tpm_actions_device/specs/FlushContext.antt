@@ -35,8 +35,8 @@ flushed_handle text = do
   number ← only (or_fault (number_at w32 text) (plain code.Insufficient))
   Ok (numbered number)
 
--- the row of TPM2_FlushContext. Parameter: flushHandle. Refused by A1 if it is not the handle of a
--- session or a transient object; by A2 if no session or object with this handle is loaded
+-- the row of TPM2_FlushContext. Parameter: flushHandle. Refused by check A1 if it is not the handle
+-- of a session or a transient object; by A2 if no session or object with this handle is loaded
 unfoldable pub flush_context_row : Record → Request → Result Success Refused
 flush_context_row r q = do
   handle ← flushed_handle q.parameters

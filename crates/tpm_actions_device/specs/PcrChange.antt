@@ -1,4 +1,4 @@
--- The common part of the commands that change PCRs: they change a PCR; with TPM_RH_NULL they check
+-- The common part of the commands that change a PCR. With TPM_RH_NULL instead of a PCR, they check
 -- and change nothing.
 use Rattle.tpm_types.specs.declared.action_check.ActionCheck.TheVariants as action
 use Rattle.std.specs.Prelude.{ℕ, Option, Some, None, Result, Ok, Err}
@@ -11,8 +11,8 @@ use Rattle.tpm_record.specs.Record.{Record}
 use Rattle.tpm_types.specs.declared.refused.Refused.{Refused}
 use Rattle.tpm_record.specs.rows.Refusals.{action_refusal}
 
--- the refusal to change a PCR: by A1 if the PCR does not allow this change from this locality; by
--- A2 if the updates cannot be counted
+-- the refusal of a command that changes a PCR: by check A1 if the PCR does not allow this change
+-- from this locality; by A2 if the updates cannot be counted
 abbrev pub change_refusal : ChangeFault → Refused
 change_refusal Locality = action_refusal action.First (plain code.Locality)
 change_refusal Failure = action_refusal action.Second (plain code.Failure)

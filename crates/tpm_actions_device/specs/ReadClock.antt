@@ -10,8 +10,8 @@ use Rattle.tpm_record.specs.rows.Answer.{Plain, answer_of}
 use Rattle.tpm_record.specs.rows.Request.{Request}
 use Rattle.tpm_record.specs.rows.Rows.{Success, all_read, unchanged}
 
--- the answer of TPM2_ReadClock: Time; Clock; the numbers of resets and restarts; and that Clock
--- never went back (yes)
+-- the answer of TPM2_ReadClock: Time; Clock; the numbers of resets and restarts; and the field
+-- safe, which is always yes because Clock never goes back
 abbrev pub time_text : Fixed → List ℕ
 time_text f =
     to_be_bytes w64 f.time

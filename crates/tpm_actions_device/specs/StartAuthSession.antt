@@ -66,7 +66,7 @@ abbrev pub has_other_mask : SymmetricDefinition → HashAlg → Bool
 has_other_mask (symmetric.Xor mask) hash = not (hash_number mask == hash_number hash)
 has_other_mask other hash = false
 
--- the command's own checks of its parameters. Refused by A1 if nonceCaller is shorter than 16
+-- the command's own checks of its parameters. Refused by check A1 if nonceCaller is shorter than 16
 -- bytes, or longer than a digest; by A2 if there is a salt, because there is no key to decrypt it;
 -- by A3 if the hash of XOR is not authHash
 unfoldable pub parameters_pass : Parameters → Result (Unit {0}) Refused
@@ -76,7 +76,7 @@ parameters_pass p = do
   a2 ← refused_if (not (length p.salt == 0)) (parameter_refusal action.Second 2 code.Value)
   refused_if (has_other_mask p.symmetric p.hash) (parameter_refusal action.Third 4 code.Hash)
 
--- the binding of a session: the entity in its current state, or nothing if bind is TPM_RH_NULL
+-- the binding of a session to an entity in its current state, or nothing if bind is TPM_RH_NULL
 unfoldable pub binding_of : Record → Handle → Option Binding
 binding_of r bind =
     if bind.number == null_handle.number then None
@@ -90,7 +90,7 @@ binding_of r bind =
 abbrev pub session_with : Parameters → Option Binding → List ℕ → Session
 session_with p binding nonce = new_session p.kind p.hash p.symmetric binding nonce p.nonce_caller
 
--- the slot of a new session. Refused by A4 if no slot is free
+-- the slot of a new session. Refused by check A4 if no slot is free
 abbrev pub session_place : List (Option Session) → Result ℕ Refused
 session_place sessions =
     ok_or (lowest_free sessions) (action_refusal action.Fourth (plain code.SessionMemory))

@@ -27,7 +27,7 @@ use Rattle.tpm_actions_device.specs.declared.startup.Start.{Start}
 use Rattle.tpm_actions_device.specs.declared.startup.Start.TheVariants.{Reset, Restart, Resume}
 
 -- the kind of a startup. If a state was saved, CLEAR is a TPM Restart, and STATE is a TPM Resume;
--- otherwise CLEAR is a TPM Reset. Refused by A1 if STATE is requested and no state was saved
+-- otherwise CLEAR is a TPM Reset. Refused by check A1 if STATE is requested and no state was saved
 abbrev pub start_of : StartupType → SavedKind → Result Start Refused
 start_of type.Clear saved.Nothing = Ok Reset
 start_of type.Clear saved.Clear = Ok Reset
@@ -103,9 +103,9 @@ start_draws Reset = 64
 start_draws Restart = 0
 start_draws Resume = 0
 
--- the row of TPM2_Startup. Parameter: startupType, from any locality. Refused by A1 if there is no
--- state to restore. Effect: the saved state is discarded, as by any other successful command that
--- does not preserve it
+-- the row of TPM2_Startup. Parameter: startupType, from any locality. Refused by check A1 if there
+-- is no state to restore. Effect: the saved state is discarded, as by any other successful command
+-- that does not preserve it
 unfoldable pub startup_row : Record → Request → Result Success Refused
 startup_row r q = do
   type ← only (startup_type_at q.parameters)

@@ -15,8 +15,8 @@ use tpm_record::rows::reading::{end, parameter};
 use tpm_record::rows::refusals::action_refusal;
 use tpm_types::{ActionCheck, Handle, Refused, ResponseCode, read_yes_no};
 
-/// TPM2_ClearControl: disables or enables TPM2_Clear. Returns AUTH_FAIL if lockout requests that
-/// it be enabled.
+/// TPM2_ClearControl: disables or enables TPM2_Clear. Returns AUTH_FAIL if TPM_RH_LOCKOUT is used
+/// to enable it.
 #[tactic(auto, unfolding(crate::specs::ClearControl::clear_control_row))]
 pub fn clear_control<K: Keep>(
     keep: &mut K,

@@ -52,8 +52,8 @@ may_name true true wanted = true
 may_name true false wanted = is_of_platform wanted
 may_name false removes wanted = not (is_of_platform wanted)
 
--- the checks of an eviction by the platform, or by the owner. Refused by A1 if it may not evict
--- the object; by A2 if the object has stClear; by A3 if it may not use the handle
+-- the checks of an eviction by the platform, or by the owner. Refused by check A1 if it may not
+-- evict the object; by A2 if the object has stClear; by A3 if it may not use the handle
 abbrev pub eviction_passes : (by_platform removes : Bool)
     → Object → Handle → Result (Unit {0}) Refused
 eviction_passes by_platform removes object wanted = do
@@ -63,16 +63,16 @@ eviction_passes by_platform removes object wanted = do
       (action_refusal action.Second (at (place.Handle 2) (plain code.Attributes)))
   refused_if (not (may_name by_platform removes wanted)) (parameter_refusal action.Third 1 code.Range)
 
--- the persistent objects without the one with this handle. Refused by A4 if persistentHandle is a
--- different handle
+-- the persistent objects without the one with this handle. Refused by check A4 if persistentHandle
+-- is a different handle
 abbrev pub removed : Entries Object → Handle → Handle → Result (Entries Object) Refused
 removed objects handle wanted = do
   a4 ← refused_if (not (wanted.number == handle.number))
       (action_refusal action.Fourth (at (place.Handle 2) (plain code.Handle)))
   Ok (without_persistent objects handle)
 
--- the persistent objects after a transient object is copied to this handle. Refused by A5 if the
--- handle is taken; by A6 if there is no room for another object
+-- the persistent objects after a transient object is copied to this handle. Refused by check A5 if
+-- the handle is taken; by A6 if there is no room for another object
 abbrev pub copied : Entries Object → Object → Handle → Result (Entries Object) Refused
 copied objects object wanted = do
   a5 ← refused_if (is_some (persistent_at objects wanted)) (action_refusal action.Fifth (plain code.NvDefined))
@@ -86,7 +86,7 @@ evicted objects handle object wanted =
     if is_persistent handle then removed objects handle wanted else copied objects object wanted
 
 -- the row of TPM2_EvictControl. Handles: auth (the owner or the platform) and objectHandle.
--- Parameter: persistentHandle. Refused by A1 to A6, the checks of an eviction
+-- Parameter: persistentHandle. Refused by checks A1 to A6, those of an eviction
 unfoldable pub evict_control_row : Record → Request → Result Success Refused
 evict_control_row r q = do
   auth ← first_handle q.handles

@@ -24,7 +24,7 @@ use Rattle.tpm_record.specs.rows.Rows.{Success, all_read, parameter, unchanged}
 use Rattle.tpm_record.specs.rows.Refusals.{action_refusal}
 use Rattle.tpm_actions_object.specs.Loaded.{loaded_at}
 
--- the scheme of a KEYEDHASH object. Refused by A1 if the object is not a KEYEDHASH object
+-- the scheme of a KEYEDHASH object. Refused by check A1 if the object is not a KEYEDHASH object
 abbrev pub scheme_of : PublicParameters → Result KeyedHashScheme Refused
 scheme_of (KeyedHash scheme) = Ok scheme
 scheme_of SymCipher = Err (action_refusal action.First (at (place.Handle 1) (plain code.Type)))
@@ -53,9 +53,9 @@ parameters_in text = do
   ended ← all_read hash.1
   Ok (record { buffer = buffer.0; hash = hash.0 })
 
--- the row of TPM2_HMAC. Answer: the HMAC. Refused by A1 if the object is not a KEYEDHASH object;
--- by A2 if it is restricted; by A3 if it is not a signing key; by A4 if the command requests a
--- hash other than the scheme's, or if neither names a hash
+-- the row of TPM2_HMAC. Answer: the HMAC. Refused by check A1 if the object is not a KEYEDHASH
+-- object; by A2 if it is restricted; by A3 if it is not a signing key; by A4 if the command
+-- requests a hash other than the scheme's, or if neither names a hash
 unfoldable pub hmac_row : Record → Request → Result Success Refused
 hmac_row r q = do
   handle ← first_handle q.handles

@@ -22,13 +22,13 @@ use Rattle.tpm_record.specs.rows.Refusals.{parameter_refusal}
 use Rattle.tpm_actions_object.specs.Checks.{public_passes}
 use Rattle.tpm_actions_object.specs.Loaded.{is_fixed, parent_passes, loaded_at, place_for}
 
--- the sensitive area that a private area wraps. Refused by A5 if this parent did not wrap the
+-- the sensitive area that a private area wraps. Refused by check A5 if this parent did not wrap the
 -- private area for this public area
 abbrev pub sensitive_of : Object → Public → List ℕ → Result Sensitive Refused
 sensitive_of parent public private =
     or_fault (unwrapped parent public private) (parameter_refusal action.Fifth 1 code.Integrity)
 
--- the loaded object: it is under its parent, and in the parent's hierarchy
+-- the loaded object, as a child of its parent and in the parent's hierarchy
 abbrev pub loaded_below : Object → Public → Sensitive → Object
 loaded_below parent public sensitive =
     loaded_object parent.hierarchy public sensitive parent.qualified_name
@@ -54,9 +54,9 @@ parameters_in text = do
   ended ← all_read public.1
   Ok (record { private = private.0; public = public.0 })
 
--- the row of TPM2_Load. Handle: parentHandle. Refused by A1 if it is not a storage parent; by A2
--- to A4, the checks of the public area; by A5, the check of the private area; by A6 if no slot is
--- free
+-- the row of TPM2_Load. Handle: parentHandle. Refused by check A1 if it is not a storage parent; by
+-- A2 to A4, the checks of the public area; by A5, the check of the private area; by A6 if no slot
+-- is free
 unfoldable pub load_row : Record → Request → Result Success Refused
 load_row r q = do
   handle ← first_handle q.handles

@@ -23,7 +23,7 @@ use Rattle.tpm_record.specs.rows.Refusals.{action_refusal, handle_refusal, memor
 abbrev pub loaded_at : Record → Handle → Result Object Refused
 loaded_at r handle = ok_or (object_of r handle) handle_refusal
 
--- the check A1 of a parent: refused if the object of the first handle is not a storage parent
+-- check A1, which refuses the first handle if its object is not a storage parent
 abbrev pub parent_passes : Object → Result (Unit {0}) Refused
 parent_passes parent =
     refused_if (not (is_storage_parent parent.public))
@@ -34,11 +34,11 @@ parent_passes parent =
 abbrev pub is_fixed : Object → Bool
 is_fixed parent = has parent.public.attributes attribute.FixedTpm
 
--- the refusal, by this check, if all object slots are taken
+-- the refusal if all object slots are taken, with this check
 abbrev pub no_place : ActionCheck → Refused
 no_place action = action_refusal action (plain code.ObjectMemory)
 
--- the slot for a new object, or the refusal by this check if no slot is free
+-- the slot for a new object, or the refusal if no slot is free, with this check
 abbrev pub place_for : ActionCheck → Record → Result ℕ Refused
 place_for action r = ok_or (lowest_free r.objects) (no_place action)
 

@@ -16,8 +16,8 @@ use Rattle.tpm_record.specs.rows.Rows.{Success, all_read, unchanged}
 use Rattle.tpm_record.specs.rows.Refusals.{action_refusal}
 use Rattle.tpm_actions_object.specs.Loaded.{loaded_at}
 
--- the row of TPM2_Unseal. Parameters: none. Answer: the sealed data. Refused by A1 if the object
--- is not a KEYEDHASH object; by A2 if it is a signing key
+-- the row of TPM2_Unseal. Parameters: none. Answer: the sealed data. Refused by check A1 if the
+-- object is not a KEYEDHASH object; by A2 if it is a signing key
 unfoldable pub unseal_row : Record → Request → Result Success Refused
 unseal_row r q = do
   handle ← first_handle q.handles

@@ -35,8 +35,8 @@ fn template_refusal(before: u8, fault: TemplateFault) -> Refused
     }
 }
 
-/// The refusal if a check of the other input fails. `before` is the number of the command's own
-/// checks that precede it.
+/// The refusal if a check of the input that accompanies a template fails. `before` is the number of
+/// the command's own checks that precede it.
 fn creation_refusal(before: u8, fault: CreationFault) -> Refused
     requires { before ≤ 4 }
     ensures { result ≡ creation_refusal before fault }

@@ -109,8 +109,8 @@ fn creation_data<K: Keep>(
     }
 }
 
-/// The ticket by which the device recognizes that it created an object with this Name and with
-/// creation data that have this hash.
+/// The ticket that proves to the device that it created an object with this Name and this creation
+/// hash.
 #[tactic(auto, unfolding(crate::specs::Creation::ticket_text))]
 fn ticket(hierarchy: HierarchyHandle, proof: &[u8; 32], name: &Name, hash: &[u8]) -> Sink<40>
     ensures { result ≡ ticket_text hierarchy proof.now name.now hash.now }

@@ -101,7 +101,7 @@ fn check_eviction(
     Ok(())
 }
 
-/// Removes a persistent object. The command must contain its handle twice.
+/// Removes a persistent object. The parameter persistentHandle must equal the object's handle.
 fn remove<K: Keep>(keep: &mut K, handle: Handle, wanted: Handle) -> Result<(), Refused>
     ensures { Evicts false (removed (K.record_of keep.old).persistent handle wanted)
         (K.record_of keep.old) result (K.record_of keep.new) }

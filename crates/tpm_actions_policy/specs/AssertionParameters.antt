@@ -1,4 +1,4 @@
--- The assertion that the code requests, as a value.
+-- The assertion that the code's parameters request, in terms of the definitions.
 use Rattle.std.specs.Prelude.{◌≡◌, Result, Ok, Err}
 use Rattle.tpm_policy.specs.Assertion as assertion
 use Rattle.tpm_policy.specs.Assertion.{Assertion}
@@ -36,7 +36,7 @@ nv_asked index = record {
   operation = index.operation;
 }
 
--- the assertion that the code requests, on a session of this record
+-- the assertion that these parameters request, for a session of this record
 abbrev pub assertion_of : Record → AssertionParameters → Session → Assertion
 assertion_of r (asked.Pcr pcrs) s = assertion.Pcr (pcr_parts_of r (pcrs_of pcrs) s)
 assertion_of r (asked.Or digests) s = assertion.Or (digests_of digests.now.digests.items)

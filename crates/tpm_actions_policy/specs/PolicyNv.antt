@@ -37,9 +37,9 @@ nv_parameters text = do
   Ok (record { operand = operand.0; offset = offset.0; operation = operation.0 })
 
 -- the bytes that are compared with the operand: the index's data from the offset on, of the same
--- size as the operand. Refused by A1 to A3, the checks of every command that reads an index; by A4
--- if the bytes extend past the end of the data. After A3 the read can fail for no other reason
--- (reading_laws of tpm_record)
+-- size as the operand. Refused by checks A1 to A3, those of every command that reads an index; by
+-- A4 if the bytes extend past the end of the data. After check A3, the read can fail for no other
+-- reason (reading_laws of tpm_record)
 abbrev pub compared : Record → Target → Parameters → Result (List ℕ) ActionFault
 compared r target p = do
   readable ← reading_passes target
@@ -57,9 +57,10 @@ nv_parts_of r target p = record {
 }
 
 -- the assertion of TPM2_PolicyNV. Handles: authHandle, nvIndex and policySession. The checks A1 to
--- A5 are part of the assertion, and are skipped on a trial session. Refused by A1 if authHandle
--- may not read the index; by A2 if the index is locked; by A3 if it is not written; by A4 if the
--- bytes extend past the end of its data; by A5 if the comparison with the operand does not hold
+-- A5 are part of the assertion, and are skipped on a trial session. Refused by check A1 if
+-- authHandle may not read the index; by A2 if the index is locked; by A3 if it is not written; by
+-- A4 if the bytes extend past the end of its data; by A5 if the comparison with the operand does
+-- not hold
 abbrev pub nv_assertion : Record → Request → Result (Session → Assertion) Refused
 nv_assertion r q = do
   target ← target_of r q

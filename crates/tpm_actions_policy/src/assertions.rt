@@ -34,7 +34,7 @@ pub enum AssertionParameters<'a> {
 }
 
 impl AssertionParameters<'_> {
-    /// Makes the assertion that a command requests on a session's policy.
+    /// Adds the assertion that a command requests to a session's policy.
     fn assert_on<K: Keep>(
         &self,
         keep: &K,

@@ -41,7 +41,7 @@ impl ComparedIndex<'_> {
         }
     }
 
-    /// Makes the assertion of the comparison on a session's policy, with the current data of the
+    /// Adds the assertion of the comparison to a session's policy, with the current data of the
     /// index.
     pub fn assert_on<K: Keep>(
         &self,

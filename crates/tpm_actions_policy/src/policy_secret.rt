@@ -39,7 +39,7 @@ pub struct ShownSecret<'a> {
 }
 
 impl ShownSecret<'_> {
-    /// Makes the assertion of the secret on a session's policy.
+    /// Adds the assertion of the secret to a session's policy.
     pub(crate) fn assert_on<K: Keep>(
         &self,
         keep: &K,

@@ -1,4 +1,4 @@
--- The meaning of an accepted authorization for each entry.
+-- What an accepted authorization implies for each entry.
 use Rattle.std.proofs.Common.{◌≡◌, ℕ, zero, suc, ◌+◌, arith, false, List, [], ◌∷◌, ◌++◌, length, length-append, append_assoc, append-nil, slice_get, Option, Some, Result, Ok, Err, IfOk, refl, sym, subst, ◌∙◌}
 use Rattle.std.proofs.lemmas.Bool.{ltb-false, not-false}
 use Rattle.std.proofs.lemmas.Result.{IfOk-at_ok, IfOk-weaker}
@@ -20,13 +20,13 @@ use Rattle.tpm_auth.specs.Grant.{authorize, authorized, grant, grants_pass}
 use Rattle.tpm_auth.specs.Granting.{IsGranted, IsGranting}
 use Rattle.tpm_auth.specs.declared.session_grant.Grant.{Grant}
 
--- If a property holds for each success after a step, whatever the step returned, it holds for each
--- success of the whole.
+-- If a property holds for each success of the second step, whatever the first step returned, it
+-- holds for each success of both steps together.
 ok_bind_is : {A B E : Type 0} (Q : B → Type 0) (x : Result A E) (f : A → Result B E) → ((a : A) → x ≡ Ok a → IfOk (f a) Q) → IfOk (x >>= f) Q
 ok_bind_is Q (Ok a) f h = h a refl
 ok_bind_is Q (Err e) f h = tt
 
--- If a fault is turned into a refusal, no success changes.
+-- Turning a fault into a refusal does not change a success.
 checked_ok : {X : Type 0} (check : Check) (x : Result X Rc) (y : X) → checked check x ≡ Ok y → x ≡ Ok y
 checked_ok check (Ok x) y is = cc
 checked_ok check (Err rc) y is = absurd cc
@@ -34,7 +34,8 @@ checked_ok check (Err rc) y is = absurd cc
 -- ---- checking the entries in order
 
 module _ (r : Record) (c : Whole) (locality : ℕ) where
-  -- These are the grants of these entries, the first of which is at this position.
+  -- The list `given` contains the grants of the entries `es`, the first of which is at the position
+  -- `first`.
   record AreOf (first : ℕ) (es : List Entry) (given : List (Option Grant)) : Type 0 where
     as_many : length given ≡ length es
     each : (place i : ℕ) (e : Entry) (granted : Option Grant) → place ≡ first + i → slice_get es i ≡ Some e → slice_get given i ≡ Some granted → IsGranted r c locality place e granted

@@ -1,5 +1,5 @@
--- At each position the code found the entity of the handle there. It computes the Names from these
--- entities.
+-- At each position, the code found the entity of the handle at that position. It computes the Names
+-- from these entities.
 use Rattle.std.proofs.Common.{◌≡◌, ℕ, zero, suc, ◌<◌, ◌≤◌, List, [], ◌∷◌, ◌++◌, length, map, take, slice_get, slice_index_or, Some, None, option_map, refl, sym, subst, ap, ◌∙◌, arith}
 use Rattle.std.specs.Option.{ForSome}
 use Rattle.tpm_session.specs.declared.session.Session.{Session}
@@ -93,7 +93,8 @@ next_again r resolved handles names place first x name are names_are at_first at
     let again : name ≡ name_of r x.handle = named ∙ ap (name_of r) (same_handle first.handle x.handle same) in
     sym (ap (option_map (name_of r)) other.0 ∙ ap Some (sym again))
 
--- If the next value is added to a prefix of a mapped list, the prefix is longer by one.
+-- A prefix of a mapped list, with the next mapped element added, is the prefix that is longer by
+-- one.
 one_more : {X Y : Type 0} (f : X → Y) (xs : List X) (n m : ℕ) (y : Y) → m ≡ suc n → Some y ≡ option_map f (slice_get xs n) → map f (take n xs) ++ y ∷ [] ≡ map f (take m xs)
 one_more f [] n m y next is = absurd cc
 one_more f (x ∷ xs) zero m y next is =

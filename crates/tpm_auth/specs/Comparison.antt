@@ -17,12 +17,12 @@ use Rattle.tpm_types.specs.declared.refused.Counted.TheVariants as counted
 use Rattle.tpm_types.specs.declared.refused.Refused.{Refused}
 use Rattle.tpm_auth.specs.declared.session_grant.Grant.{Grant}
 
--- a password is an authorization value if the two are equal without their trailing zeros
+-- whether a password equals an authorization value. Trailing zeros of both are ignored
 abbrev pub is_password_of : List ℕ → List ℕ → Bool
 is_password_of value password = bytes_eq (trimmed password) (trimmed value)
 
--- the refusal if the comparison for entry n fails: AUTH_FAIL, which counts as a failed try, if a
--- protected entity is involved; otherwise BAD_AUTH
+-- the refusal if the comparison for entry n fails. For a protected entity it is AUTH_FAIL, which
+-- counts as a failed try or disables lockoutAuth; otherwise it is BAD_AUTH
 abbrev pub failure : Check → ℕ → Protection → Refused
 failure check n protection.None = refusal check (entry_fault n code.BadAuth)
 failure check n protection.Tries =

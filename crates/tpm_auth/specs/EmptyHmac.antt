@@ -12,9 +12,9 @@ use Rattle.tpm_types.specs.AuthValue.{trimmed}
 use Rattle.tpm_auth.specs.SessionGrant.{demands_password, granted_value, session_grant, used_auth_value}
 use Rattle.tpm_auth.specs.declared.session_grant.Grant.{Grant}
 
--- If a session's entry is accepted with an empty HMAC, its key is empty: there is neither a
--- session key nor an authorization value in it. Otherwise it authorizes an entity without an
--- authorization value, under a policy that demands a password.
+-- An accepted entry of a session has an empty HMAC only in two cases. Either its HMAC key is empty:
+-- it contains neither a session key nor an authorization value. Or the entry authorizes an entity
+-- without an authorization value, under a policy that demands a password.
 abbrev pub EmptyHmacHasNoKey : Type 0
 EmptyHmacHasNoKey =
     (r : Record) (c : Whole) (locality n : ℕ) (used : Option Handle) (e : Entry) (s : Session)

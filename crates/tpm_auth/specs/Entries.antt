@@ -53,9 +53,9 @@ is_misplaced c n before e =
     if is_password e then nat_lt (authorized_handles c) n
     else list_any (λ earlier. earlier.session.number == e.session.number) before
 
--- whether an entry requests an audit session, which is not supported; or requests decrypt or
--- encrypt with a password, or after an earlier entry requested the same, or if the first
--- parameter of the command or of its response is not a sized buffer
+-- whether an entry requests an audit session, which is not supported; or decrypt or encrypt with a
+-- password; or decrypt or encrypt although an earlier entry requests the same, or although the
+-- first parameter of the command or of its response is not a sized buffer
 abbrev pub has_wrong_attributes : CommandCode → List Entry → Entry → Bool
 has_wrong_attributes c before e =
     audits e.attributes
@@ -63,13 +63,13 @@ has_wrong_attributes c before e =
     || decrypts e && (list_any decrypts before || not (has_sized_parameter c))
     || encrypts e && (list_any encrypts before || not (shape_of c).sized_answer)
 
--- whether an entry requests decrypt or encrypt, and its session has no symmetric algorithm
+-- whether an entry requests decrypt or encrypt, but its session has no symmetric algorithm
 abbrev pub lacks_cipher : Record → Entry → Bool
 lacks_cipher r e =
     uses_cipher e.attributes
     && option_map_or (λ (s : Session). is_null s.symmetric) (session_of r e) false
 
--- the checks of an entry that follows these other entries: the sizes of its nonce and HMAC, its
+-- the checks of an entry that follows these earlier entries: the sizes of its nonce and HMAC, its
 -- session, the reserved bits 3 and 4, the other attributes, the session's algorithm
 unfoldable pub entry_passes : Record → CommandCode → List Entry → Entry → Result (Unit {0}) Rc
 entry_passes r c before e = do

@@ -32,7 +32,7 @@ use Rattle.tpm_auth.specs.declared.grant.Grants.{Grants}
 use Rattle.tpm_types.specs.declared.refused.Refused.{Refused}
 use Rattle.tpm_auth.specs.declared.session_grant.Grant.{Grant}
 
--- the grant of a handle that is authorized without a policy and without a demand
+-- the grant of a handle, without a demand of a policy
 abbrev pub undemanding : Handle → Grant
 undemanding handle = record { handle = handle; demand = demand.None }
 
@@ -47,8 +47,8 @@ is_unavailable r c n used =
 abbrev pub used_protection : Record → Option Handle → Protection
 used_protection r used = option_map_or (protection_of r) used protection.None
 
--- the grant of entry n, a password: its entity must allow authorization with its authorization
--- value, and must not be locked out
+-- the grant of entry n, a password. Its entity must allow authorization with its authorization
+-- value, and must not be locked out. The password must be right
 unfoldable pub password_grant : Record
     → CommandCode → (n : ℕ) → Option Handle → Entry → Result (Option Grant) Refused
 password_grant state command number used entry = do
@@ -76,8 +76,8 @@ grant_by kind.Session state command locality number used entry =
 grant_by kind.Other state command locality number used entry =
     Err (refusal check.Entries (entry_fault number code.Value))
 
--- the grant of entry n, in a command from this locality; the entry has to authorize this handle
--- or none
+-- the grant of entry n, in a command from this locality. `used` is the handle that the entry has to
+-- authorize, if any
 unfoldable pub grant : Record
     → Whole → (locality n : ℕ) → Option Handle → Entry → Result (Option Grant) Refused
 grant state command locality number used entry =
@@ -87,9 +87,9 @@ grant state command locality number used entry =
 abbrev pub authorized : Whole → List Handle
 authorized c = take (authorized_handles c.code) c.handles
 
--- the grants of all entries, in order, after the grants of the entries before them. Entry n has
--- to authorize the nth handle that needs authorization; the entries after these have nothing to
--- authorize
+-- the grants of all entries, in order, after the grants of the entries before them. Entry n has to
+-- authorize the nth handle that needs authorization. If there is no such handle, the entry has
+-- nothing to authorize
 abbrev pub grants_pass : Record → Whole → (locality : ℕ)
     → (before : List (Option Grant)) → List Entry → Result (List (Option Grant)) Refused
 grants_pass state command locality before [] = Ok before

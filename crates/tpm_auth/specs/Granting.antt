@@ -1,6 +1,6 @@
--- The meaning of an accepted authorization for a command's entries. TPM 2.0 Library, Part 1,
--- section 19 (authorizations), and Part 3, sections 5.5 (session area validation) and 5.6
--- (authorization checks).
+-- What an accepted authorization implies for a command's entries. TPM 2.0 Library, Part 1, section
+-- 19 (authorizations), and Part 3, sections 5.5 (session area validation) and 5.6 (authorization
+-- checks).
 use Rattle.std.specs.Prelude.{◌≡◌, ◌≤◌, ℕ, ◌+◌, true, List, [], length, Option, Some, slice_get, Ok}
 use Rattle.std.specs.List.{list_any}
 use Rattle.tpm_session.specs.FirstBuffer.{has_first_buffer}

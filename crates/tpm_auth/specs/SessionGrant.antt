@@ -91,7 +91,8 @@ only_encrypts e = encrypts e && not (decrypts e)
 abbrev pub hashed_command : Record → Whole → HashedParts
 hashed_command r c = OfCommand (code_number c.code) (map (name_of r) c.handles) c.parameters
 
--- the data that entry n of a command authenticates, with its session's hash: the command as sent
+-- the parts of the text that the HMAC of entry n authenticates. The parameters are hashed as sent,
+-- with the session's hash algorithm
 unfoldable pub entry_parts : Record → Whole → ℕ → Entry → Session → EntryParts
 entry_parts state command number entry session = record {
   hash = parameter_hash_of session.hash (hashed_command state command);
@@ -101,8 +102,8 @@ entry_parts state command number entry session = record {
   attributes = entry.attributes;
 }
 
--- whether the HMAC of an entry is right: it is computed from the key and the text, or both key
--- and HMAC are empty
+-- whether the HMAC of an entry is right: it equals the HMAC that is computed from the key and the
+-- text, or both the key and the HMAC are empty
 unfoldable pub is_authentic : Record → Whole → ℕ → Option Grant → Entry → Session → Bool
 is_authentic state command number grant entry session =
     let value = used_auth_value state session grant in
@@ -115,13 +116,13 @@ abbrev pub demands_password : Option Grant → Bool
 demands_password None = false
 demands_password (Some grant) = is_password_demand grant.demand
 
--- the authorization value of the handle that an entry authorizes, if there is one
+-- the authorization value of the entity that an entry authorizes, or empty if there is none
 abbrev pub granted_value : Record → Option Grant → List ℕ
 granted_value r None = []
 granted_value r (Some grant) = auth_value_of r grant.handle
 
 -- whether the comparison for entry n succeeds: if the policy demands a password, the HMAC field
--- must contain the authorization value
+-- must contain the authorization value; otherwise, it must contain the right HMAC
 unfoldable pub comparison_holds : Record → Whole → ℕ → Option Grant → Entry → Session → Bool
 comparison_holds state command number grant entry session =
     if demands_password grant then is_password_of (granted_value state grant) entry.hmac
@@ -136,9 +137,9 @@ or_protection protection.None other = other
 or_protection protection.Tries other = protection.Tries
 or_protection protection.Lockout other = protection.Lockout
 
--- the protection that applies to a wrong entry of a session: that of the entity whose
--- authorization value is compared, in a key or as a password, if that entity is protected;
--- otherwise that of the entity to which the session was bound
+-- the dictionary-attack protection for a session's entry: that of the entity whose authorization
+-- value is compared, in a key or as a password, if that entity is protected; otherwise that of the
+-- entity to which the session was bound
 unfoldable pub entry_protection : Record → Session → Option Grant → Protection
 entry_protection r s None = binding_protection s
 entry_protection r s (Some grant) =
@@ -146,7 +147,7 @@ entry_protection r s (Some grant) =
     then or_protection (protection_of r grant.handle) (binding_protection s)
     else binding_protection s
 
--- the use that entry n of a policy session has to authorize
+-- the use of a handle that entry n, of a policy session, has to authorize
 unfoldable pub use_of : Record → Whole → (locality n : ℕ) → Handle → Session → UseParts
 use_of state command locality number handle session = record {
   entry = number;
@@ -162,15 +163,15 @@ use_of state command locality number handle session = record {
   entity = policy_of state handle;
 }
 
--- the demand of an HMAC session on an entry, in addition to its comparison: none. But the entry's
--- handle must allow authorization with its authorization value
+-- An HMAC session demands nothing in its entry except that the comparison succeeds. But the
+-- handle's entity must allow authorization with its authorization value.
 abbrev by_value : Record → Whole → (n : ℕ) → Handle → Result Demand Refused
 by_value r c n handle = do
   available ← refused_if (not (is_available r handle means.AuthValue (nv_use_at c.code (n - 1))))
       (refusal check.Authorization (plain code.AuthUnavailable))
   Ok demand.None
 
--- the demand of a policy session on the entry that authorizes a handle, if the policy allows the
+-- what a policy session demands in the entry that authorizes a handle, if the policy allows the
 -- use; a trial session authorizes nothing
 abbrev pub by_policy : Record → Whole → (locality n : ℕ) → Handle → Session → Result Demand Refused
 by_policy state command locality number handle session =
@@ -191,7 +192,8 @@ unfoldable pub demanded : Record
 demanded state command locality number handle session =
     demand_by session.kind state command locality number handle session
 
--- the comparison for entry n, which is skipped if the entity whose value it uses is locked out
+-- the comparison for entry n. It is skipped, and the entry refused, if the entity whose
+-- authorization value the entry uses is locked out
 abbrev pub comparison : Record
     → Whole → ℕ → Option Grant → Entry → Session → Result (Option Grant) Refused
 comparison state command number grant entry session = do
@@ -200,9 +202,9 @@ comparison state command number grant entry session = do
       (failure (check_of grant) number (entry_protection state session grant))
   Ok grant
 
--- the grant of entry n, whose handle names a session; the entry has to authorize this handle or
--- none. A trial session may accompany a command without authorizing a handle, only to encrypt
--- (this device's own choice)
+-- the grant of entry n, whose handle names a session. The entry has to authorize the given handle,
+-- or none. A trial session may be used in an entry that has no handle to authorize, for example to
+-- encrypt a parameter (this device's own choice)
 unfoldable pub session_grant : Record
     → Whole → (locality n : ℕ) → Option Handle → Entry → Session → Result (Option Grant) Refused
 session_grant state command locality number None entry session =

@@ -1,4 +1,4 @@
--- The handle that an entry has to authorize, with the handle's entity, which is looked up only
+-- The handle that an entry has to authorize, together with its entity, which is looked up only
 -- once.
 use Rattle.std.specs.Prelude.{◌≡◌, Option, Some, None}
 use Rattle.tpm_session.specs.declared.session.Session.{Session}
@@ -19,7 +19,7 @@ used_handle used = used.handle
 pub record IsUsed (r : Record) (used : Resolved) : Type 0 where
   pub found : IsFound r used
 
--- the handle that an entry authorizes and the demand, without the handle's entity
+-- the grant: the handle and the demand, without the handle's entity
 abbrev pub grant_by : Granted → Grant
 grant_by granted = record { handle = used_handle granted.used; demand = granted.demand }
 

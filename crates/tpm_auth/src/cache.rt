@@ -1,5 +1,5 @@
-//! What was computed last and may be needed again: the key of the latest HMAC, and the latest Name.
-//! No contract mentions it, because it changes no result.
+//! Caches the key of the latest HMAC and the latest Name, which may be needed again. No contract
+//! mentions the cache, because it changes no result.
 
 ghost use Rattle.std.specs.Prelude.{◌≡◌, ◌≤◌, length};
 ghost use Rattle.std.specs.Str.{bytes_eq};
@@ -22,7 +22,7 @@ pub struct Cache {
 }
 
 impl Cache {
-    /// The HMAC key and the Name before any command.
+    /// Creates the cache of a device that has not executed a command yet.
     pub fn new() -> Cache {
         Cache {
             keyed: KeyedMac::new(),
@@ -31,8 +31,8 @@ impl Cache {
     }
 }
 
-/// The latest Name that was computed, and the encoded public area from which it was computed. It
-/// serves again as long as the area stays the same. Contracts do not see it.
+/// The latest computed Name, and the encoded public area from which it was computed. The Name is
+/// reused as long as the area stays the same. Contracts do not see it.
 #[derive(Drop)]
 pub struct LatestName {
     alg: HashAlg,
@@ -52,7 +52,7 @@ impl Model for LatestName {
 }
 
 impl LatestName {
-    /// The Name of an empty public area.
+    /// Starts with the Name of an empty public area.
     pub fn new() -> LatestName {
         LatestName {
             alg: HashAlg::Sha256,

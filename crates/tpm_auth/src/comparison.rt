@@ -1,5 +1,5 @@
-//! Whether a password is right, and how an entry is refused if its comparison fails or its entity
-//! is locked out (TPM 2.0 Library, Part 1, section 19.4).
+//! Compares passwords, and refuses entries whose comparison fails or whose entity is locked out
+//! (TPM 2.0 Library, Part 1, section 19.4).
 
 ghost use Rattle.std.specs.Prelude.{◌≡◌};
 ghost use Rattle.tpm_types.specs.Rc.{plain};
@@ -47,14 +47,16 @@ pub fn is_locked_out(lockout: &Lockout, protection: Protection) -> bool
     }
 }
 
-/// The refusal of an entry, with or without a grant, whose entity is locked out.
+/// The refusal of an entry whose entity is locked out. The failed check depends on whether the
+/// entry has a handle to authorize.
 pub fn lockout_refusal(grant: Option<Grant>) -> Refused
     ensures { result ≡ refusal (check_of grant) (plain code.Lockout) }
 {
     Refused::by(check_of(grant), ResponseCode::Lockout.anywhere())
 }
 
-/// The check that fails if an entry's comparison fails: G9 with a grant, otherwise G10.
+/// The check that is reported if an entry's comparison fails: G9 if the entry has a handle to
+/// authorize, otherwise G10.
 pub fn check_of(grant: Option<Grant>) -> Check
     ensures { result ≡ check_of grant }
 {

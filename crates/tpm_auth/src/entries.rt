@@ -1,5 +1,5 @@
-//! The checks of each authorization entry on its own (session, attributes, sizes, cipher), made
-//! before it is known what the entry authorizes.
+//! Checks each authorization entry on its own: its session, attributes, sizes and cipher. Only
+//! later checks determine what the entry authorizes.
 
 ghost use Rattle.std.specs.Prelude.{◌≡◌, ◌+◌, ◌≤◌, ◌==◌, [], length, map};
 ghost use Rattle.std.specs.List.{list_any};

@@ -1,5 +1,5 @@
-//! The HMAC of a session's entry: the authorization value in its key, the nonces in its text, and
-//! whether the HMAC is right.
+//! Checks the HMAC of a session's entry. Determines the authorization value in its key and the
+//! nonces in its text.
 
 ghost use Rattle.std.specs.Prelude.{◌≡◌, ◌≤◌, length, map, option_map};
 ghost use Rattle.std.specs.Option.{ForSome};
@@ -22,8 +22,8 @@ use tpm_session::{CommandText, ParameterHashes, Session};
 use tpm_types::SessionType;
 use tpm_types_command::{AuthEntry, Command};
 
-/// Whether a session is bound to an entity in the entity's current state. If the authorization
-/// value has changed, the Name is not looked up.
+/// Whether a session is bound to an entity whose Name and authorization value are still the same.
+/// If the authorization value has changed, the Name is not looked up.
 #[tactic(auto, unfolding(crate::specs::SessionGrant::is_bound_to, tpm_record::specs::Entity::auth_value_of, tpm_record::specs::Entity::name_of))]
 fn is_bound_to<K: Keep>(
     keep: &K,
@@ -44,7 +44,7 @@ fn is_bound_to<K: Keep>(
 }
 
 /// Whether the HMAC key of an entry includes the authorization value of the entity that the entry
-/// authorizes, under a policy with this demand.
+/// authorizes, if the session's policy has this demand.
 #[tactic(auto, unfolding(crate::specs::SessionGrant::takes_value))]
 pub fn takes_value<K: Keep>(
     keep: &K,
@@ -86,7 +86,7 @@ fn key_value<'a, K: Keep>(
     }
 }
 
-/// The authorization value in the HMAC key of an entry with or without a grant.
+/// The authorization value in an entry's HMAC key. It is empty if the entry authorizes nothing.
 #[tactic(auto, unfolding(crate::specs::SessionGrant::used_auth_value))]
 pub fn used_auth_value<'a, K: Keep>(
     keep: &'a K,
@@ -141,8 +141,8 @@ fn encrypting_nonce<'a, K: Keep>(keep: &'a K, entries: &[AuthEntry]) -> &'a [u8]
     }
 }
 
-/// The entries whose sessions' nonces are part of this entry's HMAC text: the later entries, if
-/// this is the first entry and authorizes a handle; otherwise none.
+/// The other entries whose session nonces are part of an entry's HMAC text: all later entries if
+/// the entry is the first one and authorizes a handle, otherwise none.
 fn other_entries<'a, 'b>(command: &'a Command<'b>, number: u8) -> &'a [AuthEntry<'b>]
     ensures { map entry_of result.now ≡ other_entries (whole_of command.now) number }
 {
@@ -156,7 +156,7 @@ fn other_entries<'a, 'b>(command: &'a Command<'b>, number: u8) -> &'a [AuthEntry
     &entries[first..]
 }
 
-/// The authorization value in the HMAC key of an entry that has to authorize this handle.
+/// The authorization value in the HMAC key of an entry that has to authorize a handle.
 #[tactic(auto, unfolding(crate::specs::SessionGrant::used_auth_value, tpm_record::specs::Entity::auth_value_of))]
 fn granted_key_value<'a, K: Keep>(keep: &'a K, session: &Session, granted: &Granted<'a>) -> &'a [u8]
     requires { IsToGrant (K.record_of keep.now) session.now granted.now }
@@ -171,8 +171,8 @@ fn granted_key_value<'a, K: Keep>(keep: &'a K, session: &Session, granted: &Gran
     }
 }
 
-/// The authorization value in the HMAC key of an entry that has to authorize this handle, or no
-/// handle.
+/// The authorization value in the HMAC key of an entry. It is empty if the entry has no handle to
+/// authorize.
 #[tactic(auto, unfolding(crate::specs::SessionGrant::used_auth_value))]
 fn value_in_key<'a, K: Keep>(
     keep: &'a K,
@@ -190,7 +190,8 @@ fn value_in_key<'a, K: Keep>(
     }
 }
 
-/// Whether an entry that has to authorize this handle, or no handle, has the right HMAC.
+/// Whether an entry's HMAC is correct. `granted` is the handle that the entry has to authorize, if
+/// any.
 #[tactic(auto, unfolding(crate::specs::SessionGrant::is_authentic, crate::specs::SessionGrant::entry_parts))]
 pub fn is_authentic<K: Keep>(
     keep: &K,

@@ -1,5 +1,5 @@
-//! The authorization of a whole command. Its entries are checked in order, each for the handle at
-//! the same position; [`Grants`] lists what each authorizes.
+//! Checks the authorization of a whole command. The entries are checked in order, each for the
+//! handle at its position. [`Grants`] lists what each entry authorizes.
 
 ghost use Rattle.tpm_bytes.specs.Reading.{Gives};
 ghost use Rattle.std.specs.Prelude.{◌≡◌, ◌+◌, ◌<◌, ◌≤◌, ℕ, [], ◌∷◌, length, map, not, option_map, slice_get, take};
@@ -31,13 +31,13 @@ use tpm_types::{Check, Handle, Locality, Refused, ResponseCode, SessionKind};
 use tpm_types_command::{AuthEntry, Command};
 use tpm_types_name::Name;
 
-/// The grants of a command's entries: each authorizes a handle or nothing.
+/// The grants of a command's entries. Each entry authorizes one handle or nothing.
 #[derive(Drop)]
 pub struct Grants {
     pub grants: ArrayVec<Option<Grant>, 3>,
 }
 
-/// Checks that the entry with this number is a password for the entity of this handle.
+/// Checks the password in the entry with this number, for the entity of a handle.
 #[tactic(auto, unfolding(crate::specs::Grant::password_grant, tpm_record::specs::Entity::auth_value_of, tpm_record::specs::Entity::is_available, tpm_record::specs::Entity::protection_of))]
 fn check_value<K: Keep>(
     keep: &K,
@@ -71,8 +71,8 @@ fn check_value<K: Keep>(
     }
 }
 
-/// Checks that the entry with this number is a password for the entity that it has to authorize;
-/// if it has nothing to authorize, the password must be empty.
+/// Checks the password in the entry with this number, for the handle that the entry has to
+/// authorize. If there is no such handle, the password must be empty.
 #[tactic(auto, unfolding(crate::specs::Grant::password_grant))]
 fn check_password<K: Keep>(
     keep: &K,
@@ -93,8 +93,8 @@ fn check_password<K: Keep>(
     }
 }
 
-/// Checks the entry with this number, which has to authorize this handle or none; returns what it
-/// authorizes.
+/// Checks the entry with this number, for the handle that it has to authorize, if any. Returns what
+/// the entry authorizes.
 #[tactic(auto, unfolding(crate::specs::Grant::grant))]
 fn check_grant<K: Keep>(
     keep: &K,
@@ -134,8 +134,8 @@ fn check_grant<K: Keep>(
     }
 }
 
-/// Checks these entries, which follow those already granted, and adds what each authorizes.
-/// Returns the error of the first entry that fails.
+/// Checks the remaining entries, after those whose grants are already in `grants`, and adds the
+/// grant of each. Returns the error of the first entry that fails.
 fn check_grants<K: Keep>(
     keep: &K,
     sent: &Sent,
@@ -162,7 +162,7 @@ fn check_grants<K: Keep>(
     check_grants(keep, sent, entries, hashes, cache, grants)
 }
 
-/// Whether the first parameter, a sized buffer, is incomplete.
+/// Whether the first parameter, which has to be a sized buffer, is incomplete.
 fn is_cut(parameters: &[u8]) -> bool
     ensures { result ≡ not (has_first_buffer parameters.now) }
 {
@@ -178,8 +178,8 @@ fn resolved_at<'a>(resolved: &[Resolved<'a>], place: usize) -> Resolved<'a>
     resolved[place]
 }
 
-/// The Name of the next handle, after those with these Names. If the command names the same
-/// handle twice, the first Name is copied.
+/// The Name of the next handle, if `names` contains the Names of the handles before it. A handle
+/// that equals the first one gets a copy of the first Name.
 fn next_name<K: Keep>(keep: &K, sent: &Sent, names: &[Name], latest: &mut LatestName) -> Name
     requires resolved { IsResolved (K.record_of keep.now) sent.now }
     requires named { names.now ≡ map (name_of (K.record_of keep.now))
@@ -215,8 +215,8 @@ fn make_names<K: Keep>(
     }
 }
 
-/// Checks each handle against the entry at its position, then the remaining entries; returns what
-/// each authorizes.
+/// Checks each handle against the entry at its position, and then the remaining entries. Returns
+/// what each entry authorizes.
 fn check_resolved<K: Keep>(keep: &K, sent: &Sent, cache: &mut Cache) -> Result<Grants, Refused>
     requires { IsResolved (K.record_of keep.now) sent.now }
     ensures { Gives granted_by (grants_pass (K.record_of keep.now) (whole_of sent.now.command.now)
@@ -278,7 +278,7 @@ fn first_used<'a, K: Keep>(keep: &'a K, command: &Command) -> Option<Resolved<'a
     }
 }
 
-/// Checks a handle against its command's only entry, a password.
+/// Checks a command whose only entry is a password.
 #[tactic(auto, unfolding(crate::specs::Grant::grant))]
 fn check_one_password<K: Keep>(
     keep: &K,
@@ -332,8 +332,8 @@ pub fn authorize<K: Keep>(
     authorize_with(keep, command, locality, &mut Cache::new())
 }
 
-/// Checks the entries of a command as [`authorize`] does, and keeps in the cache what the answer
-/// and the next command may need again.
+/// Checks the entries of a command as [`authorize`] does, and caches what the response and the next
+/// command may need again.
 #[tactic(auto, unfolding(crate::specs::Grant::authorize))]
 pub fn authorize_with<K: Keep>(
     keep: &K,

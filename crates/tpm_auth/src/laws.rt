@@ -1,4 +1,4 @@
-//! The laws of an accepted authorization.
+//! A law about accepted authorizations.
 
 ghost use Rattle.std.specs.Prelude.{ℕ, IfOk};
 ghost use Rattle.tpm_types_command.specs.Command.{Whole};
@@ -6,7 +6,7 @@ ghost use Rattle.tpm_record.specs.Record.{Record};
 ghost use Rattle.tpm_auth.specs.Grant.{authorize};
 ghost use Rattle.tpm_auth.specs.Granting.{IsGranting};
 
-/// An accepted authorization has passed every check, and each entry has a grant for what it
+/// If an authorization is accepted, every check has passed, and each entry has a grant for what it
 /// authorizes. A proof only: it has no effect at run time.
 #[inline(always)]
 #[tactic(auto, using(crate::proofs::Granting::granting))]

@@ -4,10 +4,10 @@
 //! section 19, and Part 3, sections 5.5 and 5.6).
 //!
 //! [`authorize`] first checks each entry on its own. Then it checks each handle that needs
-//! authorization against the entry at the same position, and returns in [`Grants`] what each
-//! entry authorizes. A [`Cache`] stores the latest HMAC key and Name, so that neither is computed
-//! again. The crate uses tpm_record, and meets the definitions of `specs/` for every implementation
-//! of the record.
+//! authorization against the entry at the same position, and returns in [`Grants`] what each entry
+//! authorizes. A [`Cache`] stores the latest HMAC key and Name, so that neither is computed again.
+//! The code uses tpm_record, and is proved to match the definitions in `specs/` for every
+//! implementation of the record.
 
 mod cache;
 mod comparison;

@@ -1,6 +1,6 @@
-//! Decides what a session's entry authorizes, by its HMAC or by its policy: whether the session
-//! may authorize the handle, whether the entity whose value it uses is locked out, and whether its
-//! comparison succeeds.
+//! Decides what a session's entry authorizes, by its HMAC or by its policy. Checks whether the
+//! session may authorize the handle, whether the entity whose authorization value the entry uses is
+//! locked out, and whether the comparison succeeds.
 
 ghost use Rattle.std.specs.Prelude.{◌≡◌, ◌≤◌, length, option_map};
 ghost use Rattle.std.specs.Option.{ForSome};
@@ -27,7 +27,7 @@ use tpm_session::{ParameterHashes, Protection, Session};
 use tpm_types::{Check, Handle, Refused, ResponseCode, SessionType};
 use tpm_types_command::Command;
 
-/// The handle that an entry authorizes, with the policy's demand for it.
+/// A handle that an entry authorizes, and what the policy demands in that entry.
 #[derive(Clone, Copy, PartialEq, Eq)]
 pub struct Grant {
     pub handle: Handle,
@@ -53,8 +53,8 @@ fn or_protection(protection: Protection, other: Protection) -> Protection
     }
 }
 
-/// The protection of the entity whose authorization value a session's entry uses, if the entry
-/// has to authorize this handle.
+/// The dictionary-attack protection for a session's entry that has to authorize this handle: that
+/// of the entity whose authorization value the entry uses.
 #[tactic(auto, unfolding(crate::specs::SessionGrant::entry_protection, tpm_record::specs::Entity::protection_of))]
 fn granted_protection<K: Keep>(keep: &K, session: &Session, granted: &Granted) -> Protection
     requires { IsToGrant (K.record_of keep.now) session.now granted.now }
@@ -69,7 +69,8 @@ fn granted_protection<K: Keep>(keep: &K, session: &Session, granted: &Granted) -
     }
 }
 
-/// The protection of the entity whose authorization value a session's entry uses.
+/// The dictionary-attack protection for a session's entry: that of the entity whose authorization
+/// value the entry uses.
 #[tactic(auto, unfolding(crate::specs::SessionGrant::entry_protection))]
 fn entry_protection<K: Keep>(keep: &K, session: &Session, granted: Option<Granted>) -> Protection
     requires { ForSome granted (IsToGrant (K.record_of keep.now) session.now) }
@@ -82,8 +83,8 @@ fn entry_protection<K: Keep>(keep: &K, session: &Session, granted: Option<Grante
     }
 }
 
-/// Whether the entity whose authorization value a session's entry uses is locked out. Its
-/// protection matters only if something is locked out.
+/// Whether a session's entry uses the authorization value of an entity that is locked out. The
+/// entity's protection is looked up only if something is locked out.
 fn is_barred<K: Keep>(keep: &K, session: &Session, granted: Option<Granted>) -> bool
     requires { ForSome granted (IsToGrant (K.record_of keep.now) session.now) }
     ensures { result ≡ is_locked_out (K.record_of keep.now).fixed.lockout
@@ -94,7 +95,7 @@ fn is_barred<K: Keep>(keep: &K, session: &Session, granted: Option<Granted>) -> 
         && is_locked_out(lockout, entry_protection(keep, session, granted))
 }
 
-/// The policy of a handle's entity, borrowed from the entity that the code found.
+/// The policy of a handle's entity, if it has one. The result borrows from the entity.
 fn policy_of<'a>(resolved: &'a Resolved) -> Option<EntityPolicy<'a>>
     ensures { option_map entity_parts result
         ≡ entity_policy (entity_seen resolved.now.entity) }
@@ -106,7 +107,7 @@ fn policy_of<'a>(resolved: &'a Resolved) -> Option<EntityPolicy<'a>>
     })
 }
 
-/// The use that a policy session's entry with this number has to authorize.
+/// Describes the use that a policy session's entry has to authorize.
 #[tactic(auto, unfolding(crate::specs::SessionGrant::use_of, tpm_record::specs::Entity::is_available, tpm_record::specs::Entity::written_of, tpm_record::specs::Entity::policy_of))]
 fn use_of<'a, K: Keep>(
     keep: &K,
@@ -140,7 +141,8 @@ fn use_of<'a, K: Keep>(
     }
 }
 
-/// The demand of a session's policy for this handle, if the policy authorizes the use.
+/// Returns what the session's policy demands in its entry, if the policy authorizes the use of this
+/// handle.
 fn policy_demand<K: Keep>(
     keep: &K,
     sent: &Sent,
@@ -165,8 +167,8 @@ fn policy_demand<K: Keep>(
     }
 }
 
-/// The demand of a session for this handle, in addition to the comparison, if it can authorize the
-/// handle.
+/// Returns what a session demands in its entry, in addition to the comparison, if the session can
+/// authorize this handle.
 #[tactic(auto, unfolding(crate::specs::SessionGrant::demanded, tpm_record::specs::Entity::is_available))]
 fn demand_of<K: Keep>(
     keep: &K,
@@ -232,7 +234,7 @@ fn comparison_holds<K: Keep>(
     }
 }
 
-/// The handle that an entry authorizes and the demand, without the handle's entity.
+/// Returns the grant: the handle and the demand, without the handle's entity.
 fn grant_of(granted: Option<Granted>) -> Option<Grant>
     ensures { result ≡ option_map grant_by granted.entry }
 {
@@ -242,8 +244,8 @@ fn grant_of(granted: Option<Granted>) -> Option<Grant>
     }
 }
 
-/// The grant of a session's entry that has to authorize this handle or none, if its comparison
-/// succeeds.
+/// Makes the comparison for a session's entry, unless its entity is locked out. Returns the entry's
+/// grant, if it has a handle to authorize.
 #[inline(always)]
 fn compare<K: Keep>(
     keep: &K,
@@ -271,8 +273,8 @@ fn compare<K: Keep>(
     Err(failure(check_of(grant), by.number, protection))
 }
 
-/// The grant of a session's entry for this handle or for none, if the session can authorize it
-/// and the comparison succeeds.
+/// Checks a session's entry: whether the session can authorize the handle, if there is one, and
+/// whether the comparison succeeds. Returns the entry's grant, if any.
 #[tactic(auto, unfolding(crate::specs::SessionGrant::session_grant))]
 pub fn check_session<K: Keep>(
     keep: &K,
@@ -304,8 +306,8 @@ pub fn check_session<K: Keep>(
     compare(keep, sent.command, by, granted, hashes, &mut cache.keyed)
 }
 
-/// If a session's entry is accepted with an empty HMAC, its key was empty, or a policy demanded a
-/// password. A proof only: it has no effect at run time.
+/// If a session's entry is accepted with an empty HMAC, then the HMAC key was empty or a policy
+/// demanded a password. A proof only: it has no effect at run time.
 #[inline(always)]
 #[tactic(auto, using(crate::proofs::EmptyHmac::no_key))]
 pub fn empty_hmac_laws()

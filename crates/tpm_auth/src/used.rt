@@ -1,4 +1,4 @@
-//! The handle that an entry has to authorize, with the handle's entity, which is looked up only
+//! The handle that an entry has to authorize, together with its entity, which is looked up only
 //! once.
 
 ghost use Rattle.std.specs.Prelude.{◌≡◌, length, slice_get, take};
@@ -41,7 +41,7 @@ pub struct Granted<'a> {
 }
 
 impl Granted<'_> {
-    /// The handle that an entry authorizes and the demand, without the handle's entity.
+    /// Returns the grant: the handle and the demand, without the handle's entity.
     pub fn grant(&self) -> Grant
         ensures { result ≡ grant_by self.now }
     {

@@ -1,4 +1,4 @@
--- The body of an image: decoding returns a kept state exactly if the bytes begin with its
+-- The body of an image: decoding returns a non-volatile state exactly if the bytes begin with its
 -- encoding. Also, the largest size of a body.
 use Rattle.tpm_image_text.specs.Sizes.{body_size}
 use Rattle.std.proofs.Common.{◌≡◌, ℕ, ◌^◌, ◌<◌, ◌≤◌, List, ◌++◌, length, Ok, refl, arith, length-append}
@@ -21,15 +21,16 @@ use Rattle.tpm_image_text.proofs.VersionLaws.{indices_within, limits_small, limi
 
 -- ---- encoding and decoding
 
--- the indices of a device are stored correctly in a version if they fit the version's limits
+-- if the NV indices of a device are within the limits of a version, an image of this version can
+-- store them
 stored : (version : Version) (kept : NonVolatile) → IsNonVolatile kept → IsWithin version kept → AreStored version kept.indices
 stored version kept is within = record { ascends = is.nv.ascends; few = within.few; small = within.small; each = is.nv.indices }
 
--- the indices of a device always fit the limits of version 2
+-- the NV indices of a device are always within the limits of version 2
 pub within_device : (kept : NonVolatile) → IsNonVolatile kept → IsWithin Two kept
 within_device kept is = record { few = is.nv.few; small = is.nv.small }
 
--- the indices of a version are stored like those of a device, within the limits of the version
+-- NV indices that an image of some version can store are valid contents of the device's NV memory
 indices_is : (version : Version) (kept : NonVolatile) → kept.state.max_count < 2 ^ 64 → AreStored version kept.indices → IsContents (nv_of kept)
 indices_is version kept count are = record { ascends = are.ascends; few = omega (arith, are.few, indices_within version); small = omega (arith, are.small, space_within version); indices = are.each; max_count = count }
 

@@ -1,4 +1,4 @@
--- Reading entries one after another, each with a higher key than the entry before it.
+-- Lemmas about reading entries one after another, each with a higher key than the entry before it.
 use Rattle.std.proofs.Common.{arith, ◌≡◌, ℕ, zero, suc, ◌+◌, ◌-◌, ◌<◌, ◌≤◌, Bool, true, false, List, [], ◌∷◌, ◌++◌, Result, Ok, Err, IfOk, refl, sym, ap, ◌∙◌, append-nil}
 use Rattle.std.specs.Prelude.{nat_le, not}
 use Rattle.std.proofs.lemmas.Bool.{le-leb, lt-leb}
@@ -30,7 +30,7 @@ module _ {X : Type 0} (at : List ℕ → Result ((ℕ × X) × List ℕ) Malform
       refused_if (not (nat_le low first.0.0)) malformed >>= λ in_order.
       entries_from count (first.0.0 + 1) first.1 >>= before first.0
 
-  -- testing that all entries ascend is testing the first one and then the others
+  -- testing that all entries ascend is the same as testing the first one and then the others
   one_passes : (in_order : Bool) (e : ℕ × X) (others : Result (Entries X × List ℕ) Malformed) (low : ℕ) → nat_le low e.0 ≡ in_order → (others >>= before e >>= passed_from low) ≡ (refused_if (not in_order) malformed >>= λ first. others >>= passed_from (e.0 + 1) >>= before e)
   one_passes true e (Err fault) low is = refl
   one_passes false e (Err fault) low is = refl
@@ -53,32 +53,32 @@ module _ {X : Type 0} (at : List ℕ → Result ((ℕ × X) × List ℕ) Malform
           one_passes (nat_le low first.0.0) first.0 (many_at at count first.1) low refl
           ∙ ap (λ (r : Result (Entries X × List ℕ) Malformed). refused_if (not (nat_le low first.0.0)) malformed >>= λ in_order. r >>= before first.0) (are (first.0.0 + 1) first.1)
 
-  -- the overall result: the entries so far, followed by those that are still to be read
+  -- the result of the whole loop: the entries so far, followed by those that remain to be read
   unfoldable pub entries_left : (count place low : ℕ) (so_far : Entries X) (text : List ℕ) → Result (Entries X × List ℕ) Malformed
   entries_left count place low so_far text = behind so_far (entries_from (count - place) low text)
 
-  -- before the first entry is read, the overall result is that of reading all entries
+  -- before the first entry is read, the result of the whole loop is that of reading all entries
   pub entries_begun : (count : ℕ) (so_far : Entries X) (text : List ℕ) → so_far ≡ [] → entries_left count 0 0 so_far text ≡ passing (ascend_from 0) (many_at at count) text
   unfolding entries_left
   entries_begun count so_far text none =
       let all : count - 0 ≡ count = omega arith in
       rw (none, all) (behind_none (entries_from count 0 text) ∙ sym (entries_are count 0 text))
 
-  -- reading one more entry does not change the overall result
+  -- reading one more entry does not change the result of the whole loop
   pub entries_more : (count place low next : ℕ) (so_far new : Entries X) (e : ℕ × X) (text rest : List ℕ) → place < count → at text ≡ Ok (e, rest) → low ≤ e.0 → next ≡ e.0 + 1 → new ≡ so_far ++ e ∷ [] → entries_left count (place + 1) next new rest ≡ entries_left count place low so_far text
   unfolding entries_left entries_from
   entries_more count place low next so_far new e text rest below is up after more =
       let left : count - place ≡ suc (count - (place + 1)) = omega (arith, below) in
       rw (more, after, left, is, le-leb low e.0 up) (moved so_far e (entries_from (count - (place + 1)) (e.0 + 1) rest))
 
-  -- after all entries are read, the overall result is these entries
+  -- after all entries are read, the result of the loop consists of these entries
   pub entries_done : (count place low : ℕ) (so_far : Entries X) (text : List ℕ) → place ≡ count → entries_left count place low so_far text ≡ Ok (so_far, text)
   unfolding entries_left entries_from
   entries_done count place low so_far text whole =
       let none : count - place ≡ 0 = omega (arith, whole) in
       rw none (ap (λ (l : Entries X). let done : Result (Entries X × List ℕ) Malformed = Ok (l, text) in done) (append-nil so_far))
 
-  -- if an entry is malformed, or its key is too low, the overall result is malformed
+  -- if an entry is malformed, or its key is too low, the result of the whole loop is malformed
   pub entries_cut : (count place low : ℕ) (so_far : Entries X) (text : List ℕ) → place < count → IfOk (at text) (λ x. x.0.0 < low) → entries_left count place low so_far text ≡ Err malformed
   unfolding entries_left entries_from
   entries_cut count place low so_far text below misfits = by (at text) refl misfits
@@ -90,7 +90,7 @@ module _ {X : Type 0} (at : List ℕ → Result ((ℕ × X) × List ℕ) Malform
       by (Err fault) is under = rw (left, is) refl
       by (Ok x) is under = rw (left, is, lt-leb low x.0.0 under) refl
 
-  -- if reading an entry fails, its fault is the fault of the whole call
+  -- if reading an entry fails, the whole call returns the same fault
   pub filled_cut : (can : Bool) (low : ℕ) (so_far new filled : Entries X) (text rest behind : List ℕ) (whole : Result (Entries X × List ℕ) Malformed) (fault : FillFault) → (IfOk (at text) (λ x. x.0.0 < low) → whole ≡ Err malformed) → Appends can (at text) low (λ e. e.0 < low) so_far (Err fault) new rest → Fills can whole filled (Err fault) behind
   filled_cut can low so_far new filled text rest behind whole unfilled.Malformed ends misfits = ends misfits
   filled_cut can low so_far new filled text rest behind whole unfilled.NoMemory ends may = may

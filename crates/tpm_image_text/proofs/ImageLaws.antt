@@ -1,5 +1,5 @@
--- Images: decoding returns a kept state exactly if the text is its image. No proper prefix of an
--- image is an image.
+-- Images: decoding returns a non-volatile state exactly if the text is its image. No proper prefix
+-- of an image is an image.
 use Rattle.std.proofs.Common.{◌≡◌, ℕ, ◌+◌, ◌<◌, ◌≤◌, List, length, take, Result, Ok, Err, refl, ap, ◌∙◌, arith}
 use Rattle.std.specs.Prelude.{◌↔◌}
 use Rattle.std.proofs.lemmas.List.{length-take}
@@ -21,7 +21,7 @@ use Rattle.tpm_image_text.proofs.FrameLaws.{cut_behind, cut_short, framed_again,
 
 -- ---- encoding and decoding an image
 
--- the kept state in the body, if the frame is valid
+-- the non-volatile state in the body, if the frame is valid
 abbrev kept_by : Result (Version × List ℕ) ImageFault → Result NonVolatile ImageFault
 kept_by framed = framed >>= λ said. or_fault (body_of said.0 said.1) fault.Body
 
@@ -39,7 +39,7 @@ image_taken text kept fits e =
     let body = body_taken a.0.0 a.0.1 kept frame.1 (or_fault_ok (body_of a.0.0 a.0.1) fault.Body kept a.2) in
     (a.0.0, body.1, (body.2, frame.0 ∙ ap (framed_text a.0.0) body.0))
 
--- decoding bytes returns a kept state exactly if they are its image in some version
+-- decoding bytes returns a non-volatile state exactly if they are its image in some version
 pub image_is : (text : List ℕ) (kept : NonVolatile) → AreBytes text → (image_of text ≡ Ok kept) ↔ ((version : Version) × IsNonVolatile kept × IsImage version kept text)
 image_is text kept fits = (image_taken text kept fits, λ is. ap image_of is.2.1 ∙ image_again is.0 kept is.1 is.2.0)
 
@@ -66,7 +66,7 @@ front_cut version kept n is long less =
 
 -- ---- records
 
--- powering on with the kept state of a record has the same result as a power cycle
+-- powering on with the non-volatile state of a record has the same result as a power cycle
 pub powered_again : (r : Record) → powered_on (kept_of r) ≡ cycled r
 powered_again r = refl
 

@@ -69,7 +69,7 @@ index_of f = record { public = f.0.0; auth_value = f.0.1; bytes = f.1 }
 abbrev keyed : NvIndex → ℕ × NvIndex
 keyed index = (index.public.nv_index.number, index)
 
--- The fields of an NV index fit their widths.
+-- Each field of an NV index has an allowed value and size.
 record HasFields (index : NvIndex) : Type 0 where
   public : IsNvPublic index.public
   auth_value : IsAuthValue index.auth_value
@@ -106,7 +106,7 @@ index_spelled = made_of keyed (λ e. e.1) to from (passing_spelled is_index fiel
 
 -- ---- all NV indices
 
--- What holds for the NV indices in an image of this version.
+-- The properties of the NV indices in an image of this version.
 pub record AreStored (version : Version) (indices : Entries NvIndex) : Type 0 where
   pub ascends : Ascends indices
   pub few : length indices ≤ index_limit version

@@ -55,7 +55,7 @@ entries_full limit at count place low so_far text below full = rw left (by (at t
     by (Err fault) over = refl
     by (Ok x) over = in_order (nat_le low x.0.0) x.0 (entries_from at (count - (place + 1)) (x.0.0 + 1) x.1) over
 
--- if reading an index fails, its fault is the fault of the whole call
+-- if reading an index fails, the whole call returns the same fault
 pub indices_cut : (limit : ℕ) (can : Bool) (at : List ℕ → Result ((ℕ × NvIndex) × List ℕ) Malformed) (count place low : ℕ) (so_far new filled : Entries NvIndex) (text rest behind : List ℕ) (whole : Result (Entries NvIndex × List ℕ) Malformed) (fault : FillFault) → limit ≤ nv_space_limit → place < count → (entries_left at count place low so_far text >>= with_space limit) ≡ whole → Appends can (at text) low (λ e. (e.0 < low) ⊎ (nv_space_limit < bytes_of so_far + e.1.public.data_size)) so_far (Err fault) new rest → Fills can whole filled (Err fault) behind
 indices_cut limit can at count place low so_far new filled text rest behind whole unfilled.NoMemory less below is may = may
 indices_cut limit can at count place low so_far new filled text rest behind whole unfilled.Malformed less below is misfits = sym is ∙ by (at text) refl misfits
@@ -65,11 +65,12 @@ indices_cut limit can at count place low so_far new filled text rest behind whol
     by (Ok x) read (inl under) = ap (λ (r : Result (Entries NvIndex × List ℕ) Malformed). r >>= with_space limit) (entries_cut at count place low so_far text below (rw read under))
     by (Ok x) read (inr over) = entries_full limit at count place low so_far text below (rw read (omega (arith, over, less)))
 
--- if there is space for all indices that were read, the overall result is these indices
+-- if there is space for all indices that were read, the result of the whole loop consists of these
+-- indices
 pub indices_done : (limit : ℕ) (at : List ℕ → Result ((ℕ × NvIndex) × List ℕ) Malformed) (count place low : ℕ) (so_far : Entries NvIndex) (text : List ℕ) → place ≡ count → bytes_of so_far ≤ limit → (entries_left at count place low so_far text >>= with_space limit) ≡ Ok (so_far, text)
 indices_done limit at count place low so_far text whole small = rw (entries_done at count place low so_far text whole, le-leb (bytes_of so_far) limit small) refl
 
--- if there is no space for all indices that were read, the overall result is malformed
+-- if there is no space for all indices that were read, the result of the whole loop is malformed
 pub indices_over : (limit : ℕ) (at : List ℕ → Result ((ℕ × NvIndex) × List ℕ) Malformed) (count place low : ℕ) (so_far : Entries NvIndex) (text : List ℕ) → place ≡ count → limit < bytes_of so_far → (entries_left at count place low so_far text >>= with_space limit) ≡ Err malformed
 indices_over limit at count place low so_far text whole over = rw (entries_done at count place low so_far text whole, lt-leb (bytes_of so_far) limit over) refl
 

@@ -29,7 +29,7 @@ record_small version r is = image_small version (kept_of r) (kept_is r is)
 pub record_cut : (version : Version) (r : Record) (n : ℕ) → IsRecord r → 42 ≤ n → n < length (image_text version (kept_of r)) → image_of (take n (image_text version (kept_of r))) ≡ Err fault.Length
 record_cut version r n is long less = front_cut version (kept_of r) n (kept_is r is) long less
 
--- ---- the kept state without Clock
+-- ---- the non-volatile state without Clock
 
 without_clock : (r : Record) → IsRecord r → IsNonVolatile (kept_but_clock r)
 without_clock r is =
@@ -58,7 +58,7 @@ kept_alike r s is are same =
         body_again Two (kept_but_clock r) kept (within_device (kept_but_clock r) kept)
 
 module _ {M : Type 0} (record_of : M → Record) (can : Bool) (text : List ℕ) where
-  -- a text that opens is an image of the state that the opened device keeps
+  -- a text that opens is an image of the opened device's non-volatile state
   pub opened_found : (result : Result M ImageFault) → AreBytes text → Opens record_of can text result → IfOk result (λ machine. (version : Version) × (kept : NonVolatile) × IsNonVolatile kept × IsImage version kept text × (record_of machine ≡ powered_on kept))
   opened_found (Ok machine) fits opens =
       let t = image_taken text opens.0 fits opens.1 in

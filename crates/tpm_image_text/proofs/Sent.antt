@@ -1,5 +1,5 @@
--- If a text is appended in two parts, and the first or the second part is cut off, a prefix of
--- the whole text is appended.
+-- If a text is appended in two parts, and either of them is cut off, a prefix of the whole text is
+-- appended.
 use Rattle.std.proofs.Common.{ℕ, List, ◌++◌, Option, Some, None, ap, ◌∙◌, append_assoc, sym}
 use Rattle.std.specs.Io.KnownBytes.{Appends}
 use Rattle.tpm_bytes.specs.Tap.{AppendsFront}

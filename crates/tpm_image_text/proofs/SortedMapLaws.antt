@@ -1,4 +1,4 @@
--- Entries in an image: what follows from the test for ascending keys, and what holds for each
+-- Entries in an image: the consequences of the test for ascending keys, and the properties of each
 -- entry.
 use Rattle.std.proofs.Common.{◌≡◌, ℕ, ◌+◌, ◌<◌, Bool, true, false, [], ◌∷◌, refl, arith}
 use Rattle.std.specs.Prelude.{◌&&◌, nat_le}

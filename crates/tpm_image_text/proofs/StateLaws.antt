@@ -183,7 +183,7 @@ state_of p = record {
 eight_texts : (a b c d e f g h : List ℕ) → a ++ b ++ c ++ d ++ e ++ f ++ g ++ h ≡ a ++ (b ++ (c ++ (d ++ (e ++ (f ++ (g ++ (h ++ [])))))))
 eight_texts a b c d e f g h = simp (append_assoc, append-nil) refl
 
--- A kept state can be encoded: its counts fit their fields.
+-- The fixed part of a non-volatile state can be encoded: its counts fit their fields.
 abbrev pub HasText : KeptState → Type 0
 HasText s = IsKeptState s × (s.max_count < 2 ^ 64)
 

@@ -1,5 +1,5 @@
--- Writing elements one after another: the text so far, followed by the texts of the elements
--- still to be written, is the whole text.
+-- Lemmas about writing elements one after another. At each point, the text so far, followed by the
+-- encodings of the elements that remain, is the whole text.
 use Rattle.tpm_image_text.specs.Sizes.{text_size}
 use Rattle.std.proofs.Math.Nat.{mul-le-mul_left}
 use Rattle.std.proofs.Common.{arith, ◌*◌, ◌^◌, ◌≤◌, ◌≡◌, ℕ, ◌+◌, ◌<◌, List, ◌++◌, length, drop, get_or, sym, ap, ◌∙◌, append_assoc, refl}
@@ -7,7 +7,7 @@ use Rattle.std.specs.List.{flat_map}
 use Rattle.std.proofs.lemmas.List.{drop_more}
 use Rattle.std.proofs.lemmas.List.Concat.{flat_map-cons}
 
--- writing one more element does not change the whole text that results
+-- writing one more element does not change the resulting whole text
 pub written_more : {X : Type 0} (text_of : X → List ℕ) (text new whole : List ℕ) (xs : List X) (i : ℕ) (d : X) → i < length xs → new ≡ text ++ text_of (get_or xs i d) → text ++ flat_map text_of (drop i xs) ≡ whole → new ++ flat_map text_of (drop (i + 1) xs) ≡ whole
 written_more text_of text new whole xs i d below more so_far =
     let x = get_or xs i d in

@@ -300,8 +300,7 @@ index_in text = do
   index ← passing is_index fields_of_index_in text
   Ok ((index.0.public.nv_index.number, index.0), index.1)
 
--- the total size of the data that these NV indices have or will have; then, whether a limit allows
--- this size
+-- the total data size of these NV indices, written or not; and whether it is within a limit
 abbrev pub bytes_of : Entries NvIndex → ℕ
 bytes_of indices = sum_by (λ e. e.1.public.data_size) indices
 
@@ -372,6 +371,6 @@ kept_in version text = do
     indices.1,
   )
 
--- the kept state in a body, which must take up all of the bytes
+-- the non-volatile state in a body, which must take up all of the bytes
 unfoldable pub body_of : Version → List ℕ → Result NonVolatile Malformed
 body_of version text = filling (kept_in version) text

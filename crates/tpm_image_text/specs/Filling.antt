@@ -36,7 +36,8 @@ Appends {X} can read lowest Misfits old (Ok next) new rest =
 Appends can read lowest Misfits old (Err unfilled.Malformed) new rest = IfOk read (λ x. Misfits x.0)
 Appends can read lowest Misfits old (Err unfilled.NoMemory) new rest = can ≡ true
 
--- the fixed part of a record, with the kept state restored and both lockout timers restarted
+-- the fixed part of a record, with the non-volatile state restored and both lockout timers
+-- restarted
 abbrev pub with_state : Fixed → KeptState → Fixed
 with_state fixed state = record fixed {
   saved = state.saved;
@@ -48,8 +49,8 @@ with_state fixed state = record fixed {
   restart_count = state.restart_count;
 }
 
--- The kept state was restored to the fixed part of a record, and the result is the largest value
--- that a counter ever had; or the text is malformed.
+-- The non-volatile state was restored to the fixed part of a record, and the result is the largest
+-- value that a counter ever had; or the text is malformed.
 abbrev pub Restores : Result (KeptState × List ℕ) Malformed
     → Fixed → Result ℕ Malformed → Fixed → List ℕ → Type 0
 Restores read old (Ok max_count) new rest =
@@ -57,17 +58,17 @@ Restores read old (Ok max_count) new rest =
     × (max_count ≡ state.max_count)
 Restores read old (Err fault) new rest = read ≡ Err fault
 
--- The record became that of a device that was powered on with the kept state in the text; or the
--- text is malformed; or an allocation failed, in which case the text may be anything.
+-- The record became that of a device that was powered on with the non-volatile state in the text;
+-- or the text is malformed; or an allocation failed, in which case the text may be anything.
 abbrev pub PowersOn : Bool → Result NonVolatile Malformed → Result (Unit {0}) FillFault
     → Record → Type 0
 PowersOn can read (Ok done) new = (kept : NonVolatile) × (read ≡ Ok kept) × (new ≡ powered_on kept)
 PowersOn can read (Err unfilled.Malformed) new = read ≡ Err malformed
 PowersOn can read (Err unfilled.NoMemory) new = can ≡ true
 
--- The record became that of a device that was powered on with the kept state at the beginning of
--- the text, and `rest` is left to read; or the text is malformed; or an allocation failed, in which
--- case the text may be anything.
+-- The record became that of a device that was powered on with the non-volatile state at the
+-- beginning of the text, and `rest` remains to be read; or the text is malformed; or an allocation
+-- failed, in which case the text may be anything.
 abbrev pub PowersOnFrom : Bool → Result (NonVolatile × List ℕ) Malformed
     → Result (Unit {0}) FillFault → Record → (rest : List ℕ) → Type 0
 PowersOnFrom can read (Ok done) new rest =
@@ -75,8 +76,8 @@ PowersOnFrom can read (Ok done) new rest =
 PowersOnFrom can read (Err unfilled.Malformed) new rest = read ≡ Err malformed
 PowersOnFrom can read (Err unfilled.NoMemory) new rest = can ≡ true
 
--- The result is the state of a device that was powered on with the kept state in the text; or the
--- text is malformed; or an allocation failed.
+-- The result is the state of a device that was powered on with the non-volatile state in the text;
+-- or the text is malformed; or an allocation failed.
 abbrev pub Filled : {K : Type 0} → (K → Record) → Bool → Result NonVolatile Malformed
     → Result K FillFault → Type 0
 Filled record_of can read (Ok keep) =

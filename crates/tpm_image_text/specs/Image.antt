@@ -11,22 +11,22 @@ use Rattle.tpm_image_text.specs.declared.fault.ImageFault.{ImageFault}
 use Rattle.tpm_image_text.specs.declared.fault.ImageFault.TheVariants as fault
 use Rattle.tpm_image_text.specs.declared.version.Version.{Version}
 
--- the image of a kept state, in the given version
+-- the image of a non-volatile state, in the given version
 unfoldable pub image_text : Version → NonVolatile → List ℕ
 image_text version kept = framed_text version (image_body_text version kept)
 
--- A kept state fits the limits of a version.
+-- A non-volatile state fits the limits of a version.
 pub record IsWithin (version : Version) (kept : NonVolatile) : Type 0 where
   pub few : length kept.indices ≤ index_limit version
   pub small : bytes_of kept.indices ≤ space_limit version
 
--- The text is the image of a kept state in this version, and the state fits the limits of the
--- version.
+-- The text is the image of a non-volatile state in this version, and the state fits the limits of
+-- the version.
 abbrev pub IsImage : Version → NonVolatile → List ℕ → Type 0
 IsImage version kept text = IsWithin version kept × (text ≡ image_text version kept)
 
--- the kept state that an image encodes, or the first fault of the text: Short, Magic, Version,
--- Length, Digest, Body
+-- the non-volatile state that an image encodes, or the first fault of the text: Short, Magic,
+-- Version, Length, Digest, Body
 abbrev pub image_of : List ℕ → Result NonVolatile ImageFault
 image_of text = do
   framed ← framed_body text

@@ -5,14 +5,14 @@ use Rattle.tpm_image_text.specs.Body.{image_body_text}
 use Rattle.tpm_image_text.specs.NonVolatile.{NonVolatile, kept_of}
 use Rattle.tpm_image_text.specs.declared.version.Version.TheVariants.{Two}
 
--- a kept state with the given value of Clock
+-- a non-volatile state with the given value of Clock
 abbrev pub with_clock : ℕ → NonVolatile → NonVolatile
 with_clock clock kept = record kept { state = record kept.state { clock = clock } }
 
--- the kept state of a record, with Clock set to 0
+-- the non-volatile state of a record, with Clock set to 0
 abbrev pub kept_but_clock : Record → NonVolatile
 kept_but_clock r = with_clock 0 (kept_of r)
 
--- the text of a record's kept state, with Clock set to 0
+-- the text of a record's non-volatile state, with Clock set to 0
 abbrev pub kept_text : Record → List ℕ
 kept_text r = image_body_text Two (kept_but_clock r)

@@ -14,10 +14,10 @@ use Rattle.tpm_record.specs.Record.{Record, no_objects, no_sessions}
 use Rattle.tpm_record.specs.Saved.{IsSavedState, SavedState}
 use Rattle.tpm_record.specs.declared.hierarchy.Hierarchies.{Hierarchies}
 
--- the fixed part of a kept state: the hierarchies; whether TPM2_Clear is refused; failed tries,
--- their parameters and whether lockoutAuth is disabled; Clock and the counts of TPM Resets and TPM
--- Restarts; the largest value that a counter ever had; and the state that the last TPM2_Shutdown
--- saved
+-- the fixed part of a non-volatile state: the hierarchies; whether TPM2_Clear is refused; failed
+-- tries, their parameters and whether lockoutAuth is disabled; Clock and the counts of TPM Resets
+-- and TPM Restarts; the largest value that a counter ever had; and the state that the last
+-- TPM2_Shutdown saved
 pub record KeptState : Type 0 where
   pub hierarchies : Hierarchies
   pub disable_clear : Bool
@@ -28,7 +28,7 @@ pub record KeptState : Type 0 where
   pub max_count : ℕ
   pub saved : SavedState
 
--- a kept state: the fixed part, the persistent objects and the NV indices
+-- a non-volatile state: the fixed part, the persistent objects and the NV indices
 pub record NonVolatile : Type 0 where
   pub state : KeptState
   pub persistent : Entries Object
@@ -76,7 +76,8 @@ powered_on kept = record {
   nv = nv_of kept;
 }
 
--- Each part of the kept state is within the limits that hold for it in every record.
+-- Each field of the fixed part of a non-volatile state is within the limits that hold for it in
+-- every record.
 pub record IsKeptState (state : KeptState) : Type 0 where
   pub hierarchies : IsHierarchies state.hierarchies
   pub lockout : IsLockout (restored state.lockout)

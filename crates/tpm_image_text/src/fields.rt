@@ -17,7 +17,7 @@ use tpm_types::{
     read_yes_no, trimmed,
 };
 
-/// The size of the limits, in bytes. The three constants after it are the largest sizes of the
+/// The size of the encoded limits, in bytes. The next three constants are the largest sizes of the
 /// fixed part, the persistent objects and the NV indices.
 const LIMITS_SIZE: usize = 6;
 

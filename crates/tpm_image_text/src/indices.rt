@@ -141,8 +141,8 @@ fn add_indices<N: Indices>(
     Ok(())
 }
 
-/// Reads the NV indices, within the limits of a version, into a device that has none. Leaves the
-/// largest value that a counter ever had unchanged.
+/// Reads the NV indices, within the limits of a version, into a device that has none. Does not
+/// change the largest value that a counter ever had.
 #[tactic(auto, unfolding(crate::specs::Body::indices_in))]
 pub fn read_indices<N: Indices>(
     version: Version,

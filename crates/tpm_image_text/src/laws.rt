@@ -1,4 +1,4 @@
-//! What holds for every image.
+//! Laws about every image.
 
 ghost use Rattle.std.specs.Prelude.{◌≡◌, ◌≤◌, ◌<◌, ℕ, List, Ok, Err, length, take};
 ghost use Rattle.tpm_image_text.specs.Image.{IsImage, IsWithin, image_of, image_text};
@@ -13,8 +13,9 @@ ghost use Rattle.tpm_record.specs.IsRecord.{IsRecord};
 ghost use Rattle.tpm_record.specs.Record.{Record};
 
 /// Every device has an image in version 2. The image of a device, in either version, determines the
-/// kept state, and does not exceed the largest size. Powering on with the kept state of a device
-/// results in the same device as a power cycle. A proof only: it has no effect at run time.
+/// non-volatile state, and does not exceed the largest size. Powering on with the non-volatile
+/// state of a device results in the same device as a power cycle. A proof only: it has no effect at
+/// run time.
 #[inline(always)]
 #[tactic(auto, using(crate::proofs::RecordLaws::record_image, crate::proofs::RecordLaws::record_again, crate::proofs::RecordLaws::record_small, crate::proofs::ImageLaws::powered_again))]
 pub fn image_laws()
@@ -27,7 +28,7 @@ pub fn image_laws()
     ensures cycled { (r : Record) → powered_on (kept_of r) ≡ cycled r }
 {}
 
-/// Two records with the same kept text keep the same state, except for Clock.
+/// If two records have the same kept text, they have the same non-volatile state, except for Clock.
 #[inline(always)]
 #[tactic(auto, using(crate::proofs::RecordLaws::kept_alike))]
 pub fn kept_text_laws()

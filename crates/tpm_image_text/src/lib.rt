@@ -1,10 +1,10 @@
 #![tactic(auto)]
 
-//! The text of an image: encodes what a device keeps without power, and decodes it into a state.
+//! The text of an image: encodes the state that a device keeps without power, and decodes it again.
 //!
 //! There are two [versions](Version) of the image: the device writes the second ([`saving`]) and
-//! reads both ([`opening`]). For each part of the kept state, one file reads and writes its text;
-//! `specs/Body` and `specs/Image` define these texts. The crate uses the types that make up a
+//! reads both ([`opening`]). For each part of the non-volatile state, one file reads and writes its
+//! text; `specs/Body` and `specs/Image` define these texts. The crate uses the types that make up a
 //! device's state; tpm_image uses the crate to save and open a device.
 //!
 //! Opening an image results in the saved state after a power cycle. Each text that opens is the

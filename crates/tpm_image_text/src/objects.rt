@@ -26,7 +26,7 @@ use tpm_types::{AuthValue, Handle, HierarchyHandle, Octets, PERSISTENT_LIMIT};
 use tpm_types_name::Name;
 use tpm_types_object::{Public, Sensitive};
 
-/// Whether an object of this hierarchy can be persistent.
+/// Whether an object in this hierarchy can be persistent.
 fn can_persist(hierarchy: HierarchyHandle) -> bool
     ensures { result ≡ can_persist hierarchy }
 {
@@ -96,7 +96,7 @@ fn read_sensitive(public: &Public, text: &mut Cursor) -> Result<Sensitive, Malfo
     Ok(sensitive)
 }
 
-/// Reads an object of any hierarchy.
+/// Reads an object in any hierarchy.
 #[tactic(auto, unfolding(crate::specs::Body::object_fields_in))]
 pub fn read_object_fields(text: &mut Cursor) -> Result<Object, Malformed>
     ensures { Reads (λ object. object) (object_fields_in text.old) text.old result text.new }

@@ -1,4 +1,4 @@
-//! The part of an image that the last TPM2_Shutdown saved.
+//! Reads and writes the part of an image that contains the state saved by the last TPM2_Shutdown.
 
 ghost use Rattle.tpm_image_text.specs.Sizes.{text_size};
 ghost use Rattle.std.specs.Prelude.{◌≡◌, ◌≤◌, ◌+◌, ◌*◌, ◌++◌, length};

@@ -19,8 +19,8 @@ pub enum Version {
     /// Version 1 can be read but is no longer written. Its images contain at most 32 NV indices,
     /// with at most 8,192 bytes of data.
     One,
-    /// Version 2 states the limits of the device: on the number of NV indices, and on the size of
-    /// their data.
+    /// Version 2 states the device's limits: the largest number of NV indices and the largest size
+    /// of their data.
     Two,
 }
 

@@ -1,4 +1,4 @@
--- The row of an authorized command does what the command's acceptance says.
+-- Executing the row of an authorized command has the effect that `acceptance` defines.
 use Rattle.std.proofs.Common.{◌≡◌, ◌≤◌, ℕ, List, length, Bool, true, false, Option, Result, Ok, Err, IfOk, refl, ap, sym, subst, ◌∙◌}
 use Rattle.std.specs.Prelude.{◌&&◌}
 use Rattle.std.proofs.lemmas.Bool.{false≢true}
@@ -60,7 +60,8 @@ accepted_answers can r random c grants (Ok a) answer effect response after (same
     ∙ ap (λ (x : List (Option Grant)). answer_to a.command x (written_of a.success.answer) a.success.after random) (sym granted) in
     answers_exactly can r random (Ok a) _ (λ i. record { response = (whole i).response; row = record { code = code_number (back i).code; check = 0 }; after = settled (back i).code (whole i).after })
 
--- an accepted command is modest, since the answer's buffer is limited and nonces are short
+-- an accepted command stays within the limits (`IsModest`), since the answer's buffer is limited
+-- and nonces are short
 pub accepted_modest : (random : List ℕ) (c : Whole) (grants : List (Option Grant)) (a : Result Accepted Refused) (answer : Answer) (effect : Record) → answer.drawn ≤ 96 → length answer.parameters ≤ answer_limit → DrawsFew random effect c.entries answer.drawn → Succeeds a c grants answer effect → IfOk a (IsModest random)
 accepted_modest random c grants (Err e) answer effect few short drawn never = tt
 accepted_modest random c grants (Ok a) answer effect few short drawn (same, granted, written, left) = (
@@ -71,7 +72,7 @@ accepted_modest random c grants (Ok a) answer effect few short drawn (same, gran
       (subst (λ (x : Record). DrawsFew random x c.entries answer.drawn) left drawn)),
 )
 
--- an accepted command drew as many random bytes as its definition says
+-- an accepted command drew as many random bytes as `drawn_by_command` defines
 pub accepted_draws : (random : List ℕ) (c : Whole) (grants : List (Option Grant)) (a : Result Accepted Refused) (answer : Answer) (effect : Record) (n : ℕ) → n ≡ bytes_drawn random effect c.entries answer.drawn → Succeeds a c grants answer effect → n ≡ drawn_by_command random (in_command c.code a) 0
 accepted_draws random c grants (Err e) answer effect n is never = absurd never
 accepted_draws random c grants (Ok a) answer effect n is (same, granted, written, left) =
@@ -82,13 +83,13 @@ accepted_draws random c grants (Ok a) answer effect n is (same, granted, written
 -- the rules for an authorized command
 pub ruleset acting = (accepted_answers, accepted_modest, accepted_draws, refused_answers)
 
--- a command that is refused, or is refused memory, draws no random bytes
+-- a command that is refused, or that runs out of memory, draws no random bytes
 refused_so : (can : Bool) (random : List ℕ) (c : Whole) (a : Result Accepted Refused) (e : Refused) → RefusesOrWantsMemory can c a e → 0 ≡ drawn_by_command random (in_command c.code a) (check_number e.check)
 refused_so can random c (Err refused) e is = refl
 refused_so can random c (Ok a) e (may, same, grows, is) =
     ap (λ (f : Refused). drawn_by_command random (in_command c.code (Ok a)) (check_number f.check)) (sym is)
 
--- a command whose row reports the check of such a refusal draws no random bytes
+-- if the row reports the check of the refusal, the command draws no random bytes
 pub refused_draws : (can : Bool) (random : List ℕ) (c : Whole) (a : Result Accepted Refused) (e : Refused) (check : ℕ) → check ≡ check_number e.check → RefusesOrWantsMemory can c a e → 0 ≡ drawn_by_command random (in_command c.code a) check
 refused_draws can random c a e check reported is =
     subst (λ (n : ℕ). 0 ≡ drawn_by_command random (in_command c.code a) n) (sym reported) (refused_so can random c a e is)
@@ -98,7 +99,8 @@ pub not_authorized : (can : Bool) (r : Record) (c : Whole) (locality : ℕ) (ran
 unfolding acceptance
 not_authorized can r c locality random e refused = rw (refused) refl
 
--- the answer to a decoded command that is refused, or is refused memory
+-- if a decoded command is refused or runs out of memory, the refusal is the answer that `Answers`
+-- requires
 pub command_refused : (can : Bool) (r : Record) (buffer : List ℕ) (locality : ℕ) (random : List ℕ) (c : Whole) (e : Refused) (x : Stepped) → general r buffer ≡ Ok c → RefusesOrWantsMemory can c (acceptance r c locality random) e → x ≡ refusal_step r (record { code = code_number c.code; refused = e }) → Answers can r random (accepted r buffer locality random) x
 unfolding accepted
 command_refused can r buffer locality random c e x decoded is seen =
@@ -110,6 +112,7 @@ unfolding accepted
 unauthorized_draws can r buffer locality random c e check reported decoded is =
     rw decoded (refused_draws can random c (acceptance r c locality random) e check reported is)
 
--- the answer to an authorized command whose row refuses, or is refused memory
+-- if the row of an authorized command refuses or runs out of memory, the refusal is the answer that
+-- `Answers` requires
 pub row_refused : (can : Bool) (r : Record) (random : List ℕ) (c : Whole) (a : Result Accepted Refused) (e : Refused) (x : Stepped) → RefusesOrWantsMemory can c a e → x ≡ refusal_step r (record { code = code_number c.code; refused = e }) → Answers can r random (in_command c.code a) x
 row_refused can r random c a e x is seen = rw seen (refused_answers can r random c a e is)

@@ -1,4 +1,4 @@
--- The header of a response without a body, and the response to a command with entries.
+-- Lemmas about the header of an empty response, and about the response to a command with entries.
 use Rattle.std.proofs.Common.{arith, length-drop, ◌+◌, ◌-◌, ◌≡◌, ◌≤◌, ℕ, List, [], ◌∷◌, ◌++◌, drop, length, Option, ap, append-nil, refl, sym, ◌∙◌}
 use Rattle.std.specs.Int.{w16, w32, to_be_bytes}
 use Rattle.tpm_types.specs.declared.handle.Handle.{Handle}
@@ -17,14 +17,14 @@ use Rattle.tpm_machine.specs.Drawn.{bytes_drawn}
 pub framed_alone : (tag code : ℕ) → framed tag code [] ≡ to_be_bytes w16 tag ++ to_be_bytes w32 10 ++ to_be_bytes w32 code
 framed_alone tag code = ap (λ (l : List ℕ). to_be_bytes w16 tag ++ to_be_bytes w32 10 ++ l) (append-nil (to_be_bytes w32 code))
 
--- the response to a command with entries
+-- the encoding of the response to a command with at least one entry
 success_some : (entries : List Entry) (handle : Option Handle) (answer area : List ℕ) → 1 ≤ length entries → success_text entries handle answer area ≡ framed 0x8002 0 (handle_answer handle ++ to_be_bytes w32 (length answer) ++ answer ++ area)
 unfolding success_text
 success_some [] handle answer area some = absurd (let none : ⊥ = omega arith in none)
 success_some (entry ∷ entries) handle answer area some = refl
 
--- the answer after three passes, which roll the entries, encrypt the parameters and answer the
--- entries; then its text
+-- If the code rolls the nonces, encrypts the parameters, answers the entries and then encodes the
+-- text, the result is the one that `answer_to` defines.
 answered_by : (c : Whole) (grants : List (Option Grant)) (a : Written) (effect : Record) (random : List ℕ) (mid after : Record) (left parameters area text : List ℕ) → 1 ≤ length c.entries
     → entries_rolled effect c.entries (drop a.drawn random) ≡ record { after = mid; left = left }
     → parameters ≡ encrypted_answer mid (granted_entries c grants) a.parameters
@@ -37,7 +37,7 @@ answered_by c grants a effect random mid after left parameters area text some ro
     let texts : text ≡ success_text c.entries a.handle parameters area = spelled ∙ sym (success_some c.entries a.handle parameters area some) in
     rw (rolled, ← encrypted, ← answered) (λ i. record { response = texts i; after = ended i })
 
--- the same answer, by the variables of the code
+-- the lemma `answered_by`, stated for the variables of the code
 pub answered_with : (c : Whole) (grants : List (Option Grant)) (a : Written) (effect : Record) (random : List ℕ) (mid after : Record) (entries : List Entry) (granted : List Granted) (draws left parameters sent area text : List ℕ) → 1 ≤ length c.entries
     → entries ≡ c.entries → granted ≡ granted_entries c grants → draws ≡ drop a.drawn random → sent ≡ parameters
     → entries_rolled effect entries draws ≡ record { after = mid; left = left }
@@ -54,20 +54,20 @@ answered_with c grants a effect random mid after entries granted draws left para
     spelled
     (rw (← paired) ended)
 
--- the number of bytes that are left after those of the row and of the nonces
+-- the number of random bytes that remain after those of the row and of the new nonces
 left_behind : (r mid : Record) (entries sent : List Entry) (draws left random : List ℕ) (drawn : ℕ)
     → entries ≡ sent → draws ≡ drop drawn random → entries_rolled r entries draws ≡ record { after = mid; left = left } → length left ≡ length (entries_rolled r sent (drop drawn random)).left
 left_behind r mid entries sent draws left random drawn same behind rolled =
     sym (ap (λ (x : Drawn). length x.left) rolled) ∙ ap (λ (l : List Entry). length (entries_rolled r l draws).left) same ∙ ap (λ (l : List ℕ). length (entries_rolled r sent l).left) behind
 
--- the three nonces are drawn after the bytes of the row
+-- The row and at most three new nonces together draw at most 192 random bytes.
 pub drawn_few : (r mid : Record) (entries sent : List Entry) (draws left random : List ℕ) (drawn : ℕ)
     → entries ≡ sent → draws ≡ drop drawn random → entries_rolled r entries draws ≡ record { after = mid; left = left } → length draws ≤ length left + 96 → drawn ≤ 96 → DrawsFew random r sent drawn
 drawn_few r mid entries sent draws left random drawn same behind rolled few row =
     let is = left_behind r mid entries sent draws left random drawn same behind rolled in
     omega (arith, is, ap length behind, length-drop drawn random)
 
--- the number of bytes that the row and the nonces draw in all
+-- the total number of random bytes that the row and the new nonces draw
 pub drawn_in_all : (r mid : Record) (entries sent : List Entry) (draws left random : List ℕ) (drawn : ℕ)
     → entries ≡ sent → draws ≡ drop drawn random → entries_rolled r entries draws ≡ record { after = mid; left = left } → length random - length left ≡ bytes_drawn random r sent drawn
 drawn_in_all r mid entries sent draws left random drawn same behind rolled =

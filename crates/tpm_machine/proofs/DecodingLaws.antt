@@ -1,4 +1,4 @@
--- If the general checks decode a command, the whole buffer encodes it.
+-- If a buffer passes the general checks, the whole buffer encodes the decoded command.
 use Rattle.tpm_types.specs.Limits.{buffer_limit}
 use Rattle.tpm_bytes.specs.Reading.{Gives}
 use Rattle.std.proofs.Common.{arith, refl, sym, Bool, true, false, ◌≤◌, ◌*◌, ◌≡◌, ℕ, List, [], ◌∷◌, ◌+◌, length, Result, Ok, Err, IfOk, Option, None}
@@ -19,8 +19,8 @@ use Rattle.tpm_step.specs.declared.refused_command.RefusedCommand.{RefusedComman
 use Rattle.tpm_step.proofs.Binding.{ok_at}
 use Rattle.tpm_step.proofs.Decoding.{general_reads}
 
--- if a command passes the general checks, it is the one that is read, and nothing is left after
--- it
+-- if a buffer passes the general checks, the resulting command is the one that `command_at` reads,
+-- and no bytes remain after it
 spells : (r : Record) (buffer : List ℕ) (c : Whole) → general r buffer ≡ Ok c → command_at buffer ≡ Ok (c, [])
 spells r buffer c is = ok_at (λ x. command_at buffer ≡ Ok (x, [])) (general r buffer) c (general_reads r buffer) is
 
@@ -34,7 +34,7 @@ short_of c small =
     let body : length (command_body_text c) ≡ 4 * length c.handles + length (sessions_text c.entries) + length c.parameters = length-body c in
     omega (arith, size, body)
 
--- the parameters of a decoded command are no longer than a whole buffer
+-- the parameters of a decoded command are no longer than the largest buffer
 pub decodes_short : (r : Record) (buffer : List ℕ) (result : Result Command RefusedCommand) → AreBytes buffer → Gives whole_of (general r buffer) result → IfOk result (λ command. length command.parameters.now ≤ buffer_limit)
 decodes_short r buffer (Ok command) fits decoded =
     short_of (whole_of command) (command_takes buffer (whole_of command, []) fits (spells r buffer (whole_of command) decoded)).0.size

@@ -1,3 +1,4 @@
--- What tpm_step proves of executions and power cycles, for crates that cite the machine alone.
+-- The laws of tpm_step about executions and power cycles, for crates that refer only to the
+-- machine.
 pub use Rattle.tpm_step.proofs.Following.{cycled_follows, execution_follows, stretch_follows}
 pub use Rattle.tpm_step.proofs.PowerCycles.{leads_on, power_cycle_executes}

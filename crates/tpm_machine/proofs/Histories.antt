@@ -1,4 +1,4 @@
--- The history of a device after an execution and a run.
+-- The history that a device follows after an execution or a run.
 use Rattle.std.proofs.Common.{◌≡◌, Bool, List, [], Bor, ℕ, subst, sym}
 use Rattle.std.specs.Fn.{Mut}
 use Rattle.tpm_record.specs.Record.{Record, manufactured}
@@ -21,8 +21,8 @@ use Rattle.tpm_step.proofs.Following.{execution_follows, manufactured_follows, r
 pub new_follows : (r : Record) (random : List ℕ) → r ≡ manufactured random → Follows r []
 new_follows r random is = subst (λ (x : Record). Follows x []) (sym is) (manufactured_follows random)
 
--- An execution leads from a device that follows a history to one that follows the history after
--- it, part by part.
+-- Each part of the state that agreed with a history before an execution agrees with the extended
+-- history afterwards.
 pub record TellsHistory (old : Record) (event : PlainEvent) (x : Stepped) : Type 0 where
   pub history : After Follows old event x
   pub counters : After HasCounters old event x

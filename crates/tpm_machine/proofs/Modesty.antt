@@ -1,4 +1,4 @@
--- A row that reports no check is that of an accepted command.
+-- If a row reports no failed check, its command was accepted.
 use Rattle.std.proofs.Common.{arith, ◌≡◌, ℕ, Bool, true, false, List, Result, Ok, Err, IfOk, refl, ap, sym, ◌∙◌}
 use Rattle.tpm_record.specs.Record.{Record}
 use Rattle.tpm_record.specs.Tick.{ticked}

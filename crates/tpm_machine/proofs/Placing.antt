@@ -1,4 +1,4 @@
--- A placed object is an execution of its event.
+-- Placing an object is the execution of an event.
 use Rattle.std.proofs.Common.{◌≡◌, ◌<◌, ℕ, Bool, List, Option, Some, None, option_map, Result, Ok, Err, sym, ap, subst, ◌∙◌}
 use Rattle.tpm_containers.specs.Slots.{lowest_free}
 use Rattle.tpm_containers.specs.declared.slots.SlotFault.{SlotFault}
@@ -30,7 +30,7 @@ places can old object (Ok handle) new (adds, is) = ap (option_map object_handle)
 places can old object (Err Full) new (adds, is) = (ap (option_map object_handle) adds.0, is ∙ ap (λ (objects : List (Option Object)). record old { objects = objects }) adds.1)
 places can old object (Err NoMemory) new (adds, is) = (adds.2, is ∙ ap (λ (objects : List (Option Object)). record old { objects = objects }) adds.3)
 
--- the record after the object was added is that of the event
+-- the record after an object was added is the one that the event `Placed` produces
 placed_is : (old : Record) (object : Object) (found : Option ℕ) → lowest_free old.objects ≡ found → record old { objects = placed_at found object old.objects } ≡ placed old object
 placed_is old object found free = ap (λ (x : Option ℕ). record old { objects = placed_at x object old.objects }) (sym free)
 
@@ -48,13 +48,14 @@ place_executes can old object (Err Full) new is record_is (adds, same) =
     (same ∙ ap (λ (objects : List (Option Object)). record old { objects = objects }) adds.1 ∙ placed_is old object None adds.0)
 place_executes can old object (Err NoMemory) new is record_is (adds, same) = tt
 
--- what follows from an execution holds unless an allocation failed
+-- If `P` implies `Q`, and `P` holds unless an allocation failed, then so does `Q`.
 if_memory : (P Q : Type 0) (result : Result Handle SlotFault) → (P → Q) → IfMemory result P → IfMemory result Q
 if_memory P Q (Ok handle) so holds = so holds
 if_memory P Q (Err Full) so holds = so holds
 if_memory P Q (Err NoMemory) so holds = tt
 
--- What holds of a device on which an object was placed: everything that holds of an execution.
+-- The facts that hold after an object was placed on a device. They are those that hold after every
+-- execution.
 pub record Tells (can : Bool) (old : Record) (object : Object) (result : Result Handle SlotFault) (new : Record) : Type 0 where
   pub places : Places can old result new
   pub executes : IfMemory result (Executes can old (Placed object) (placing_seen new))

@@ -1,4 +1,4 @@
--- A refusal is its text, and changes only the time.
+-- The response to a refusal is its encoding. A refusal changes only the time and the lockout state.
 use Rattle.std.proofs.Common.{◌≡◌, ◌≢◌, ℕ, List, length, Bool, true, false, cond, Result, Ok, Err, refl, ap, sym, ◌∙◌}
 use Rattle.std.proofs.lemmas.Bool.{false≢true}
 use Rattle.tpm_types_command.specs.Command.{Whole}
@@ -15,8 +15,8 @@ use Rattle.tpm_step.specs.Safe.{IsHarmless}
 use Rattle.tpm_step.specs.Step.{Accepted, Answers, RefusesOrWantsMemory, Stepped, Steps, refusal_step, accepted, stepped_of, counted_in, refusal_without_memory, answer_without_memory, step, step_where, success_step}
 use Rattle.tpm_step.specs.declared.refused_command.RefusedCommand.{RefusedCommand}
 
--- On a record whose time has passed, a refusal has ten bytes, reports its check, and changes only
--- what it counts.
+-- After the elapsed time was added to the record, a refusal has a response of ten bytes, reports
+-- its check, and changes only the lockout state.
 abbrev LeavesRecord : Record → Stepped → Type 0
 LeavesRecord r x = x.row.check ≢ 0 → (length x.response ≡ 10) × (refused : Refused) × (x.response ≡ refusal_text refused) × (x.row.check ≡ check_number refused.check) × (x.after ≡ counted_in refused.counted r)
 
@@ -24,7 +24,7 @@ answer_leaves : (r : Record) (random : List ℕ) (a : Result Accepted RefusedCom
 answer_leaves r random (Ok a) refused = absurd (refused refl)
 answer_leaves r random (Err e) refused = (refl, e.refused, refl, refl, refl)
 
--- MEMORY instead of a success leaves the record as a refusal does
+-- MEMORY instead of a success also satisfies `LeavesRecord`
 success_without_memory_leaves : (grows : Bool) (r : Record) (random : List ℕ) (a : Accepted) → LeavesRecord r (cond grows (refusal_without_memory r a.command) (success_step a random))
 success_without_memory_leaves true r random a refused = (refl, memory_refusal, refl, refl, refl)
 success_without_memory_leaves false r random a refused = absurd (refused refl)
@@ -46,11 +46,12 @@ step_harmless true r (Placed object) = λ refused. absurd (refused refl)
 pub steps_harmless : (can : Bool) (r : Record) (event : PlainEvent) (x : Stepped) → Steps can r event x → IsHarmless r event x
 steps_harmless can r event x (refused, only, is) = rw is (step_harmless refused r event)
 
--- an outcome that is exactly the step's is that of a step to which no memory was refused
+-- an outcome equal to the step satisfies `Steps`: it is the case in which no allocation failed
 pub steps_exactly : (can : Bool) (r : Record) (event : PlainEvent) (x : Stepped) → x ≡ step r event → Steps can r event x
 steps_exactly can r event x e = (false, λ t. absurd (false≢true t), e)
 
--- an answer that is exactly the command's is one to which no memory was refused
+-- an answer equal to the defined one satisfies `Answers`: it is the case in which no allocation
+-- failed
 pub answers_exactly : (can : Bool) (r : Record) (random : List ℕ) (a : Result Accepted RefusedCommand) (x : Stepped) → x ≡ stepped_of r random a → Answers can r random a x
 answers_exactly can r random a x e = (false, λ t. absurd (false≢true t), e)
 
@@ -58,7 +59,7 @@ grows_without_memory : (grows : Bool) (r : Record) (random : List ℕ) (a : Acce
 grows_without_memory true r random a e = refl
 grows_without_memory false r random a e = absurd (false≢true e)
 
--- the answer to a command that was refused, or was refused memory
+-- if a command is refused or runs out of memory, the step of that refusal satisfies `Answers`
 pub refused_answers : (can : Bool) (r : Record) (random : List ℕ) (c : Whole) (a : Result Accepted Refused) (e : Refused) → RefusesOrWantsMemory can c a e → Answers can r random (in_command c.code a) (refusal_step r (record { code = code_number c.code; refused = e }))
 refused_answers can r random c (Err refused) e is =
     (false, λ t. absurd (false≢true t), ap (λ (f : Refused). refusal_step r (record { code = code_number c.code; refused = f })) is)

@@ -1,4 +1,4 @@
--- Runs of events, from the last event to the first.
+-- Lemmas about runs of events, by induction from the last event to the first.
 use Rattle.std.proofs.Common.{◌≡◌, ◌+◌, ◌<◌, ℕ, List, [], ◌∷◌, length, map, drop, get_or, Bool, true, false, Bor, refl, ap, sym, ◌∙◌}
 use Rattle.std.proofs.lemmas.Bool.{false≢true}
 use Rattle.std.proofs.lemmas.List.{drop_more}
@@ -11,16 +11,17 @@ use Rattle.tpm_step.specs.Step.{Stepped, Steps, outcome_step, step}
 use Rattle.tpm_step.specs.declared.event.Event.{Event}
 use Rattle.tpm_step.specs.declared.event.Outcome.{Outcome}
 
--- if the event at i is executed, and the events after it run, then all events from i on run
+-- if event i is executed, and the events after it run from the resulting state, then all events
+-- from i on run
 pub run_more : {F : Type 0} {g : Mut F (Bor Outcome × Unit {0}) (Unit {0})} (can : Bool) (old mid new : Record) {p next : F} (q : F) (events : List Event) (i : ℕ) (event : Event) (outcome : Outcome) → i < length events → event ≡ get_or events i event → Executes can old (plain_event event) (outcome_step mid outcome) → CalledAt g p outcome tt next → Runs g can mid next (map plain_event (drop (i + 1) events)) new q → Runs g can old p (map plain_event (drop i events)) new q
 run_more can old mid new q events i event outcome below is executed called rest = rw (drop_more events i event below, ← is) (outcome, _, _, executed, called, rest)
 
--- if no memory can be refused, an execution of an event is its step
+-- if no allocation can fail, the execution of an event equals its step
 pub exactly : (can : Bool) (old : Record) (event : PlainEvent) (x : Stepped) → can ≡ false → Steps can old event x → x ≡ step old event
 exactly can old event x cannot (false, only, is) = is
 exactly can old event x cannot (true, only, is) = absurd (false≢true (sym cannot ∙ only refl))
 
--- if no memory can be refused, a run leads to the record to which the steps lead
+-- if no allocation can fail, a run ends in the record that the steps of its events produce
 pub runs_lead : {F : Type 0} (g : Mut F (Bor Outcome × Unit {0}) (Unit {0})) (can : Bool) (old : Record) (p : F) (events : List PlainEvent) (new : Record) (q : F) → Runs g can old p events new q → can ≡ false → new ≡ after_all old events
 runs_lead g can old p [] new q run cannot = run.0
 runs_lead g can old p (event ∷ events) new q run cannot =

@@ -1,4 +1,4 @@
--- How many of its random bytes an event draws, from the front.
+-- The number of random bytes that an event draws. It draws them in order, starting with the first.
 use Rattle.std.specs.Prelude.{ℕ, zero, suc, ◌-◌, List, drop, length, Result, Ok, Err}
 use Rattle.tpm_types_command.specs.AuthEntry.{Entry}
 use Rattle.tpm_record.specs.Record.{Record}
@@ -7,21 +7,21 @@ use Rattle.tpm_step.specs.Entries.{entries_rolled}
 use Rattle.tpm_step.specs.Events.{PlainEvent, Given, Cycled, Placed}
 use Rattle.tpm_step.specs.Step.{Accepted, accepted}
 
--- how many of the random bytes are drawn by a row, which draws `drawn`, and for the new nonces of
--- these entries
+-- the number of random bytes that a command draws in all: `drawn` by its row, and then those for
+-- the new nonces of its entries
 abbrev pub bytes_drawn : List ℕ → Record → List Entry → (drawn : ℕ) → ℕ
 bytes_drawn random r entries drawn =
     length random - length (entries_rolled r entries (drop drawn random)).left
 
--- how many random bytes a command draws, if its row reported this check: a refusal draws none,
--- nor does MEMORY instead of a success
+-- the number of random bytes that a command draws, if its row reports this check. A refusal draws
+-- none, and neither does MEMORY instead of a success
 abbrev pub drawn_by_command : {E : Type 0} → List ℕ → Result Accepted E → (check : ℕ) → ℕ
 drawn_by_command random (Ok a) zero =
     bytes_drawn random a.success.after a.command.entries a.success.answer.drawn
 drawn_by_command random (Ok a) (suc check) = 0
 drawn_by_command random (Err e) check = 0
 
--- how many random bytes an event draws on this record
+-- the number of random bytes that an event draws on this record
 abbrev pub drawn_by : Record → PlainEvent → (check : ℕ) → ℕ
 drawn_by r (Given buffer locality elapsed random) check =
     drawn_by_command random (accepted (ticked r elapsed) buffer locality random) check

@@ -1,4 +1,4 @@
--- The latest execution of a machine, as the machine and the outcome show it.
+-- The latest execution of a machine, as the machine and the outcome determine it.
 use Rattle.std.specs.Prelude.{◌≡◌, ℕ, Bool}
 use Rattle.tpm_record.specs.Record.{Record}
 use Rattle.tpm_step.specs.Events.{PlainEvent}
@@ -8,8 +8,8 @@ use Rattle.tpm_step.specs.declared.event.Outcome.{Outcome}
 use Rattle.tpm_step.specs.Executions.{Execution}
 use Rattle.tpm_machine.specs.Drawn.{drawn_by}
 
--- This execution is the latest of a machine with this record. The event was executed with this
--- outcome, and this many of its random bytes were drawn.
+-- `one` is the latest execution of a machine whose record is now `now`. The event had this outcome,
+-- and `drawn` of its random bytes were drawn.
 pub record IsLatest (now : Record) (drawn : ℕ) (event : PlainEvent) (outcome : Outcome)
     (one : Execution) : Type 0
   where

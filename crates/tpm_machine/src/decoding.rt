@@ -1,5 +1,5 @@
-//! The decoding of a command's buffer, by the general checks that come before authorization. The
-//! first check that fails refuses the buffer.
+//! Decodes a command's buffer, with the general checks that precede authorization. The first failed
+//! check determines the refusal.
 
 ghost use Rattle.tpm_types.specs.Limits.{buffer_limit};
 ghost use Rattle.tpm_bytes.specs.Reading.{AreBytes, Gives};
@@ -38,7 +38,7 @@ fn header_refusal(fault: HeaderFault) -> RefusedCommand
     }
 }
 
-/// The refusal of a command by this check, with this response code.
+/// Builds the refusal of a command from the failed check and the response code.
 fn refusal_by(code: CommandCode, check: Check, rc: Rc) -> RefusedCommand
     ensures { result
         ≡ record { code = code_number code; refused = refusal check rc } }
@@ -46,8 +46,8 @@ fn refusal_by(code: CommandCode, check: Check, rc: Rc) -> RefusedCommand
     RefusedCommand::of(code, Refused::by(check, rc))
 }
 
-/// Refuses a command with sessions that may have none, and a command without sessions that must
-/// have one.
+/// Refuses a command that has sessions although it must not, or has none although a handle needs
+/// authorization.
 #[tactic(auto, unfolding(tpm_step::specs::General::sessions_pass))]
 fn check_tag(code: CommandCode, tag: Tag) -> Result<(), Refused>
     ensures { result ≡ sessions_pass code tag }
@@ -64,8 +64,8 @@ fn check_tag(code: CommandCode, tag: Tag) -> Result<(), Refused>
     Ok(())
 }
 
-/// Reads handle n of a command. Its rule has to allow the handle, and the handle has to name
-/// something that is there.
+/// Reads the handle with this number, counted from 1. The rule must allow the handle, and the
+/// entity that it names must exist.
 #[tactic(auto, unfolding(tpm_step::specs::General::present_handle_at))]
 fn read_handle<K: Keep>(
     keep: &K,
@@ -108,7 +108,8 @@ fn read_handles<K: Keep>(
     Ok(handles)
 }
 
-/// Reads the text after a command's header, or returns the first check that refuses it.
+/// Decodes the bytes after a command's header, or returns the refusal of the first check that
+/// fails.
 #[tactic(auto, unfolding(tpm_step::specs::General::body_of))]
 fn decode_body<'a, K: Keep>(
     keep: &K,
@@ -155,7 +156,7 @@ fn decode_whole<'a, K: Keep>(keep: &K, buffer: &'a [u8]) -> Result<Command<'a>, 
     }
 }
 
-/// Decodes a command's buffer, or returns the first general check that refuses it.
+/// Decodes a command's buffer, or returns the refusal of the first general check that fails.
 #[tactic(auto, using(crate::proofs::DecodingLaws::decodes_reads, crate::proofs::DecodingLaws::decodes_short))]
 pub fn decode<'a, K: Keep>(keep: &K, buffer: &'a [u8]) -> Result<Command<'a>, RefusedCommand>
     ensures decoded { Gives whole_of (general (K.record_of keep.now) buffer.now) result }

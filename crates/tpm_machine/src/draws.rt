@@ -1,11 +1,11 @@
-//! The random bytes of an event. New nonces are drawn from their front.
+//! The random bytes of an event, from which new nonces are drawn in order.
 
 ghost use Rattle.std.specs.Prelude.{◌≡◌, ◌≤◌, ℕ, List, length, take, drop};
 
 use std::marker::Model;
 use tpm_session::Nonce;
 
-/// The random bytes of an event that are left, which contracts see as a list.
+/// The unused random bytes of an event. Contracts see them as a list.
 #[derive(Drop)]
 pub struct Draws<'a> {
     left: &'a [u8],
@@ -31,7 +31,7 @@ impl<'a> Draws<'a> {
         self.left.len()
     }
 
-    /// Draws a nonce of this size from the front.
+    /// Draws a nonce, which consists of the first `size` of these bytes.
     pub fn nonce(&mut self, size: usize) -> Nonce
         requires small { size ≤ 32 }
         requires enough { size ≤ length self.old }

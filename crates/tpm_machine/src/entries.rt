@@ -1,5 +1,5 @@
-//! What a success does to the sessions of its entries: it draws new nonces, answers each entry,
-//! and ends the sessions that do not continue.
+//! Session processing after a successful command: draws new nonces, answers each entry, and ends
+//! the sessions that do not continue.
 
 ghost use Rattle.std.specs.Prelude.{◌≡◌, ◌+◌, ◌*◌, ◌≤◌, ◌++◌, length, map};
 ghost use Rattle.std.specs.List.{zip};
@@ -17,11 +17,11 @@ use tpm_session::{ParameterHashes, Session};
 use tpm_types::SessionType;
 use tpm_types_command::AuthEntry;
 
-/// The answer to a password entry: no nonce, continueSession, no HMAC (TPMS_AUTH_RESPONSE, TPM 2.0
-/// Library, Part 2, section 10.13.3).
+/// The answer to a password entry: an empty nonce, continueSession, and an empty HMAC
+/// (TPMS_AUTH_RESPONSE, TPM 2.0 Library, Part 2, section 10.13.3).
 const PASSWORD_ANSWER: [u8; 5] = [0, 0, 1, 0, 0];
 
-/// The largest size of the answers to a command's entries, 69 bytes each.
+/// The maximum total size of the answers to a command's entries: three of 69 bytes.
 pub const ENTRY_ANSWERS_LIMIT: usize = 207;
 
 /// The size of the next nonce of an entry's session.
@@ -143,7 +143,8 @@ fn answer_entry<K: Keep>(
     }
 }
 
-/// Answers each entry, in order, with the handle that it authorized, if any.
+/// Appends the answer to each entry, in order. `grants` says which handle each entry authorized, if
+/// any.
 pub fn answer_entries<K: Keep>(
     keep: &K,
     hashes: &mut ParameterHashes,
@@ -166,7 +167,7 @@ pub fn answer_entries<K: Keep>(
     answer_entries(keep, hashes, cache, entries, grants, area);
 }
 
-/// Sets the policy of an entry's session back to its start, if it is a policy session.
+/// Resets the policy of an entry's session to its initial state, if it is a policy session.
 #[tactic(auto, unfolding(tpm_step::specs::Entries::entry_restarted), using(tpm_policy::proofs::Sizes::starting_sized))]
 fn restart_entry<K: Keep>(keep: &mut K, entry: &AuthEntry)
     ensures { K.record_of keep.new ≡ entry_restarted (K.record_of keep.old) (entry_of entry.now) }
@@ -190,8 +191,8 @@ fn end_entry<K: Keep>(keep: &mut K, entry: &AuthEntry, grant: Option<Grant>)
     }
 }
 
-/// Ends the sessions that do not continue, and sets the policies of those that authorized back to
-/// their start.
+/// Ends the sessions that do not continue, and resets the policies of the others that authorized a
+/// handle.
 pub fn end_entries<K: Keep>(keep: &mut K, entries: &[AuthEntry], grants: &[Option<Grant>])
     ensures { K.record_of keep.new
         ≡ entries_ended (K.record_of keep.old) (zip (map entry_of entries.now) grants.now) }

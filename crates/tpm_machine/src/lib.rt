@@ -3,16 +3,16 @@
 //! The device: it executes one event at a time, a command or a power cycle, as the written table
 //! says.
 //!
-//! A command is executed in these steps. [`decoding`] reads its bytes, which pass the general
-//! checks, and its entries authorize its handles (tpm_auth). Its row acts: [`table`] calls
-//! tpm_actions_device, tpm_actions_policy, tpm_actions_object, tpm_actions_capability and
-//! tpm_nvactions, after `parameters` if a session decrypts. [`response`] writes the answer.
-//! `entries` draws new nonces, answers the entries and ends sessions.
+//! A command is executed in these steps. [`decoding`] decodes it and makes the general checks.
+//! tpm_auth checks its authorizations. If a session decrypts, `parameters` decrypts the first
+//! parameter. [`table`] calls the command's row in tpm_actions_device, tpm_actions_policy,
+//! tpm_actions_object, tpm_actions_capability or tpm_nvactions. [`response`] writes the response,
+//! for which `entries` draws new nonces, answers the entries and ends sessions.
 //!
-//! The crate uses tpm_step, whose definitions say the same: General, Table, Answer, the step of
-//! an event (Step) and runs of events (Run). [`machine::Machine::execute`] and
-//! [`machine::Machine::run`] are proved to do just that, for each way of keeping the record. A
-//! [`Saver`] saves a device while it is used, and a [`Witness`] sees what the device executed.
+//! The definitions of tpm_step specify this behavior: General, Table, Answer, the step of an event
+//! (Step) and runs of events (Run). [`machine::Machine::execute`] and [`machine::Machine::run`] are
+//! proved to follow them, for every type that stores the state. A [`Saver`] saves a device while it
+//! is used, and a [`Witness`] is notified of each executed event.
 
 pub mod decoding;
 mod draws;

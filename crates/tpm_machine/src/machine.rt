@@ -1,5 +1,5 @@
-//! The device itself. It is manufactured, and executes one event or a run of events, by the step
-//! that tpm_step defines.
+//! The device itself: how it is manufactured, and how it executes one event or a run of events. The
+//! definitions of tpm_step specify the effect of each event.
 
 ghost use Rattle.tpm_types.specs.Limits.{buffer_limit, response_limit};
 ghost use Rattle.std.specs.Prelude.{◌≡◌, ◌≤◌, ◌<◌, ◌^◌, List, [], IfOk, OnErr, false, length, map, true};
@@ -38,14 +38,14 @@ use tpm_step::{Event, Outcome, RefusedCommand, Response, Row};
 use tpm_types::{Counted, Locality};
 use tpm_types_command::Command;
 
-/// The device, generic in the type that keeps its state.
+/// The device, generic in the type that stores its state.
 #[derive(Drop)]
 pub struct Machine<K: Keep> {
     keep: K,
     /// The buffer of a command's answer, which is cleared for each command. It is not part of the
     /// state.
     answer: Answer,
-    /// The key of the latest HMAC and the latest Name, which are not part of the state.
+    /// The key of the latest HMAC, and the latest Name. They are cached, and not part of the state.
     cache: Cache,
     /// The number of random bytes that the latest event drew, which is not part of the state.
     drawn: usize,
@@ -56,16 +56,16 @@ impl<K: Keep> Machine<K> {
     ghost use Rattle.tpm_machine.specs.State.{latest_drawn, with_keep};
     ghost use Rattle.tpm_machine.specs.contracts.machine.Machine.{the_row as machine_row};
 
-    /// A new device. Its memory comes from `alloc`, and its hierarchies' secrets are the random
-    /// bytes.
+    /// Manufactures a device. Its memory comes from `alloc`, and the secrets of its hierarchies
+    /// come from the random bytes.
     pub fn manufacture(alloc: Global, random: &[u8; 256]) -> Result<Machine<K>, NoMemory>
-        // Memory is refused only if the type of the state can be refused it.
+        // An error is possible only if creating an empty state may fail to allocate.
         ensures refused { OnErr result (K.empty_can_refuse ≡ true) }
         ensures state { IfOk result (λ machine. state_of K.record_of machine
             ≡ manufactured random.now) }
         ensures is_record { IfOk result (λ machine. IsRecord (state_of K.record_of machine)) }
 
-        // A new device has accepted nothing yet.
+        // The history of a new device is empty.
         ensures history { IfOk result (λ machine. Follows (state_of K.record_of machine) []) }
     {
         let mut keep = K::empty(alloc)?;
@@ -74,7 +74,7 @@ impl<K: Keep> Machine<K> {
         Ok(Machine::from_keep(keep))
     }
 
-    /// The device with this state.
+    /// Creates a device with this state.
     pub fn from_keep(keep: K) -> Machine<K>
         ensures { state_of K.record_of result ≡ K.record_of keep }
     {
@@ -86,7 +86,7 @@ impl<K: Keep> Machine<K> {
         }
     }
 
-    /// The state of the device.
+    /// Returns the state of the device.
     pub fn keep(&self) -> &K
         ensures state { K.record_of result.now ≡ state_of K.record_of self.now }
         ensures is_record { IsRecord (state_of K.record_of self.now) }
@@ -95,7 +95,7 @@ impl<K: Keep> Machine<K> {
         &self.keep
     }
 
-    /// The device's state, to be filled in place.
+    /// Gives mutable access to the device's state, so that it can be filled in place.
     pub fn keep_mut(&mut self) -> &mut K
         ensures* writes_back { sem 𝓛 (Lends (machine_row K.row K.SessionSlots.row
             K.ObjectSlots.row K.PersistentMap.row K.NvIndices.row) K.row self.entry result
@@ -105,27 +105,28 @@ impl<K: Keep> Machine<K> {
         &mut self.keep
     }
 
-    /// The number of random bytes that the latest event drew, from the front: those of the
-    /// command itself and of its sessions' new nonces. A refusal draws none, nor does a power
-    /// cycle.
+    /// Returns how many of its random bytes the latest event drew, from the first one on: those for
+    /// the command itself and for new session nonces. A refused command or a power cycle draws
+    /// none.
     pub fn drawn(&self) -> usize
         ensures { result ≡ latest_drawn self.now }
     {
         self.drawn
     }
 
-    /// Executes one event. Its response, its row and the state after it are those of the table;
-    /// or memory was refused, and MEMORY replaces the success of a command that grows something.
-    /// `Executes` also says what holds of every outcome and of every record.
+    /// Executes one event. The response, the row and the new state are those that the table
+    /// defines, except that a command that may allocate can return MEMORY instead of succeeding.
+    /// `Executes` also states facts about every outcome and every record.
     pub fn execute(&mut self, event: &Event) -> Outcome
         ensures executes { Executes K.can_refuse (state_of K.record_of self.old)
             (plain_event event.now) (outcome_step (state_of K.record_of self.new) result) }
 
-        // If the device followed a history, it follows the history with this event, if that was
-        // accepted: counters, PCRs, authorization values and sessions are those of the history.
-        // Every replay in it repeats a nonce or an HMAC. Each use had its grounds. Each use by a
-        // policy session met every policy that has the authPolicy of the used entity, or the hash
-        // is broken.
+        // If the device followed a history, it now follows that history, extended by this event if
+        // it was accepted: the history determines its counters, PCRs, authorization values and
+        // sessions. In the history, every replay repeats a nonce or an HMAC, and every use of a
+        // handle that needs authorization was authorized by a password, an HMAC session or a policy
+        // session. In the last case, the use satisfies each policy whose digest is the entity's
+        // authPolicy, unless the hash is broken.
         ensures history { After Follows (state_of K.record_of self.old) (plain_event event.now)
             (outcome_step (state_of K.record_of self.new) result) }
         ensures counters { After HasCounters (state_of K.record_of self.old)
@@ -148,21 +149,22 @@ impl<K: Keep> Machine<K> {
         outcome
     }
 
-    /// Executes one event, and overwrites the outcome of an earlier event, so that one response
-    /// serves for a whole run.
+    /// Executes one event and overwrites `outcome`, so that a run of events can reuse one response
+    /// buffer.
     pub fn execute_into(&mut self, event: &Event, outcome: &mut Outcome)
         ensures executes { Executes K.can_refuse (state_of K.record_of self.old)
             (plain_event event.now) (outcome_step (state_of K.record_of self.new) outcome.new) }
 
-        // The machine then has the number of the event's random bytes that were drawn.
+        // Afterwards, the machine knows how many of the event's random bytes were drawn.
         ensures drawn { latest_drawn self.new ≡ drawn_by (state_of K.record_of self.old)
             (plain_event event.now) outcome.new.row.check }
 
-        // If the device followed a history, it follows the history with this event, if that was
-        // accepted: counters, PCRs, authorization values and sessions are those of the history.
-        // Every replay in it repeats a nonce or an HMAC. Each use had its grounds. Each use by a
-        // policy session met every policy that has the authPolicy of the used entity, or the hash
-        // is broken.
+        // If the device followed a history, it now follows that history, extended by this event if
+        // it was accepted: the history determines its counters, PCRs, authorization values and
+        // sessions. In the history, every replay repeats a nonce or an HMAC, and every use of a
+        // handle that needs authorization was authorized by a password, an HMAC session or a policy
+        // session. In the last case, the use satisfies each policy whose digest is the entity's
+        // authPolicy, unless the hash is broken.
         ensures history { After Follows (state_of K.record_of self.old) (plain_event event.now)
             (outcome_step (state_of K.record_of self.new) outcome.new) }
         ensures counters { After HasCounters (state_of K.record_of self.old)
@@ -221,21 +223,21 @@ impl<K: Keep> Machine<K> {
         }
     }
 
-    /// Runs the events in order, and calls `tell` once with each outcome.
+    /// Executes the events in order, and calls `tell` once with each outcome.
     #[tactic(auto, using(crate::proofs::Running::runs_lead, crate::proofs::Histories::runs_follow))]
     pub fn run<F: FnMut(&Outcome)>(&mut self, events: &[Event], tell: &mut F)
         requires { F.IsAlwaysCallable tell.old }
         ensures runs { Runs F.FnMut K.can_refuse (state_of K.record_of self.old) tell.old
             (map plain_event events.now) (state_of K.record_of self.new) tell.new }
 
-        // If no memory can be refused, the record after the events is the one to which their
-        // steps lead.
+        // If no allocation can fail, the final record is the one that the steps of the events
+        // produce.
         ensures after { K.can_refuse ≡ false → state_of K.record_of self.new
             ≡ after_all (state_of K.record_of self.old) (map plain_event events.now) }
 
-        // If the device followed a history, it follows the history with the accepted events of
-        // the run. No counter that stayed defined went down, few tries failed, and every replay
-        // repeats a nonce or an HMAC.
+        // If the device followed a history, it now follows that history, extended by the accepted
+        // events of the run. No counter that stayed defined went down, the number of failed tries
+        // is bounded, and every replay repeats a nonce or an HMAC.
         ensures history { (history : History) → Follows (state_of K.record_of self.old) history
             → RunFollows F.FnMut K.can_refuse (state_of K.record_of self.old) tell.old
             (map plain_event events.now) (state_of K.record_of self.new) tell.new history }
@@ -260,8 +262,8 @@ impl<K: Keep> Machine<K> {
     ghost use Rattle.tpm_step.specs.Safe.{IsModest};
     ghost use Rattle.tpm_step.specs.Step.{Answers, accepted};
 
-    /// Executes a command's buffer after its time has passed, writes the response, and returns
-    /// the row.
+    /// Executes the command in a buffer, writes the response, and returns the row. The elapsed time
+    /// has already been added to the clock.
     #[tactic(auto, unfolding(tpm_step::specs::Step::accepted))]
     fn command(
         &mut self,
@@ -309,7 +311,7 @@ impl<K: Keep> Machine<K> {
     ghost use Rattle.tpm_step.specs.General.{in_command};
     ghost use Rattle.tpm_step.specs.Step.{acceptance};
 
-    /// Runs a command whose entries authorize these handles.
+    /// Executes an authorized command. `grants` says which handles its entries authorize.
     #[inline(always)]
     #[tactic(auto, using(crate::proofs::Accepting::acting))]
     fn perform(
@@ -362,8 +364,8 @@ ghost use Rattle.tpm_step.specs.Step.{counted_in, settled};
 ghost use Rattle.tpm_step.specs.Answer.{refusal_text};
 ghost use Rattle.tpm_types.specs.Locality.{locality_number};
 
-/// States what the types of an event's parts guarantee, and so what holds of every command's
-/// event. The function does nothing.
+/// Does nothing. Its contract states what the argument types guarantee for the event of every
+/// command.
 #[inline(always)]
 fn read_command(locality: Locality, elapsed_ms: u32, random: &[u8; 256])
     ensures locality { locality_number locality ≤ 4 }
@@ -373,7 +375,7 @@ fn read_command(locality: Locality, elapsed_ms: u32, random: &[u8; 256])
     let _first = random[0];
 }
 
-/// Cancels what a TPM2_Shutdown saved, unless a success of this command keeps it.
+/// Discards the state that TPM2_Shutdown saved, unless this successful command preserves it.
 fn settle<K: Keep>(keep: &mut K, code: CommandCode)
     ensures { K.record_of keep.new ≡ settled code (K.record_of keep.old) }
 {
@@ -382,7 +384,7 @@ fn settle<K: Keep>(keep: &mut K, code: CommandCode)
     }
 }
 
-/// Counts a refusal against dictionary attacks.
+/// Updates the dictionary-attack state after a refusal.
 fn count<K: Keep>(keep: &mut K, counted: Counted)
     ensures { K.record_of keep.new ≡ counted_in counted (K.record_of keep.old) }
 {
@@ -394,7 +396,7 @@ fn count<K: Keep>(keep: &mut K, counted: Counted)
     }
 }
 
-/// Counts the refusal of a command, writes the response to it, and returns the row.
+/// Updates the dictionary-attack state after a refusal, writes the response, and returns the row.
 fn refuse<K: Keep>(keep: &mut K, refusal: RefusedCommand, text: &mut Response) -> Row
     requires { text.old.items ≡ [] }
     ensures counted { K.record_of keep.new

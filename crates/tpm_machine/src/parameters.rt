@@ -1,5 +1,5 @@
-//! The encryption of first parameters. The session that asks for it decrypts the first parameter
-//! of a command, or encrypts the first parameter of the answer.
+//! Parameter encryption. A session whose attributes ask for it decrypts the first parameter of a
+//! command, or encrypts the first parameter of the response.
 
 ghost use Rattle.std.specs.Prelude.{◌≡◌, ◌≤◌, length, map};
 ghost use Rattle.std.specs.List.{zip};
@@ -15,7 +15,7 @@ use tpm_session::{Session, first_size};
 use tpm_step::Direction;
 use tpm_types_command::AuthEntry;
 
-/// Decrypts the sized buffer at the front of a text.
+/// Decrypts the sized buffer at the start of `text`.
 #[tactic(auto, unfolding(tpm_session::specs::FirstBuffer::with_first_buffer))]
 fn decrypt_first(session: &Session, value: &[u8], newer: &[u8], older: &[u8], text: &mut [u8])
     requires value { length value.now ≤ 32 }
@@ -28,7 +28,7 @@ fn decrypt_first(session: &Session, value: &[u8], newer: &[u8], older: &[u8], te
     }
 }
 
-/// Encrypts the sized buffer at the front of a text.
+/// Encrypts the sized buffer at the start of `text`.
 #[tactic(auto, unfolding(tpm_session::specs::FirstBuffer::with_first_buffer))]
 fn encrypt_first(session: &Session, value: &[u8], newer: &[u8], older: &[u8], text: &mut [u8])
     requires value { length value.now ≤ 32 }
@@ -51,7 +51,7 @@ fn asks_for(direction: Direction, entry: &AuthEntry) -> bool
     }
 }
 
-/// Decrypts or encrypts the sized buffer at the front of a text, by a session with this
+/// Decrypts or encrypts the sized buffer at the start of `text`, with a session and an
 /// authorization value.
 fn pass_first(
     direction: Direction,
@@ -89,8 +89,8 @@ fn pass_by<K: Keep>(
     }
 }
 
-/// Decrypts or encrypts the first parameter of a command or of its answer, by the session of the
-/// first entry that asks for it. Each entry has the handle that it authorizes, if any.
+/// Decrypts the first parameter of a command, or encrypts that of its answer, with the session of
+/// the first entry that asks for it. `grants` says which handle each entry authorizes, if any.
 pub fn pass_parameters<K: Keep>(
     direction: Direction,
     keep: &K,

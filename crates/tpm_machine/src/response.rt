@@ -1,4 +1,4 @@
-//! Responses to a refusal, to a success, and to a success with sessions.
+//! Writes the responses to refused commands, and to successful commands with or without entries.
 
 ghost use Rattle.tpm_types.specs.Limits.{answer_limit, buffer_limit, response_limit};
 ghost use Rattle.std.specs.Prelude.{◌≡◌, ◌+◌, ◌≤◌, ◌++◌, [], length, map};
@@ -80,7 +80,7 @@ fn write_handle(handle: Option<Handle>, text: &mut Response)
     }
 }
 
-/// Writes the response to a success without entries.
+/// Writes the response to a successful command without entries.
 fn write_plain(handle: Option<Handle>, parameters: &[u8], text: &mut Response)
     requires empty { text.old.items ≡ [] }
     requires parameters { length parameters.now ≤ ANSWER_LIMIT }
@@ -93,7 +93,7 @@ fn write_plain(handle: Option<Handle>, parameters: &[u8], text: &mut Response)
     append(text, parameters);
 }
 
-/// Writes the response to a success whose entries have these answers.
+/// Writes the response to a successful command with entries. `area` contains the answers to them.
 fn write_with_area(handle: Option<Handle>, parameters: &[u8], area: &[u8], text: &mut Response)
     requires empty { text.old.items ≡ [] }
     requires parameters { length parameters.now ≤ ANSWER_LIMIT }
@@ -110,7 +110,7 @@ fn write_with_area(handle: Option<Handle>, parameters: &[u8], area: &[u8], text:
     append(text, area);
 }
 
-/// Encrypts the parameters of an answer in place, as the entries' sessions ask for.
+/// Encrypts the first parameter of an answer in place, if the session of an entry asks for it.
 fn encrypt_answer<K: Keep>(
     keep: &K,
     entries: &[AuthEntry],
@@ -126,8 +126,8 @@ fn encrypt_answer<K: Keep>(
     pass_parameters(Direction::Encrypt, keep, entries, grants, text);
 }
 
-/// Writes the response to a successful command with entries, renews and ends their sessions, and
-/// returns how many random bytes the command drew.
+/// Writes the response to a successful command with entries, renews the nonces of their sessions,
+/// ends those that do not continue, and returns how many random bytes the command drew.
 #[inline(never)]
 fn write_with_sessions<K: Keep>(
     keep: &mut K,

@@ -1,10 +1,11 @@
-//! What saves a device while it is used. A [`Saver`] gets the device, and a [`Witness`] gets each
-//! event that the device executed. [`SavesNothing`] is both, for a device that nobody keeps.
+//! Traits that save a device while it is used. A [`Saver`] receives the device, and a [`Witness`]
+//! receives each event that the device executed. [`SavesNothing`] implements both, for a device
+//! that need not be saved.
 //!
 //! A script that uses a device calls a saver at each change and at the end. A server calls a
-//! witness with each command before the response is sent. Contracts see what was passed to each
-//! call. The contract of a saver's user says which devices the saver got, in which order, and
-//! each saver says what it does with them. The same holds of witnesses.
+//! witness with each command before it sends the response. The contract of code that uses a saver
+//! says which devices the saver receives, in which order. The saver's own contract says what it
+//! does with them. Witnesses work the same way.
 
 ghost use Rattle.std.specs.Prelude.{◌≡◌, Bool, OnErr, OnOk, false, true};
 ghost use Rattle.tpm_step.specs.Executions.{Execution};
@@ -17,49 +18,49 @@ use crate::machine::Machine;
 use tpm_record::Keep;
 use tpm_step::{Event, Outcome};
 
-/// The fault that the device was not saved.
+/// The error that the device could not be saved.
 #[derive(Clone, Copy, PartialEq, Eq)]
 pub struct Unsaved;
 
-/// A saver, which saves a device while it is used. Contracts see each successful call as a
-/// relation of three: the saver before, the record of the device that it got, and the saver
-/// after.
+/// Saves a device while it is used. Contracts describe each successful call as a relation between
+/// the saver before the call, the record of the device, and the saver after the call.
 pub trait Saver {
-    /// The saver got a device to save, with its clock.
+    /// The saver before and after it received a device to save, including its clock.
     ghost saves: { Self → Record → Self → Type 0 };
 
-    /// The saver got a device to save, of which at most the clock may be unsaved.
+    /// The saver before and after it received a device to save, where a change of only the clock
+    /// may remain unsaved.
     ghost saves_change: { Self → Record → Self → Type 0 };
 
-    /// Whether a save has failed; this stays true.
+    /// Whether a save has failed. Once true, this stays true.
     ghost has_failed: { Self → Bool };
 
-    /// Saves a device that has executed a command, if more than its clock changed. The response
-    /// is sent after that.
+    /// Saves a device after a command, if more than its clock changed. The caller sends the
+    /// response afterwards.
     fn save_change<K: Keep>(&mut self, machine: &Machine<K>) -> Result<(), Unsaved>
         ensures told { OnOk result
             (saves_change self.old (state_of K.record_of machine.now) self.new) }
         ensures failed { OnErr result (has_failed self.new ≡ true) }
         ensures stays { has_failed self.old ≡ true → has_failed self.new ≡ true };
 
-    /// Saves a device, with its clock.
+    /// Saves a device, including its clock.
     fn save<K: Keep>(&mut self, machine: &Machine<K>) -> Result<(), Unsaved>
         ensures told { OnOk result (saves self.old (state_of K.record_of machine.now) self.new) }
         ensures failed { OnErr result (has_failed self.new ≡ true) }
         ensures stays { has_failed self.old ≡ true → has_failed self.new ≡ true };
 }
 
-/// A witness, which gets each event that a device executed, before the response is sent.
-/// Contracts see each successful call as a relation of three: the witness before, the execution,
-/// and the witness after.
+/// Receives each event that a device executed, before the response is sent. Contracts describe each
+/// successful call as a relation between the witness before the call, the execution, and the
+/// witness after the call.
 pub trait Witness {
-    /// The witness got an execution.
+    /// The witness before and after it received an execution.
     ghost notes: { Self → Execution → Self → Type 0 };
 
-    /// Whether a note has failed; this stays true.
+    /// Whether a note has failed. Once true, this stays true.
     ghost note_failed: { Self → Bool };
 
-    /// Notes the event that a machine executed last, with its outcome.
+    /// Notes the latest event of a machine, with its outcome.
     fn note<K: Keep>(
         &mut self,
         machine: &Machine<K>,
@@ -73,7 +74,7 @@ pub trait Witness {
         ensures stays { note_failed self.old ≡ true → note_failed self.new ≡ true };
 }
 
-/// A saver that saves nothing, since nobody needs the device any more.
+/// A saver and witness that saves nothing, for a device that nobody needs any more.
 #[derive(Clone, Copy, PartialEq, Eq)]
 pub struct SavesNothing;
 

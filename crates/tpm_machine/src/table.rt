@@ -1,5 +1,5 @@
-//! The table that maps each command to its row. The row acts after the command's parameters are
-//! decrypted. A refusal leaves the record unchanged.
+//! Maps each command code to the function that implements the command's row. It runs after the
+//! parameters are decrypted. A refusal leaves the record unchanged.
 
 ghost use Rattle.tpm_types.specs.Limits.{buffer_limit};
 ghost use Rattle.std.specs.Prelude.{◌≡◌, ◌≤◌, ◌&&◌, Ok, length, map};
@@ -75,7 +75,7 @@ use tpm_step::Direction;
 use tpm_types::{BUFFER_LIMIT, Locality, Refused};
 use tpm_types_command::{AuthEntry, Command};
 
-/// Does what the command's row says. Only a command that grows something can be refused memory.
+/// Executes the row of a command. Only a command that may allocate can return MEMORY.
 #[inline(always)]
 #[tactic(auto, unfolding(tpm_step::specs::Table::row_of, tpm_commands::specs::CommandCode::shape_of))]
 fn act<K: Keep>(
@@ -140,7 +140,7 @@ fn act<K: Keep>(
     }
 }
 
-/// The parameters of a command as its sessions decrypt them.
+/// Returns the parameters of a command, decrypted if a session asks for it.
 fn plain_parameters<K: Keep>(
     keep: &K,
     entries: &[AuthEntry],
@@ -162,7 +162,7 @@ fn plain_parameters<K: Keep>(
     text
 }
 
-/// Does what the row of a command says, if its first parameter is encrypted.
+/// Executes the row of a command whose first parameter is encrypted.
 #[inline(never)]
 fn act_decrypted<K: Keep>(
     keep: &mut K,
@@ -191,8 +191,8 @@ fn act_decrypted<K: Keep>(
     act(keep, code, &call, answer)
 }
 
-/// Does what the row of a command says, whose entries authorize these handles. A refusal leaves
-/// the record unchanged.
+/// Executes the row of an authorized command. `grants` says which handles its entries authorize. A
+/// refusal leaves the record unchanged.
 #[tactic(auto, using(crate::proofs::DecodingLaws::plain_as_sent), unfolding(tpm_step::specs::Step::acceptance))]
 pub fn accept<K: Keep>(
     keep: &mut K,

@@ -22,21 +22,21 @@ use Rattle.tpm_record.specs.rows.Rows.{Success}
 use Rattle.tpm_record.specs.rows.Target.{may_read, may_write, target_of}
 use Rattle.tpm_record.specs.declared.rows.target.Target.{Target}
 
--- the check A1 of the commands that write, and of TPM2_NV_WriteLock: refused if authHandle may not
+-- check A1 of the commands that write, and of TPM2_NV_WriteLock: refuses an authHandle that may not
 -- write the index
 abbrev pub writer_passes : Target → Result (Unit {0}) Refused
 writer_passes target =
     refused_if (not (may_write target)) (action_refusal action.First (plain code.NvAuthorization))
 
--- the check A1 of TPM2_NV_ReadLock: refused if authHandle may not read the index
+-- check A1 of TPM2_NV_ReadLock: refuses an authHandle that may not read the index
 abbrev pub reader_passes : Target → Result (Unit {0}) Refused
 reader_passes target =
     refused_if (not (may_read target)) (action_refusal action.First (plain code.NvAuthorization))
 
--- the refusal of a write after A1: by A2 if the index is locked against writing; by A3 if its type
--- does not match the command; by A4 if the write extends past the end of the data, if it does not
--- cover all of the data although WRITEALL is set, or if the counter is at its maximum. A missing
--- index does not occur here
+-- the refusal of a write after check A1: by A2 if the index is locked against writing; by A3 if its
+-- type does not match the command; by A4 if the write extends past the end of the data, if it does
+-- not cover all of the data although WRITEALL is set, or if the counter is at its maximum. A
+-- missing index does not occur here
 abbrev pub writing_refusal : WriteFault → Refused
 writing_refusal write_fault.Locked = action_refusal action.Second (plain code.NvLocked)
 writing_refusal write_fault.Attributes =
@@ -46,8 +46,8 @@ writing_refusal write_fault.Partial = action_refusal action.Fourth (plain code.N
 writing_refusal write_fault.Exhausted = action_refusal action.Fourth (plain code.NvRange)
 writing_refusal write_fault.Undefined = handle_refusal
 
--- the refusal of a lock after A1: by A2 if no attribute of the index allows this lock. A missing
--- index does not occur here
+-- the refusal of a lock after check A1: by A2 if no attribute of the index allows this kind of
+-- lock. A missing index does not occur here
 abbrev pub lock_refusal : LockFault → Refused
 lock_refusal lock_fault.Attributes =
     action_refusal action.Second (at (place.Handle 2) (plain code.Attributes))
@@ -57,8 +57,8 @@ lock_refusal lock_fault.Undefined = handle_refusal
 abbrev pub changed_nv : Record → NvContents → Success
 changed_nv r nv = record { answer = nothing; after = record r { nv = nv } }
 
--- the row of a command that changes an index according to its parameters: A1, then the checks of
--- the change
+-- the row of a command that changes an index according to its parameters: check A1, then the checks
+-- of the change
 abbrev pub write_row : {P : Type 0} → Record → Request → Result P Refused
     → (P → Handle → Result NvContents WriteFault) → Result Success Refused
 write_row r q read change = do

@@ -44,9 +44,9 @@ definition_refusal fault.Attributes = parameter_refusal action.Third 2 code.Attr
 definition_refusal fault.DataSize = parameter_refusal action.Fourth 2 code.Size
 
 -- the row of TPM2_NV_DefineSpace. Handle: authHandle (the owner or the platform), authorized.
--- Refused by A1 if auth is longer than a digest of nameAlg; by A2 if the policy is not as long as
--- a digest; by A3 if the attributes are wrong; by A4 if the size is wrong; by A5 if the index
--- already exists; by A6 if there is no room for it
+-- Refused by check A1 if auth is longer than a digest of nameAlg; by A2 if the policy is not as
+-- long as a digest; by A3 if the attributes are wrong; by A4 if the size is wrong; by A5 if the
+-- index already exists; by A6 if there is no room for it
 unfoldable pub nv_define_space_row : Record → Request → Result Success Refused
 nv_define_space_row r q = do
   auth_handle ← first_handle q.handles

@@ -7,8 +7,8 @@ use Rattle.tpm_record.specs.rows.Request.{Request}
 use Rattle.tpm_record.specs.rows.Rows.{Success, all_read}
 use Rattle.tpm_nvactions.specs.Access.{write_row}
 
--- the row of TPM2_NV_Increment. Handles: authHandle and nvIndex. Refused by A1 if authHandle may
--- not write the index; by A2 if the index is locked; by A3 if it is not a counter; by A4 if its
+-- the row of TPM2_NV_Increment. Handles: authHandle and nvIndex. Refused by check A1 if authHandle
+-- may not write the index; by A2 if the index is locked; by A3 if it is not a counter; by A4 if its
 -- value would exceed 2^64 - 1
 unfoldable pub nv_increment_row : Record → Request → Result Success Refused
 nv_increment_row r q =

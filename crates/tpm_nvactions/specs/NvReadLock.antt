@@ -10,8 +10,8 @@ use Rattle.tpm_record.specs.rows.Rows.{Success, all_read}
 use Rattle.tpm_record.specs.rows.Target.{target_of}
 use Rattle.tpm_nvactions.specs.Access.{changed_nv, lock_refusal, reader_passes}
 
--- the row of TPM2_NV_ReadLock. Handles: authHandle and nvIndex. Refused by A1 if authHandle may
--- not read the index; by A2 if the index does not have the attribute READ_STCLEAR
+-- the row of TPM2_NV_ReadLock. Handles: authHandle and nvIndex. Refused by check A1 if authHandle
+-- may not read the index; by A2 if the index does not have the attribute READ_STCLEAR
 unfoldable pub nv_read_lock_row : Record → Request → Result Success Refused
 nv_read_lock_row r q = do
   target ← target_of r q

@@ -11,8 +11,9 @@ use Rattle.tpm_record.specs.rows.Request.{Request}
 use Rattle.tpm_record.specs.rows.Rows.{Success, only}
 use Rattle.tpm_nvactions.specs.Access.{write_row}
 
--- the row of TPM2_NV_SetBits. Handles: authHandle and nvIndex. Parameter: bits. Refused by A1 if
--- authHandle may not write the index; by A2 if the index is locked; by A3 if it is not a bit field
+-- the row of TPM2_NV_SetBits. Handles: authHandle and nvIndex. Parameter: bits. Refused by check A1
+-- if authHandle may not write the index; by A2 if the index is locked; by A3 if it is not a bit
+-- field
 unfoldable pub nv_set_bits_row : Record → Request → Result Success Refused
 nv_set_bits_row r q =
     write_row r q (only (or_fault (number_at w64 q.parameters) (plain code.Insufficient)))

@@ -29,8 +29,8 @@ parameters_in text = do
 abbrev pub parameters_of : WriteParameters → Parameters
 parameters_of asked = record { bytes = asked.bytes.now; offset = asked.offset }
 
--- the row of TPM2_NV_Write. Handles: authHandle and nvIndex. Refused by A1 if authHandle may not
--- write the index; by A2 if the index is locked; by A3 if it is not an ordinary index; by A4 if
+-- the row of TPM2_NV_Write. Handles: authHandle and nvIndex. Refused by check A1 if authHandle may
+-- not write the index; by A2 if the index is locked; by A3 if it is not an ordinary index; by A4 if
 -- the bytes extend past the end of its data, or do not cover all of it although WRITEALL is set
 unfoldable pub nv_write_row : Record → Request → Result Success Refused
 nv_write_row r q =

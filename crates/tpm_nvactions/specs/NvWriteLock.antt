@@ -10,8 +10,8 @@ use Rattle.tpm_record.specs.rows.Rows.{Success, all_read}
 use Rattle.tpm_record.specs.rows.Target.{target_of}
 use Rattle.tpm_nvactions.specs.Access.{changed_nv, lock_refusal, writer_passes}
 
--- the row of TPM2_NV_WriteLock. Handles: authHandle and nvIndex. Refused by A1 if authHandle may
--- not write the index; by A2 if the index has neither WRITEDEFINE nor WRITE_STCLEAR
+-- the row of TPM2_NV_WriteLock. Handles: authHandle and nvIndex. Refused by check A1 if authHandle
+-- may not write the index; by A2 if the index has neither WRITEDEFINE nor WRITE_STCLEAR
 unfoldable pub nv_write_lock_row : Record → Request → Result Success Refused
 nv_write_lock_row r q = do
   target ← target_of r q

@@ -1,4 +1,4 @@
--- Lemmas for comparing two rows step by step: when their results still look the same.
+-- Lemmas that compare two rows step by step, and show that their results still look the same.
 use Rattle.std.proofs.Common.{ap, refl, subst, sym, ◌∙◌}
 use Rattle.std.proofs.lemmas.Bool.{false≢true}
 use Rattle.std.specs.Prelude.{Bool, Err, None, Ok, Option, Result, Some, false, is_ok, ok_or, option_map, true, ◌&&◌, ◌≡◌}
@@ -106,7 +106,8 @@ pub either_free : {P : Type 0} (a b : Bool) → (a && b) ≡ false → (a ≡ fa
 either_free false b free unread refused = unread refl
 either_free true b free unread refused = refused free
 
--- A computation of nested steps looks the same as the computation of the same steps in sequence.
+-- If two computations of nested steps look the same, so do the computations of the same steps in
+-- sequence.
 pub alike_nested : {A B C D E : Type 0} (see : C → D) (x y : Result A E) (f g : A → Result B E) (h k : B → Result C E) → Alike see (x >>= λ a. f a >>= h) (y >>= λ a. g a >>= k) → Alike see ((x >>= f) >>= h) ((y >>= g) >>= k)
 alike_nested see (Ok a) (Ok b) f g h k alike = alike
 alike_nested see (Ok a) (Err e) f g h k alike = alike

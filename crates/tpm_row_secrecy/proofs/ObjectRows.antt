@@ -236,8 +236,9 @@ module _ (s : Secrecy) (r : Record) (q : Request) where
 
   -- ---- sealed data and keys
 
-  -- If the data of the first handle's object is not secret, at most its authorization value is
-  -- erased. So it is enough to compare the rows for such objects.
+  -- If the data of the first handle's object is not secret, at most the object's authorization
+  -- value is erased. Therefore it is enough to compare the rows for objects that differ only in
+  -- this value.
   shown_object : (f g : Object → Result Success Refused) → handle_passes (names_secret_object s r) (first_handle q.handles) ≡ false → ((o : Object) → Same s (f (other_value o)) (g o)) → Same s (first_handle q.handles >>= λ handle. loaded_at (without_secrets s r) handle >>= f) (first_handle q.handles >>= λ handle. loaded_at r handle >>= g)
   shown_object f g shown more =
       alike_step_is (bare_success s) (first_handle q.handles) _ _ (λ handle named.

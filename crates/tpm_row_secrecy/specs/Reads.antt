@@ -20,7 +20,7 @@ use Rattle.tpm_row_secrecy.specs.Secrecy.{Secrecy, has_secret_data}
 use Rattle.tpm_commands.specs.declared.command_code.CommandCode.TheVariants as command
 use Rattle.tpm_types_nv.specs.declared.nv_type.NvType.TheVariants as type
 
--- whether a command has this handle, and the handle passes a test
+-- whether a command's handle is present and passes a test
 abbrev pub handle_passes : (Handle → Bool) → Result Handle Refused → Bool
 handle_passes test (Ok handle) = test handle
 handle_passes test (Err e) = false

@@ -48,8 +48,8 @@ unless secret bytes = if secret then [] else bytes
 abbrev pub has_secret_data : Secrecy → Object → Bool
 has_secret_data s o = is_keyed_hash o.public && s.object_data o.public
 
--- an object with its secrets erased: its authorization value; and its sealed data or key together
--- with the seedValue, because `unique` is computed from both
+-- an object with its secrets erased. These are the authorization value, and the sealed data or key
+-- together with the seedValue, because `unique` is computed from both
 abbrev pub bare_object : Secrecy → Object → Object
 bare_object s o = record o {
   auth_value = unless (s.object_values o.public) o.auth_value;
@@ -142,7 +142,7 @@ pub record CoversKeys (s : Secrecy) : Type 0 where
       → option_map_or s.hierarchy_values (hierarchy_auth_of handle) false ≡ true
       → s.bound_names (handle_name handle) ≡ true
 
--- the secrecy in which only the data of these NV indices and objects is secret
+-- the choice of secrets in which only the data of these NV indices and objects is secret
 abbrev pub of_data : (ℕ → Bool) → (Public → Bool) → Secrecy
 of_data indices objects = record {
   index_data = indices;

@@ -1,4 +1,4 @@
--- A command's effect does not change the properties that sessions got at their start.
+-- A command's effect does not change the properties that a session received when it started.
 use Rattle.std.proofs.Common.{ap, inl, inr, refl, sym, ◌∙◌}
 use Rattle.std.proofs.lemmas.Bool.{cases_eq, false≢true}
 use Rattle.std.proofs.lemmas.Option.{same_Some}
@@ -37,7 +37,7 @@ use Rattle.tpm_row_secrecy.proofs.Each.{at_number_each, places, set_each}
 use Rattle.tpm_commands.specs.declared.command_code.CommandCode.TheVariants as command
 use Rattle.tpm_commands.specs.Part as part
 
--- the properties that a session got at its start, without its nonce and its policy
+-- the properties that a session received when it started, without its nonce and its policy
 abbrev pub start_of_session : Session → Session
 start_of_session x = record x { nonce_tpm = []; policy = starting x.hash }
 
@@ -203,7 +203,7 @@ flush_forbids : (shape_of command.FlushContext).forbids_sessions ≡ true
 unfolding shape_of
 flush_forbids = refl
 
--- If a command may have sessions, its success keeps all sessions as `SessionsKeep` says.
+-- If a command may have sessions, its success preserves all sessions, as `SessionsKeep` defines.
 -- TPM2_FlushContext may have none.
 pub sessions_keep : (c : CommandCode) (r : Record) (q : Request) → (shape_of c).forbids_sessions ≡ false → IfOk (row_of r c q) (RowKeeps r)
 sessions_keep command.FlushContext r q allows = absurd (false≢true (sym allows ∙ flush_forbids))

@@ -1,4 +1,5 @@
--- A command that reads sealed data is an accepted TPM2_Unseal or TPM2_HMAC with such an object.
+-- A command that reads the sealed data or the key of an object is an accepted TPM2_Unseal or
+-- TPM2_HMAC with that object.
 use Rattle.tpm_types_object.specs.ObjectAttributes.{has}
 use Rattle.std.proofs.Common.{ap, inl, inr, refl, sym, ◌∙◌}
 use Rattle.std.proofs.lemmas.Bool.{and_parts, eqb-true, false≢true, or_cases}
@@ -44,7 +45,7 @@ use Rattle.tpm_actions_object.specs.Hmac as keyed
 abbrev pub reading_code : Public → CommandCode
 reading_code public = if has public.attributes attribute.Sign then command.Hmac else command.Unseal
 
--- A command with this code and this request succeeds by its row, and reads the secret data of one
+-- The row of a command with this code and this request succeeds, and reads the secret data of one
 -- of these objects.
 pub record ReadsObject (objects : Public → Bool) (r : Record) (code : CommandCode) (q : Request) : Type 0 where
   pub handle : Handle

@@ -1,4 +1,4 @@
--- Sealed data and keys leave a device only through accepted commands that met the objects'
+-- Sealed data and keys leave a device only through accepted commands that satisfied the objects'
 -- policies.
 use Rattle.tpm_types_object.specs.ObjectAttributes.{has}
 use Rattle.std.proofs.Common.{ap, inl, inr, refl, subst, sym, ◌∙◌}

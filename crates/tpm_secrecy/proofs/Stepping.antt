@@ -257,7 +257,8 @@ module _ (s : Secrecy) (covers : CoversKeys s) where
   placed_same one other a b differ same =
       sym (placed_bare a a refl one) ∙ ap (λ (x : Record). without_secrets s (placed x a)) differ ∙ placed_bare a b same other
 
-  -- an event that keeps the secrets of two devices has the same outcome on both, except for secrets
+  -- an event that reveals no secrets on either of two devices has the same outcome on both, except
+  -- for secrets
   event_same : (refused : Bool) (one other : Record) (event : PlainEvent) → DifferInSecrets s one other → EventKeepsSecrets s one event → EventKeepsSecrets s other event → bare_step (step_where refused one event) ≡ bare_step (step_where refused other event)
   event_same refused one other (Given buffer locality elapsed random) differ keeps also =
       let differs : DifferInSecrets s (ticked one elapsed) (ticked other elapsed) = ap (λ (x : Record). ticked x elapsed) differ in

@@ -80,7 +80,7 @@ NoneUses s r (g ∷ granted) = (uses_secret s r g.0 g.1 ≡ false) × NoneUses s
 
 -- ---- guesses
 
--- whether the session of an entry uses a secret, if the entry's grant is this handle with the
+-- whether the session of an entry uses a secret, if the entry authorizes this handle with the
 -- policy's demand; if the policy refuses the handle, nothing is compared
 abbrev pub demand_uses : Secrecy → Record → Handle → Session → Entry → Result Demand Refused → Bool
 demand_uses s r handle x e (Ok d) =

@@ -1,5 +1,5 @@
--- What a device reveals about sealed data and HMAC keys: nothing, except through a TPM2_Unseal or
--- a TPM2_HMAC that met the object's policy. TPM 2.0 Library, Part 1, sections 19.7 (enhanced
+-- What a device reveals about sealed data and HMAC keys: nothing, except through a TPM2_Unseal or a
+-- TPM2_HMAC that satisfied the object's policy. TPM 2.0 Library, Part 1, sections 19.7 (enhanced
 -- authorization) and 23 (protected storage), and Part 3, sections 12.7 and 15.5.
 use Rattle.std.specs.Prelude.{Bool, List, Some, [], false, if◌then◌else◌, slice_get, true, ℕ, ◌∷◌, ◌≡◌, ◌⊎◌}
 use Rattle.tpm_mac.specs.Hasher.{Holds}
@@ -27,16 +27,17 @@ use Rattle.tpm_secrecy.specs.Tells.{EventsAlike, TellsNothing}
 use Rattle.tpm_types_object.specs.declared.object_attributes.ObjectAttribute.TheVariants as attribute
 use Rattle.tpm_commands.specs.declared.command_code.CommandCode.TheVariants as command
 
--- the secrecy in which only the sealed data or keys of objects with these public areas are secret
+-- the choice of secrets in which only the sealed data or keys of objects with these public areas
+-- are secret
 abbrev pub sealed : (Public → Bool) → Secrecy
 sealed objects = of_data (λ number. false) objects
 
 -- ---- an accepted command that reads sealed data
 
--- An accepted command reads the secret data of an object with one of these public areas:
--- TPM2_HMAC if the object signs, otherwise TPM2_Unseal. If the object has no userWithAuth, and
--- its authPolicy is the digest of a policy, a policy session authorized the command and met the
--- policy; or the hash is broken.
+-- An accepted command reads the secret data of an object with one of these public areas: TPM2_HMAC
+-- if the object signs, otherwise TPM2_Unseal. If the object has no userWithAuth, and its authPolicy
+-- is the digest of a policy, then a policy session authorized the command and satisfied the policy,
+-- or the hash is broken.
 pub record ReadsSealed (objects : Public → Bool) (history : History) (c : AcceptedCommand) : Type 0
   where
     pub public : Public
@@ -86,17 +87,16 @@ SealedDataNeedPolicy =
 
 -- ---- executions before a command reads the data
 
--- Among the commands that are accepted in these executions, after this history, none has this
--- property.
+-- No command that is accepted in these executions, after this history, has the property `Holds`.
 abbrev pub NoneIs : (History → AcceptedCommand → Type 0) → History → List Execution → Type 0
 NoneIs Holds history [] = Unit {0}
 NoneIs Holds history (one ∷ executions) =
     ((c : AcceptedCommand) → with_execution one history ≡ Done c ∷ history → Holds history c → ⊥)
     × NoneIs Holds (with_execution one history) executions
 
--- The same events also lead from another device, with the same responses and rows, to a device that
--- differs from this one only in sealed data. Objects that the events place on the other device may
--- differ in this data.
+-- From `other`, the same events lead, with the same responses and rows, to a device that differs
+-- from `new` only in sealed data. Objects that the events place on the other device may differ in
+-- this data.
 abbrev pub LeadsAlike : (Public → Bool) → Bool → Record → List Execution → Record → Type 0
 LeadsAlike objects can other [] new = DifferInSecrets (sealed objects) new other
 LeadsAlike objects can other (one ∷ executions) new =

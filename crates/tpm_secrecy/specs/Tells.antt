@@ -136,7 +136,7 @@ RunTellsNothing =
 -- ---- wrong guesses
 
 -- In a command that passed the general checks, all guesses fail, and the command reads no secret
--- data.
+-- data. The bindings of the device's sessions hold.
 pub record KeepsSecrets (s : Secrecy) (r : Record) (c : Whole) (locality : ℕ) (random : List ℕ)
     : Type 0
   where
@@ -187,9 +187,9 @@ executions_of r (e ∷ es) =
     record { before = r; event = e.1; seen = x } ∷ executions_of x.after es
 
 -- Two devices that differ only in secrets, such as a PIN, return the same responses as long as
--- every guess fails on both. In events that are executed without a reset, at most maxTries tries
--- fail, plus one for each recoveryTime that passes. The number of guesses that are not tries, such
--- as an entry that encrypts, is not limited.
+-- every guess fails on both. If recoveryTime is not 0, then in events that are executed without a
+-- reset at most maxTries tries fail, plus one for each recoveryTime that passes. The number of
+-- guesses that are not tries, such as an entry that encrypts, is not limited.
 abbrev pub WrongTriesAreFew : Type 0
 WrongTriesAreFew =
     (s : Secrecy) → CoversKeys s → (one other : Record) (events others : Attempts)

@@ -18,10 +18,10 @@ ghost use Rattle.tpm_secrecy.specs.Tells.{RunOfWrongGuessesTellsNothing, WrongTr
 ghost use Rattle.tpm_secrecy.specs.Tells.{WrongGuessesTellNothing};
 
 /// Suppose that two devices differ only in secret data. An event that does not read this data on
-/// one device reveals nothing about it: both devices return and report the same, and afterwards
-/// differ only in this data. The same holds for a list of events up to the first one that reads the
-/// data. An event reads the data on both devices, or on neither. A failed allocation makes no
-/// difference.
+/// one device reveals nothing about it: both devices return the same response, report the same row,
+/// and afterwards differ only in this data. This also holds for a list of events up to the first
+/// one that reads the data. An event reads the data on both devices, or on neither. A failed
+/// allocation makes no difference.
 #[inline(always)]
 pub fn secrecy_laws()
     ensures event { EventTellsNothing }
@@ -30,11 +30,11 @@ pub fn secrecy_laws()
 {}
 
 /// After any executions since a device was manufactured, an execution reveals nothing about the
-/// sealed data or the keys of objects, unless it is an accepted TPM2_Unseal or TPM2_HMAC with
-/// such an object. If that object has a policy and no userWithAuth, the policy was met, or the
-/// hash is broken. For example, nothing reveals a disk's key until a TPM2_Unseal of it is
-/// accepted; then either the PCRs had their values and the PIN was presented, or the recovery
-/// secret was presented, or the hash is broken.
+/// sealed data or the key of an object, unless it is an accepted TPM2_Unseal or TPM2_HMAC with that
+/// object. If the object has a policy and no userWithAuth, the policy was satisfied, or the hash is
+/// broken. For example, nothing reveals a disk's key until a TPM2_Unseal of it is accepted; then
+/// either the PCRs had their values and the PIN was presented, or the recovery secret was
+/// presented, or the hash is broken.
 #[inline(always)]
 pub fn sealed_data_laws()
     ensures each { SealedDataNeedPolicy }
@@ -44,7 +44,7 @@ pub fn sealed_data_laws()
 
 /// The laws of `sealed_data_laws` hold for every device that follows a history: a manufactured
 /// device; one that is opened from an image, a state text or a journal of a device with a history;
-/// and one that is served over connections. The policy was met in that history.
+/// and one that is served over connections. The policy was satisfied in that history.
 #[inline(always)]
 pub fn followed_data_laws()
     ensures each { FollowedDataNeedPolicy }
@@ -53,8 +53,8 @@ pub fn followed_data_laws()
 {}
 
 /// On any device, even one opened from an image with an unknown history, an execution reveals
-/// nothing about the sealed data or the keys of objects, unless it is an accepted TPM2_Unseal or
-/// TPM2_HMAC with such an object. An object without userWithAuth was then used through a policy
+/// nothing about the sealed data or the key of an object, unless it is an accepted TPM2_Unseal or
+/// TPM2_HMAC with that object. An object without userWithAuth was then used through a policy
 /// session whose policyDigest is the object's authPolicy.
 #[inline(always)]
 pub fn any_device_laws()
@@ -62,10 +62,11 @@ pub fn any_device_laws()
 {}
 
 /// Suppose that two devices differ only in authorization values and other secrets. An event reveals
-/// nothing about them if it reads no secret data and if, on both devices, every guess of such a
-/// value fails. The same holds for a list of events. In such a list at most maxTries tries fail,
-/// plus one for each recoveryTime that passes. An entry that encrypts with such a value counts as a
-/// guess, although nothing is compared. The number of guesses that are not tries is not limited.
+/// nothing about them if it reads no secret data and if, on both devices, every guess of a secret
+/// value fails. The same holds for a list of events. If recoveryTime is not 0 and the list contains
+/// no reset, at most maxTries tries fail, plus one for each recoveryTime that passes. An entry that
+/// encrypts with a secret value counts as a guess, although nothing is compared. The number of
+/// guesses that are not tries is not limited.
 #[inline(always)]
 pub fn guess_laws()
     ensures event { WrongGuessesTellNothing }

@@ -1,5 +1,5 @@
-//! Objects that come back from saved contexts (TPM 2.0 Library, Part 1, section 30). The device
-//! serves no TPM2_ContextLoad; the completing layer above it puts the object into the state.
+//! Restores objects from saved contexts (TPM 2.0 Library, Part 1, section 30). The device itself
+//! has no TPM2_ContextLoad; the completing layer above it calls `Machine::place`.
 
 ghost use Rattle.std.specs.Prelude.{◌≡◌};
 ghost use Rattle.tpm_machine.specs.Placing.{IfMemory, Places, placing_seen};
@@ -24,21 +24,20 @@ use tpm_types::Handle;
 impl<K: Keep> Machine<K> {
     ghost use Rattle.tpm_machine.specs.State.{latest_drawn};
 
-    /// Puts an object, which a saved context contained, into the lowest free slot of the transient
-    /// objects, and returns its handle. If all slots are taken or an allocation fails, nothing
-    /// changes.
+    /// Puts an object from a saved context into the lowest free slot for transient objects, and
+    /// returns its handle. If all slots are taken or an allocation fails, nothing changes.
     pub fn place(&mut self, object: Object) -> Result<Handle, SlotFault>
         ensures places { Places K.can_refuse (state_of K.record_of self.old) result
             (state_of K.record_of self.new) }
 
-        // Unless an allocation failed, this is the execution of an event, which draws no random
+        // Unless an allocation failed, the call is the execution of an event. It draws no random
         // bytes.
         ensures executes { IfMemory result (Executes K.can_refuse (state_of K.record_of self.old)
             (Placed object) (placing_seen (state_of K.record_of self.new))) }
         ensures drawn { latest_drawn self.new ≡ 0 }
 
-        // If the device followed a history, it follows the history with the placed object. So
-        // everything that holds of histories holds of this one too.
+        // If the device followed a history, it now follows that history, extended by the placed
+        // object. Therefore all laws about histories apply to it.
         ensures history { IfMemory result (After Follows (state_of K.record_of self.old)
             (Placed object) (placing_seen (state_of K.record_of self.new))) }
         ensures counters { IfMemory result (After HasCounters (state_of K.record_of self.old)
