@@ -11,8 +11,8 @@ use Rattle.tpm_record.specs.Record.{Record}
 use Rattle.tpm_step.specs.AuthValues.{AuthValues, auth_of}
 use Rattle.tpm_step.specs.History.{History}
 
--- one of four values, by the type of a handle: for an NV index, a persistent object, a transient
--- object, or any other handle
+-- selects one of four values by the type of a handle: an NV index, a persistent object, a transient
+-- object, or anything else
 abbrev pub by_type : {X : Type 0} → Handle → (index persistent transient other : X) → X
 by_type handle index persistent transient other =
     if is_nv_index handle then index
@@ -34,7 +34,7 @@ auth_seen r handle =
     (object_auth (persistent_at r.persistent handle)) (object_auth (object_at r.objects handle))
     (Some (permanent_auth_value r handle))
 
--- The authorization value of each existing entity is the one that this map has for its handle.
+-- The map has the authorization value of each existing entity, by the entity's handle.
 abbrev pub HaveValues : Record → AuthValues → Type 0
 HaveValues r values =
     (handle : Handle) (value : List ℕ) → auth_seen r handle ≡ Some value → value ≡ values handle

@@ -52,7 +52,7 @@ AreLive places live =
     (handle : Handle) → option_map session_facts (session_at places handle)
     ≡ option_map facts_of (live handle)
 
--- A device and its history have the same sessions. Before TPM2_Startup there are none.
+-- A device and its history have the same sessions. Before TPM2_Startup, no session exists.
 pub record AreSessions (places : List (Option Session)) (is_started : Bool) (history : History)
     : Type 0
   where

@@ -52,17 +52,17 @@ IsPolicyOf s (Some entity) =
 abbrev pub written_at : AcceptedCommand → ℕ → Option Bool
 written_at c place = option_and_then view_written (slice_get c.views place)
 
--- A policy for a handle with the role ADMIN names a command.
+-- If the role of a handle is ADMIN, the policy contains a command code.
 abbrev pub NamesCommand : Role → Option ℕ → Type 0
 NamesCommand role.User number = Unit {0}
 NamesCommand role.Admin number = is_some number ≡ true
 
 -- A policy session may authorize the entity at this position of a command's handles. The entity
--- accepts a policy, and the session meets its authPolicy. Since the first TPM2_PolicyPCR no PCR was
--- written and no TPM2_Clear was accepted, so every assertion about PCRs still holds. A recorded
--- command code is that of this command, and the role ADMIN requires one. A recorded cpHash is that
--- of this command. A recorded written state is that of this NV index. The command's locality is
--- allowed.
+-- accepts policies, and the session meets its authPolicy. Since the first TPM2_PolicyPCR no PCR was
+-- written and no TPM2_Clear was accepted, so every assertion about PCRs still holds. If the policy
+-- recorded a command code, it is this command's code; the role ADMIN requires a recorded code. A
+-- recorded cpHash is that of this command, and a recorded written state is that of this NV index.
+-- The command's locality is allowed.
 pub record MeetsPolicy (history : History) (c : AcceptedCommand) (place : ℕ) (e : Entry)
     (s : LiveSession) : Type 0 where
   pub allowed : allows_in means.Policy c place ≡ true

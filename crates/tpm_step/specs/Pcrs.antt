@@ -45,8 +45,8 @@ abbrev pub measured_by : HashAlg → Result (List ℕ) Refused → List ℕ → 
 measured_by bank (Ok event) old = hash_of bank (old ++ hash_of bank event)
 measured_by bank (Err e) old = old
 
--- a PCR's value after TPM2_Startup: with STATE, PCR 0 to 15 get back their values at the last
--- shutdown
+-- a PCR's value after TPM2_Startup; with STATE, PCR 0 to 15 get the values that the last shutdown
+-- saved
 abbrev pub resumed : Result StartupType Refused → ℕ → (saved old : List ℕ) → List ℕ
 resumed (Ok type.Clear) pcr saved old = old
 resumed (Ok type.State) pcr saved old = if nat_lt pcr 16 then saved else old

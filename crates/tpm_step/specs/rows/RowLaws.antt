@@ -19,8 +19,8 @@ use Rattle.tpm_step.specs.rows.Sizes.{AreSized}
 
 -- A success changes only its command's part of the state, and changes the NV indices as that part
 -- allows. It takes slots and returns values as the command's shape says. It draws as many random
--- bytes as `draws_of` says. If the command may have sessions, all sessions still exist. Sessions
--- keep their sizes.
+-- bytes as `draws_of` says. If the command may have sessions, all sessions still exist after it.
+-- Sessions keep their sizes.
 pub record SuccessLaws (c : CommandCode) (r : Record) (q : Request) (s : Success) : Type 0 where
   pub touches : Touches (part_of c) r s.after
   pub changes : ChangesIndices (part_of c) q r.nv s.after.nv

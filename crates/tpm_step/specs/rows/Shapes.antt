@@ -46,7 +46,8 @@ abbrev pub taken_in : Record → ℕ
 taken_in r =
     taken_count r.sessions + taken_count r.objects + length r.persistent + length r.nv.indices
 
--- If the command grows something, one more slot is taken, and otherwise no more slots are taken.
+-- If the command grows something, it takes one more slot. Otherwise, no more slots are taken than
+-- before.
 abbrev pub Grows : Bool → Record → Record → Type 0
 Grows true old new = taken_in new ≡ taken_in old + 1
 Grows false old new = taken_in new ≤ taken_in old
@@ -97,7 +98,7 @@ abbrev pub ParametersFail : {X : Type 0} → Refused → Result X Refused → Ty
 ParametersFail fault (Ok s) = ⊥
 ParametersFail fault (Err e) = (e ≡ fault) ⊎ (e.check ≡ check.Handles)
 
--- The row refuses the parameters exactly if they are not of their kinds, and then it refuses with
+-- The row refuses the parameters exactly if they are not of these kinds, and then it refuses with
 -- the first fault.
 abbrev pub ReadsParameters : {X : Type 0} → Result (Unit {0}) Refused → Result X Refused → Type 0
 ReadsParameters (Ok done) row = Passes check.Parameters row
