@@ -25,7 +25,7 @@ use Rattle.tpm_step.proofs.HandleMap.{same_handle}
 
 -- ---- values that do not change
 
--- If a value is found afterwards, the same value was found before.
+-- If there is a new value, the old value was the same.
 abbrev pub Kept : (old new : Option (List ℕ)) → Type 0
 Kept old new = (value : List ℕ) → new ≡ Some value → old ≡ Some value
 
@@ -42,7 +42,8 @@ index_kept old new found = found_kept (λ (index : NvIndex). index.auth_value) o
 pub object_kept : (old new : Option Object) → (new ≡ old) ⊎ (new ≡ None) → Kept (object_auth old) (object_auth new)
 object_kept old new found = found_kept (λ (object : Object). object.auth_value) old new found
 
--- If an authorization value is found for this handle afterwards, the same value was found before.
+-- If this handle has an authorization value in the new record, it had the same value in the old
+-- one.
 abbrev pub Keeps : (old new : Record) → Handle → Type 0
 Keeps old new handle = Kept (auth_seen old handle) (auth_seen new handle)
 
@@ -64,8 +65,8 @@ kept_values old new values keeps have h value is = have h value (keeps h value i
 
 -- ---- new values
 
--- This handle now has this authorization value, and each other handle that has one has its value
--- from before.
+-- This handle now has this authorization value. Every other handle that has a value had the same
+-- value before.
 pub record Sets (handle : Handle) (value : List ℕ) (old new : Record) : Type 0 where
   pub here : auth_seen new handle ≡ Some value
   pub others : (h : Handle) → h.number ≢ handle.number → Keeps old new h

@@ -18,7 +18,7 @@ use Rattle.tpm_record.specs.rows.Rows.{all_read, only, parameter}
 use Rattle.tpm_nvactions.specs.NvDefineSpace as definition
 use Rattle.tpm_step.proofs.Binding.{asked, ok_bind, ok_bind_is, ok_then}
 
--- ---- later steps after a parameter was read
+-- ---- steps after a parameter was parsed
 
 pub parameter_then : {X B : Type 0} (P : X → Type 0) (Q : B → Type 0) (n : ℕ) (x : Result X Rc) (f : X → Result B Refused) → IfOk x P → ((a : X) → P a → IfOk (f a) Q) → IfOk (parameter n x >>= f) Q
 parameter_then P Q n (Ok a) f holds next = next a holds

@@ -23,7 +23,7 @@ SameTries old new =
     (new.fields.recovery_time ≡ old.fields.recovery_time) × (new.fields.max_tries ≡ old.fields.max_tries)
     × (new.fields.failed_tries ≡ old.fields.failed_tries) × (new.forgiving_time ≡ old.forgiving_time)
 
--- disabling or enabling lockoutAuth changes nothing else
+-- disabling or enabling lockoutAuth changes no other field
 pub closed_same : (old new : LockoutState) (closed : Bool) → new ≡ with_closed closed old → SameTries old new
 closed_same old new closed is = (
   ap (λ (s : LockoutState). s.fields.recovery_time) is,

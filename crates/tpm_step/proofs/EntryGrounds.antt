@@ -1,4 +1,4 @@
--- Each accepted entry has a ground for the handle that it authorizes.
+-- Each accepted entry authorizes its handle by a password, an HMAC or a policy.
 use Rattle.std.proofs.Common.{◌≡◌, ◌≢◌, ℕ, zero, suc, ◌+◌, ◌<◌, arith, Bool, true, false, cond, List, [], ◌∷◌, length, take, map, Option, Some, None, option_map, Ok, IfOk, slice_get, refl, ap, sym, subst, ◌∙◌}
 use Rattle.std.specs.Prelude.{◌&&◌, not, IfSome, option_and_then, ◌-◌}
 use Rattle.std.specs.Int.{bit_at}

@@ -116,7 +116,8 @@ counts_first (h ∷ handles) handle count e = sym (ap (λ (x : Handle). cond (na
 
 -- ---- rows that change a PCR
 
--- For this command, the history has these values and this number of updates of the request's PCR.
+-- For this command, the history determines these values of the PCR that the request names, and this
+-- number of updates.
 abbrev Tells : CommandCode → Request → PcrValues → BankValues → (HashAlg → ℕ → List ℕ) → ℕ → Type 0
 Tells code q saved old new count =
     ((bank : HashAlg) (n : ℕ) → cond (names_pcr q.handles n) (new bank n) (pcr_value old bank n) ≡ pcr_by code q bank n (saved bank n) (pcr_value old bank n))
@@ -197,7 +198,8 @@ restored_at : (s : SavedValues) (values : PcrValues) (banks : BankValues) → Ar
 restored_at s values banks is alg.Sha1 n = front_or s.sha1 banks.sha1 n (values alg.Sha1 n) (is.sixteen alg.Sha1) (is.each alg.Sha1 n)
 restored_at s values banks is alg.Sha256 n = front_or s.sha256 banks.sha256 n (values alg.Sha256 n) (is.sixteen alg.Sha256) (is.each alg.Sha256 n)
 
--- After a startup of this type, PCRs have these values, and updates are counted from 0.
+-- After a startup of this type, PCRs have the values that the history determines, and the update
+-- counter is 0.
 abbrev Begins : StartupType → PcrValues → BankValues → BankValues → Type 0
 Begins t saved old new =
     ((bank : HashAlg) (n : ℕ) → pcr_value new bank n ≡ resumed (Ok t) n (saved bank n) (pcr_value old bank n))
@@ -250,7 +252,7 @@ touched_banks Cleared old new leaves touches = absurd cc
 touched_banks AuthValues old new leaves touches = ap (λ (r : Record). r.fixed.banks) touches.0
 touched_banks _ old new leaves touches = ap (λ (r : Record). r.fixed.banks) touches
 
--- In a history, this command changes no PCR.
+-- In a history, this command changes neither a PCR nor the update counter.
 abbrev TellsNothing : CommandCode → Request → Type 0
 TellsNothing code q =
     ((bank : HashAlg) (n : ℕ) (saved old : List ℕ) → old ≡ pcr_by code q bank n saved old)

@@ -1,7 +1,7 @@
 //! Laws about the rows of all commands. Each is the contract of a function that does nothing. The
 //! laws say which part of the record a success changes, what the command's shape determines, that
-//! sessions still exist, and what no row refuses. A row neither renews nor ends a session; the step
-//! does so after the row. Sessions keep their sizes through the whole step.
+//! sessions still exist, and what no row refuses. The step renews or ends the sessions of entries
+//! only after the row. Sessions keep their sizes through the whole step.
 //!
 //! The laws are about the definitions of the step. All laws of a row are one record, which is
 //! proved once, so that theorems about histories do not unfold the rows. Each law about all
@@ -126,8 +126,8 @@ pub fn row_secrecy_laws()
 {}
 
 /// A row refuses no handle if the handles fit the rules of its command's shape. The row is defined
-/// for every request, and so it refuses a handle that is missing or names no entity; but no command
-/// leads to such a request.
+/// for every request, and therefore it also refuses a handle that is missing or names no entity;
+/// but the general checks have already excluded these cases.
 #[inline(always)]
 #[tactic(auto, using(crate::proofs::rows::Table::row_passes))]
 pub fn row_handle_laws()
@@ -253,8 +253,8 @@ pub fn uncounted_laws()
         → IfErr (general r buffer) (λ e. e.refused.counted ≡ counted.None) }
 {}
 
-/// All sessions of a manufactured device have their sizes, and so have those of a device after a
-/// power cycle. Neither device has a session.
+/// A newly manufactured device has no session, and neither has a device after a power cycle.
+/// Therefore all sessions of both have their sizes.
 #[inline(always)]
 #[tactic(auto, using(crate::proofs::rows::SizedSteps::manufactured_sized, crate::proofs::rows::SizedSteps::cycled_sized))]
 pub fn new_device_size_laws()
@@ -285,8 +285,7 @@ pub fn row_size_laws()
 {}
 
 /// Sessions keep their sizes in the answer to a success, if there are enough random bytes for a
-/// nonce of each entry. The answer renews nonces, returns policies to their start and ends
-/// sessions.
+/// nonce of each entry. The answer renews nonces, resets policies and ends sessions.
 #[inline(always)]
 pub fn answer_size_laws()
     ensures { (c : Whole) (grants : List (Option Grant)) (a : Written) (effect : Record)

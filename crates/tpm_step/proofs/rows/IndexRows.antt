@@ -174,8 +174,8 @@ defined_grows : (r : Record) (h : Handle) (i : NvIndex)
     → Grows true r (record r { nv = with_index r.nv h i })
 defined_grows r h i = let more = put_length r.nv.indices h.number i in omega (arith, more)
 
--- TPM2_NV_DefineSpace reads parameters of these kinds. It reads its authorization value as a
--- buffer, and removes zeros at the end afterwards.
+-- TPM2_NV_DefineSpace parses parameters of these kinds. It parses its authorization value as a
+-- buffer, and removes trailing zeros afterwards.
 define_reads : (text : List ℕ)
     → outcome (parameters_in text) ≡ spelled 1 (kind.Buffer 32 ∷ kind.NvPublic ∷ []) text
 unfolding parameters_in

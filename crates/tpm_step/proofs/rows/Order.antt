@@ -160,7 +160,7 @@ pub either : (a b : Bool) → (a || b) ≡ true → (a ≡ true) ⊎ (b ≡ true
 either true b is = inl refl
 either false b is = inr is
 
--- The session or the other entity that a handle of this type names exists.
+-- The entity that a handle of this type names exists: a session, or another entity.
 abbrev pub IsThere : ℕ → Bool → Entity → Type 0
 IsThere type session entity =
     (if (type == 0x02 || type == 0x03) then session

@@ -1,4 +1,4 @@
--- A step, and a run, keep the sizes of sessions.
+-- Steps and runs keep the sizes of sessions.
 use Rattle.std.proofs.Common.{arith, ◌≡◌, ℕ, Bool, true, false, cond, List, [], ◌∷◌, length, take, Option, Some, None, Result, Ok, Err, IfOk, refl, ◌+◌, ◌*◌, drop, subst, sym, Bor, ◌≤◌}
 use Rattle.std.specs.Prelude.{IfSome, is_some, not}
 use Rattle.std.specs.Option.{option_map_or}

@@ -17,7 +17,7 @@ use Rattle.tpm_step.proofs.Binding.{ok_bind}
 use Rattle.tpm_step.proofs.rows.Parts.{keeps_places, leaves_sessions, sessions_same}
 use Rattle.tpm_step.proofs.rows.Parts.{touched_grows, touched_same}
 
--- A success that takes no more slots has the growth that the command's shape says.
+-- If a success takes no more slots, it grows as the command's shape says.
 abbrev pub GrowsNothing : CommandCode → Type 0
 GrowsNothing c = (old new : Record) → Grows false old new → GrowsAsShaped c old new
 
