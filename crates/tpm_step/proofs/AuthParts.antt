@@ -50,7 +50,7 @@ Keeps old new handle = Kept (auth_seen old handle) (auth_seen new handle)
 abbrev pub KeepsAll : (old new : Record) → Type 0
 KeepsAll old new = (handle : Handle) → Keeps old new handle
 
--- if each part of the record keeps its value for this handle, the handle keeps its value
+-- a handle keeps its authorization value if each part of the record keeps its value for this handle
 pub parts_keep : (old new : Record) (h : Handle) → Kept (index_auth (index_at old.nv h)) (index_auth (index_at new.nv h)) → Kept (object_auth (persistent_at old.persistent h)) (object_auth (persistent_at new.persistent h)) → Kept (object_auth (object_at old.objects h)) (object_auth (object_at new.objects h)) → permanent_auth_value new h ≡ permanent_auth_value old h → Keeps old new h
 parts_keep old new h index persistent transient permanent = by (is_nv_index h) (is_persistent h) (is_transient h)
   where
@@ -122,7 +122,8 @@ object_set r objects handle object named found others = record {
 
 -- ---- hierarchies
 
--- the handle of an authorization value; no two authorization values have the same handle
+-- the handle of the hierarchy, or of lockout, to which an authorization value belongs; no two
+-- authorization values have the same handle
 abbrev pub auth_handle : HierarchyAuth → Handle
 auth_handle auth.Owner = owner_handle
 auth_handle auth.Lockout = lockout_handle

@@ -1,5 +1,5 @@
--- If a device follows a history before an event, it follows the same history after it, with the
--- event added if it was accepted.
+-- If a device follows a history, then after an event it follows the same history, to which the
+-- event is added if it was accepted.
 use Rattle.std.proofs.Common.{arith, ◌≡◌, ◌≤◌, ℕ, Bool, true, false, cond, List, [], ◌∷◌, length, drop, map, Option, Some, None, option_map, Result, Ok, Err, IfOk, Bor, refl, ap, sym, subst, ◌∙◌}
 use Rattle.std.specs.Fn.{Mut}
 use Rattle.tpm_lockout.specs.Lockout.{LockoutState}

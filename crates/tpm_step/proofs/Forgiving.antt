@@ -26,7 +26,7 @@ use Rattle.tpm_step.specs.Potential.{IsForgiving}
 use Rattle.tpm_step.specs.Tries.{resets_tries}
 use Rattle.tpm_step.proofs.Balance.{SameTries, closed_same, refusal_forgives, same_forgives, tick_forgives}
 
--- ---- rows that keep the failed tries
+-- ---- rows that leave the failed tries unchanged
 
 abbrev leaves_tries : Part → Bool
 leaves_tries Lockout = false

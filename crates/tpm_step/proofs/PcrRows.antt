@@ -46,7 +46,7 @@ use Rattle.tpm_step.specs.DevicePcrs.{AreSaved, IsSavedAs}
 use Rattle.tpm_step.specs.Pcrs.{count_in, extended_by_all, if_pcr, measured_by, names_pcr, pcr_by, resumed, updates_by}
 use Rattle.tpm_pcr.proofs.OneValue.{event_digest, extensions_at, extensions_count, zeros_at}
 
--- A success changes the values of PCRs, and the number of updates, as the history does with these
+-- A success changes the values of PCRs, and the number of updates, as the history does, given these
 -- saved values.
 pub record Measures (code : CommandCode) (q : Request) (saved : PcrValues) (old new : BankValues) : Type 0 where
   pub values : (bank : HashAlg) (n : ℕ) → n < 24 → pcr_value new bank n ≡ pcr_by code q bank n (saved bank n) (pcr_value old bank n)
@@ -57,14 +57,14 @@ SoMeasures code q saved r s = Measures code q saved r.fixed.banks s.after.fixed.
 
 -- ---- the PCR that a handle names
 
--- The new banks have these values in the PCR that the handle names, if it names one, and this many
--- more updates. Other PCRs have their old values.
+-- The new banks have these values in the PCR that the handle names, if it names one, and count this
+-- many more updates. Other PCRs have their old values.
 record IsChanged (handle : Handle) (new : HashAlg → ℕ → List ℕ) (count : ℕ) (old banks : BankValues) : Type 0 where
   values : (bank : HashAlg) (n : ℕ) → n < 24 → pcr_value banks bank n ≡ cond (handle.number == n) (new bank n) (pcr_value old bank n)
   updates : banks.update_count ≡ old.update_count + cond (nat_lt handle.number 24) count 0
 
--- The new banks have these values in the PCR with this number, and this many more updates. Other
--- PCRs have their old values.
+-- The new banks have these values in the PCR with this number, and count this many more updates.
+-- Other PCRs have their old values.
 record IsMade (pcr : ℕ) (new : HashAlg → ℕ → List ℕ) (count : ℕ) (old banks : BankValues) : Type 0 where
   values : (bank : HashAlg) (n : ℕ) → n < 24 → pcr_value banks bank n ≡ cond (pcr == n) (new bank n) (pcr_value old bank n)
   updates : banks.update_count ≡ old.update_count + count

@@ -57,8 +57,8 @@ pub record IsFirstAuthorized (history : History) (c : AcceptedCommand) : Type 0 
 
 -- ---- TPM2_PolicySecret and TPM2_PolicyNV
 
--- TPM2_PolicySecret was accepted with this policyRef for the entity with this Name, and that entity
--- was authorized. The session at this handle has had the assertion since then.
+-- TPM2_PolicySecret was accepted with this policyRef, and the entity with this Name authorized it.
+-- The session at this handle has had the assertion since then.
 pub record ShowsSecret (history : History) (handle : Handle) (name reference : List ℕ) : Type 0
   where
     pub parts : SecretParts
@@ -70,8 +70,8 @@ pub record ShowsSecret (history : History) (handle : Handle) (name reference : L
 
 -- TPM2_PolicyNV was accepted for the NV index with this Name, with this operand, offset and
 -- operation. The command is refused unless the operation holds between the index's bytes from the
--- offset and the operand. authHandle, which authorizes the read of the index, was authorized. The
--- session at this handle has had the assertion since then.
+-- offset and the operand. The entity of authHandle authorized the read of the index. The session at
+-- this handle has had the assertion since then.
 pub record ComparesIndex (history : History) (handle : Handle) (name operand : List ℕ) (offset : ℕ)
     (operation : Operation) : Type 0
   where

@@ -26,8 +26,8 @@ index_auth found = option_map (λ (index : NvIndex). index.auth_value) found
 abbrev pub object_auth : Option Object → Option (List ℕ)
 object_auth found = option_map (λ (object : Object). object.auth_value) found
 
--- the authorization value of the entity that a handle names, if the entity exists; a handle that is
--- not of an index's or an object's type always names an entity
+-- the authorization value of the entity that a handle names, if the entity exists; a handle that
+-- does not have the type of an index or an object always names an entity
 abbrev pub auth_seen : Record → Handle → Option (List ℕ)
 auth_seen r handle =
     by_type handle (index_auth (index_at r.nv handle))

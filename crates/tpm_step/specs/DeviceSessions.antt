@@ -45,8 +45,8 @@ session_facts s = record {
   policy = s.policy;
 }
 
--- At each handle, the device and the history have a session with the same facts, or both have
--- none.
+-- For each handle, the device's session and the history's session have the same `SessionFacts`, or
+-- neither has a session.
 abbrev pub AreLive : List (Option Session) → LiveSessions → Type 0
 AreLive places live =
     (handle : Handle) → option_map session_facts (session_at places handle)

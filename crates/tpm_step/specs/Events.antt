@@ -16,7 +16,7 @@ pub data PlainEvent : Type 0 where
   Cycled : PlainEvent
   Placed : (object : Object) → PlainEvent
 
--- The event can happen. Its locality is 0 to 4, its elapsed time has 32 bits, and each command has
+-- The event can occur. Its locality is 0 to 4, its elapsed time has 32 bits, and each command has
 -- 256 random bytes. A placed object satisfies the invariant of every loaded object.
 abbrev pub IsEvent : PlainEvent → Type 0
 IsEvent (Given buffer locality elapsed random) =

@@ -95,15 +95,15 @@ pub data Ground (history : History) (c : AcceptedCommand) (place : ℕ) (e : Ent
       → HasDemanded (is_password_demand (policy_in s).demand) history c place e s
       → Ground history c place e
 
--- For each handle that needs authorization, the entry at the same position authorizes it on one of
--- the three grounds.
+-- For each handle that needs authorization, the entry at the same position authorizes it by a
+-- password, an HMAC or a policy.
 abbrev pub UsesHaveGrounds : History → AcceptedCommand → Type 0
 UsesHaveGrounds history c =
     (place : ℕ) (handle : Handle) → used_in c.command place ≡ Some handle
     → (e : Entry) × (slice_get c.command.entries place ≡ Some e) × Ground history c place e
 
--- Each command of a history used its handles on one of the three grounds, given the history
--- before it.
+-- In each command of a history, each handle that needs authorization was authorized, given the
+-- history before the command.
 abbrev pub AllHaveGrounds : History → Type 0
 AllHaveGrounds [] = Unit {0}
 AllHaveGrounds (Done c ∷ history) = UsesHaveGrounds history c × AllHaveGrounds history

@@ -80,7 +80,7 @@ abbrev pub History : Type 0
 History = List PastEvent
 
 -- the history with one more command, if its row reports check 0. The history records neither a
--- refusal nor a MEMORY instead of a success
+-- refused command, nor a command that returned MEMORY instead of succeeding
 abbrev pub with_command : Record → Result Accepted RefusedCommand → (check : ℕ)
     → History → History
 with_command r (Ok a) zero history = Done (command_of r a) ∷ history

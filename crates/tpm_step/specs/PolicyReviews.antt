@@ -102,12 +102,12 @@ NeedsItsPolicy history c =
 
 -- ---- policies of PCRs
 
--- the written policy that requires these values of the selected PCRs, which are concatenated
+-- the written policy that requires these concatenated values of the selected PCRs
 abbrev pub by_pcrs : HashAlg → List BankSelection → (values : List ℕ) → PolicyExpression
 by_pcrs hash selection values = Then Nothing (PolicyPcr selection (hash_of hash values))
 
--- The selected PCRs have these values after a history. Or these values and those of the PCRs are
--- two different texts with the same hash.
+-- The selected PCRs have these values after a history. Or their values are a different text with
+-- the same hash.
 abbrev pub HavePcrValues : History → HashAlg → List BankSelection → (values : List ℕ) → Type 0
 HavePcrValues history hash selection values =
     let found : List ℕ = concat (flat_map (values_in history) selection) in
@@ -144,7 +144,7 @@ by_pin_or_secret name reference =
     (Branch (Then Nothing (PolicySecret name reference)) NoBranch))
 
 -- An object with this policy is used only with its authorization value, or after an accepted
--- TPM2_PolicySecret, for which the entity with that Name was authorized.
+-- TPM2_PolicySecret that the entity with this Name authorized.
 abbrev pub NeedsPinOrSecret : History → AcceptedCommand → Type 0
 NeedsPinOrSecret history c =
     (place : ℕ) (public : Public) (name reference : List ℕ)

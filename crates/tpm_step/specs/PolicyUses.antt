@@ -23,9 +23,9 @@ use Rattle.tpm_step.specs.Pcrs.{digest_in}
 use Rattle.tpm_step.specs.QuietPcrs.{AreQuietSince}
 use Rattle.tpm_step.specs.Sessions.{LiveSession}
 
--- a use by a policy session: the history before it; the command; the used handle, and its position
--- among the command's handles, counted from 0; the entry at the same position; and the entry's
--- session
+-- a use of an entity that a policy session authorizes: the history before it; the command; the used
+-- handle, and its position among the command's handles, counted from 0; the entry at the same
+-- position; and the entry's session
 pub record PolicyUse : Type 0 where
   pub history : History
   pub command : AcceptedCommand
@@ -107,7 +107,7 @@ UsesMeetPolicies history c =
     × (ground : Ground history c place e) × MeetsPolicies history c place handle e ground
 
 -- Each command of a history met the policies of the entities that it used, given the history before
--- it.
+-- the command.
 abbrev pub AllMeetPolicies : History → Type 0
 AllMeetPolicies [] = Unit {0}
 AllMeetPolicies (Done c ∷ history) = UsesMeetPolicies history c × AllMeetPolicies history

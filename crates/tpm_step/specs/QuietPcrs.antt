@@ -56,8 +56,8 @@ pub record AreQuietSince (handle : Handle) (history : History) : Type 0 where
   pub keeps : KeepsPcrs handle (since ++ Done first ∷ []) before
   pub quiet : AllByRecursion IsQuiet since
 
--- The claim of this assertion about PCRs holds after a history: the selected PCRs have the digest
--- that TPM2_PolicyPCR asserted, with the session's hash. Other assertions claim nothing about PCRs.
+-- After a history, the selected PCRs have the digest that this TPM2_PolicyPCR asserted, computed
+-- with the session's hash. Other assertions do not concern PCRs.
 abbrev pub HoldsOf : History → HashAlg → Assertion → Type 0
 HoldsOf history hash (Pcr parts) =
     (selection : List BankSelection) × (parts.selection ≡ selection_text selection)

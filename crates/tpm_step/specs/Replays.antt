@@ -51,8 +51,8 @@ pub record IsReplay (buffer : List ℕ) (before : History) (first : AcceptedComm
     pub is_hmac : s.kind ≡ type.Hmac
     pub lives_on : LivesThrough e.session (between ++ Done first ∷ []) before
 
--- The session's nonceTPM is again that of the earlier time, and it is among the nonces that the
--- session had before.
+-- The session's nonceTPM is the same as at the earlier time, and it is among the session's earlier
+-- nonces.
 abbrev pub HasNonceAgain : (earlier now : LiveSession) → Type 0
 HasNonceAgain earlier now =
     (now.nonce_tpm ≡ earlier.nonce_tpm) × IsAmong now.nonce_tpm now.earlier_nonces

@@ -18,9 +18,9 @@ only_ticked r (Given buffer locality elapsed random) = ticked r elapsed
 only_ticked r Cycled = r
 only_ticked r (Placed object) = r
 
--- The response to a refusal is ten bytes with its code, and the row reports its check. The record
--- changes only by the passing of time and by what the refusal counts. Which command the row names
--- is unspecified here.
+-- A refused command gets a response of ten bytes with the refusal's code, and the row reports the
+-- check. The record changes only by the elapsed time and by a failed try, if the refusal counts
+-- one. Which command the row names is unspecified here.
 abbrev pub IsHarmless : Record → PlainEvent → Stepped → Type 0
 IsHarmless r event x = x.row.check ≢ 0
     → (length x.response ≡ 10)

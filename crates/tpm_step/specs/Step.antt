@@ -67,8 +67,8 @@ acceptance r c locality random = do
   success ← row_of r c.code q
   Ok (record { command = c; grants = grants; request = q; success = success })
 
--- The refusal is the command's own. Or, if an allocation can fail, MEMORY refuses a command that
--- would succeed and grows something.
+-- The command is refused as the definition says. Or an allocation can fail, and a command that
+-- would succeed and grows something is refused with MEMORY.
 abbrev pub RefusesOrWantsMemory : Bool → Whole → Result Accepted Refused → Refused → Type 0
 RefusesOrWantsMemory can c (Err refused) e = e ≡ refused
 RefusesOrWantsMemory can c (Ok a) e =
@@ -96,7 +96,7 @@ accepted r buffer locality random = do
   command ← general r buffer
   in_command command.code (acceptance r command locality random)
 
--- what a refusal counts against dictionary attacks: nothing; a failed try on a protected entity; or
+-- how a refusal changes the lockout state: not at all; by a failed try on a protected entity; or by
 -- a failed try on lockoutAuth, which disables lockoutAuth
 abbrev pub lockout_counted : Counted → LockoutState → LockoutState
 lockout_counted counted.None s = s
@@ -106,7 +106,7 @@ lockout_counted counted.Lockout s = closed_by_failure s
 abbrev pub counted_in : Counted → Record → Record
 counted_in counted r = with_lockout r (lockout_counted counted r.fixed.lockout)
 
--- the step of a refused command, which changes nothing in the record except what the refusal counts
+-- the step of a refused command, which changes nothing in the record except the lockout state
 abbrev pub refusal_step : Record → RefusedCommand → Stepped
 refusal_step r e = record {
   response = refusal_text e.refused;
@@ -133,7 +133,7 @@ abbrev pub stepped_of : Record → List ℕ → Result Accepted RefusedCommand �
 stepped_of r random (Ok a) = success_step a random
 stepped_of r random (Err e) = refusal_step r e
 
--- the step with the response and the row of an outcome, and with this record as its result
+-- the step with the response and the row of an outcome, and with this record after it
 abbrev pub outcome_step : Record → Outcome → Stepped
 outcome_step r o = record { response = o.response.items; row = o.row; after = r }
 

@@ -38,7 +38,7 @@ view_protection (OfIndex public) =
     if index_has public.attributes mark.NoDa then protection.None else protection.Tries
 view_protection (OfHandle handle) = permanent_protection handle
 
--- whether an authPolicy is a policy at all, and not empty
+-- whether an authPolicy is a policy, that is, not empty
 abbrev pub is_policy : List ℕ → Bool
 is_policy digest = not (length digest == 0)
 

@@ -59,8 +59,8 @@ ghost use Rattle.tpm_step.specs.Views.{TellsOf};
 
 use crate::event::Outcome;
 
-/// A newly manufactured device follows the empty history. If a device follows a history before an
-/// event, it follows the same history after it, with the event added if it was accepted. A power
+/// A newly manufactured device follows the empty history. If a device follows a history, then after
+/// an event it follows the same history, to which the event is added if it was accepted. A power
 /// cycle is always added.
 #[inline(always)]
 pub fn following_laws()
@@ -88,8 +88,8 @@ pub fn stretch_laws()
         → Leads false old executions new → Leads can old executions new }
 {}
 
-/// If a device follows a history before a stretch of events, it follows the history with all
-/// accepted events of the stretch after it. The other properties of `StretchFollows` hold too.
+/// If a device follows a history, then after a stretch of events it follows the same history with
+/// all accepted events of the stretch added. The other properties of `StretchFollows` hold too.
 #[inline(always)]
 pub fn stretch_history_laws()
     ensures { (can : Bool) (old : Record) (executions : List Execution) (new : Record)

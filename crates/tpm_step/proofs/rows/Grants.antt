@@ -79,7 +79,8 @@ grants_refuse r c locality is = walk_refuses r c locality [] c.entries (entries_
 
 -- ---- the grant of an entry
 
--- An entry is granted the handle that it has to authorize, or none.
+-- On success, the entry is granted the handle that it has to authorize, or no handle if there is
+-- none.
 abbrev Grants : Option Handle → Result (Option Grant) Refused → Type 0
 Grants used result = IfOk result (λ granted. handle_in granted ≡ used)
 

@@ -199,7 +199,7 @@ pub none_is : (o : Option NvIndex) → is_some o ≡ false → o ≡ None
 none_is None is = refl
 none_is (Some index) is = absurd (false≢true (sym is))
 
--- the attributes of an index that passes the checks of a definition do not conflict
+-- the attributes of an index that passes the checks of TPM2_NV_DefineSpace do not conflict
 no_conflict : (by_platform : Bool) (p : NvPublic) (size : ℕ)
     → IfOk (definition_passes by_platform p size) (λ u. HasNoConflict by_platform p)
 unfolding definition_passes

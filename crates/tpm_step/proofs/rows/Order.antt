@@ -89,7 +89,7 @@ spelled_faults n (kind ∷ kinds) text = err_bind _ (parameter n (behind_kind ki
 
 -- ---- steps that read a handle
 
--- the handles authHandle and nvIndex, as a row reads them
+-- authHandle, nvIndex and the index's attributes, as a row reads them
 abbrev target_at : Record → List Handle → Result Target Refused
 target_at r handles = do
   auth_handle ← first_handle handles

@@ -17,7 +17,7 @@ use Rattle.tpm_actions_device.specs.StartAuthSession.{parameters_in as session_p
 use Rattle.tpm_actions_object.specs.Creation.{parameters_in as creation_parameters}
 use Rattle.tpm_step.specs.General.{is_startup}
 
--- the count for these parameters, or 0 if they could not be read
+-- the count for these parameters, or 0 if they could not be parsed
 abbrev pub read_or_none : {P : Type 0} → (P → ℕ) → Result P Refused → ℕ
 read_or_none count (Ok p) = count p
 read_or_none count (Err e) = 0

@@ -1,4 +1,4 @@
--- The order of a row's refusals, and what the refusals count.
+-- The order of a row's refusals, and whether they count as failed tries.
 use Rattle.std.specs.Prelude.{◌≡◌, ◌⊎◌, ℕ, List, Result, Ok, Err, IfErr}
 use Rattle.tpm_types.specs.declared.check.Check.{Check}
 use Rattle.tpm_types.specs.declared.check.Check.TheVariants as check
@@ -41,10 +41,10 @@ pub record Orders {X : Type 0} (r : Record) (rules : List HandleRule) (handles :
     (kinds : List ParameterKind) (text : List ℕ) (row : Result X Refused) : Type 0 where
   pub order : InOrder (HandlesFit r rules handles) (spelled 1 kinds text) row
 
--- The refusal counts nothing against dictionary attacks.
+-- The refusal neither counts as a failed try nor disables lockoutAuth.
 abbrev pub IsPlain : Refused → Type 0
 IsPlain e = e.counted ≡ counted.None
 
--- If there is a refusal, it counts nothing against dictionary attacks.
+-- If the result is a refusal, it neither counts as a failed try nor disables lockoutAuth.
 abbrev pub Plain : {X : Type 0} → Result X Refused → Type 0
 Plain result = IfErr result IsPlain

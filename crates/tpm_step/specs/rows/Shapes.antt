@@ -40,8 +40,8 @@ AnswersItsShape c s =
     (is_some s.answer.handle ≡ (shape_of c).answers_handle)
     × (begins_sized s.answer.body ≡ (shape_of c).sized_answer)
 
--- the number of slots and entries of a record that are taken, by sessions, by transient and
--- persistent objects, and by NV indices
+-- the number of slots and list entries that a record uses for sessions, transient and persistent
+-- objects, and NV indices
 abbrev pub taken_in : Record → ℕ
 taken_in r =
     taken_count r.sessions + taken_count r.objects + length r.persistent + length r.nv.indices
@@ -58,7 +58,7 @@ abbrev pub GrowsAsShaped : CommandCode → Record → Record → Type 0
 GrowsAsShaped command.EvictControl old new = Grows true old new ⊎ Grows true new old
 GrowsAsShaped c old new = Grows (shape_of c).grows old new
 
--- the bytes after a parameter that was read, or the parameter's fault
+-- the bytes after a parsed parameter, or the parameter's fault
 abbrev pub behind : {X : Type 0} → Result (X × List ℕ) Rc → Result (List ℕ) Rc
 behind (Ok p) = Ok p.1
 behind (Err rc) = Err rc
@@ -85,8 +85,8 @@ behind_kind kind.Operation text = behind (operation_at text)
 behind_kind kind.YesNo text = behind (yes_no_at text)
 behind_kind kind.PersistentHandle text = behind (persistent_handle_at text)
 
--- success if the bytes are parameters of these kinds, the first with this number, and nothing after
--- them; otherwise the first fault
+-- parses parameters of these kinds up to the end of the bytes; the first parameter has number n.
+-- The result is the first fault, if there is one
 abbrev pub spelled : ℕ → List ParameterKind → List ℕ → Result (Unit {0}) Refused
 spelled n [] text = all_read text
 spelled n (kind ∷ kinds) text = do
