@@ -1,5 +1,5 @@
--- An event is a failed try exactly if its authorization is refused with AUTH_FAIL for an entry that
--- touches a protected entity. The response reports this refusal.
+-- An event is a failed try if and only if its authorization is refused with AUTH_FAIL for an entry
+-- that touches a protected entity. The response reports this refusal.
 use Rattle.std.proofs.Common.{arith, rules, ◌≡◌, ℕ, ◌+◌, Bool, true, false, List, [], ◌∷◌, ◌++◌, append_assoc, length, length-append, slice_get, Option, Some, None, option_map, Result, Ok, Err, IfErr, refl, sym, ap, subst, ◌∙◌}
 use Rattle.std.specs.Prelude.{not, nat_lt, ◌&&◌, ◌||◌, is_none}
 use Rattle.std.specs.List.{list_any}

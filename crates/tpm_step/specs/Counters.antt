@@ -109,8 +109,8 @@ AllBelow n numbers = AllByRecursion (λ m. m < n) numbers
 
 -- The claims about the counters of every history.
 pub record CountLaws : Type 0 where
-  -- an event defines an index with a handle exactly if it is an accepted TPM2_NV_DefineSpace for
-  -- this handle
+  -- an event defines an index with a handle if and only if it is an accepted TPM2_NV_DefineSpace
+  -- for this handle
   pub definitions : (one : PastEvent) (handle : Handle)
       → (defines one handle ≡ true ↔ IsDefinition one handle)
   -- if a counter has no value after the old history, each of its later values exceeds all counter

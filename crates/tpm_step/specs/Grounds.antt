@@ -1,5 +1,6 @@
--- The grounds on which a command uses its handles, given the history before it. TPM 2.0 Library,
--- Part 1, section 19 (authorizations and policies), and Part 3, section 5.6 (authorization checks).
+-- How each handle that a command uses is authorized, given the history before the command. TPM 2.0
+-- Library, Part 1, section 19 (authorizations and policies), and Part 3, section 5.6 (authorization
+-- checks).
 use Rattle.std.specs.Prelude.{◌≡◌, ◌≢◌, ℕ, ◌&&◌, Bool, true, false, IfSome, [], ◌∷◌, is_some, Option, Some, None, option_and_then, slice_get}
 use Rattle.std.specs.Int.{bit_at}
 use Rattle.std.specs.Option.{option_map_or}
@@ -80,7 +81,7 @@ abbrev pub HasDemanded : Bool → History → AcceptedCommand → ℕ → Entry 
 HasDemanded true history c place e s = HasPassword history c place e
 HasDemanded false history c place e s = HasHmac history c place e s
 
--- ---- the three grounds
+-- ---- the three ways to authorize a handle
 
 -- The entry authorizes the handle at the same position: by a password; by its HMAC in an HMAC
 -- session; or by a policy session, which is not a trial session.

@@ -1,6 +1,6 @@
 //! Laws about histories: the PCRs, sessions, policies, authorization values and counters of a
-//! device follow from what the device has accepted. Further laws say on what grounds entities were
-//! used, what a replay repeats, and how many tries may fail.
+//! device follow from what the device has accepted. Further laws say how each use of an entity was
+//! authorized, what a replay repeats, and how many tries may fail.
 //!
 //! Each law is the contract of a function that does nothing. The laws follow from the definitions
 //! of the step and from the laws about all rows in [`crate::rows`]. Apart from these, their proofs
@@ -191,9 +191,8 @@ pub fn recorded_laws()
         → IsRecorded old (Given buffer locality elapsed random) x buffer }
 {}
 
-/// In every history of a device, each use of an entity was authorized on one of three grounds,
-/// given the history before the use: a password, an HMAC session, or a policy session whose
-/// conditions all hold.
+/// In every history of a device, each use of an entity was authorized by a password, an HMAC
+/// session, or a policy session whose conditions all hold, given the history before the use.
 #[inline(always)]
 pub fn grounds_laws()
     ensures { (can : Bool) (random : List ℕ) (executions : List Execution) (new : Record)
@@ -224,7 +223,7 @@ pub fn policy_laws()
     ensures command { UsesItsCommand }
 {}
 
-/// An event is a failed try exactly if its authorization is refused with AUTH_FAIL for an entry
+/// An event is a failed try if and only if its authorization is refused with AUTH_FAIL for an entry
 /// that touches a protected entity other than LOCKOUT. The response is AUTH_FAIL for that entry.
 #[inline(always)]
 pub fn failed_try_laws()

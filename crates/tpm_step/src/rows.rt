@@ -68,8 +68,8 @@ pub fn index_change_laws()
         → IfOk (row_of r c q) (λ s. ChangesIndices (part_of c) q r.nv s.after.nv) }
 {}
 
-/// A success returns a handle exactly if its command's shape says so. The first parameter of its
-/// answer is a sized buffer exactly if the shape says so.
+/// A success returns a handle if and only if its command's shape says so. The first parameter of
+/// its answer is a sized buffer if and only if the shape says so.
 #[inline(always)]
 #[tactic(auto, using(crate::proofs::rows::Table::row_answers))]
 pub fn answer_shape_laws()
@@ -87,8 +87,8 @@ pub fn growth_laws()
         → IfOk (row_of r c q) (λ s. GrowsAsShaped c r s.after) }
 {}
 
-/// If a row refuses no handle, it refuses parameters exactly if they are not of the kinds in its
-/// command's shape, and then with the first fault.
+/// If a row refuses no handle, it refuses parameters if and only if they are not of the kinds in
+/// its command's shape, and then with the first fault.
 #[inline(always)]
 #[tactic(auto, using(crate::proofs::rows::Table::row_reads))]
 pub fn parameter_laws()

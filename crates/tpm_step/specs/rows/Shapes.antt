@@ -33,8 +33,8 @@ use Rattle.tpm_record.specs.rows.Answer.{begins_sized}
 use Rattle.tpm_record.specs.rows.Rows.{Success, all_read, parameter}
 use Rattle.tpm_step.specs.rows.Refusals.{Passes}
 
--- A success returns a handle exactly if the command's shape says so. The first parameter of its
--- answer is a sized buffer exactly if the shape says so.
+-- A success returns a handle if and only if the command's shape says so. The first parameter of its
+-- answer is a sized buffer if and only if the shape says so.
 abbrev pub AnswersItsShape : CommandCode → Success → Type 0
 AnswersItsShape c s =
     (is_some s.answer.handle ≡ (shape_of c).answers_handle)
@@ -53,7 +53,7 @@ Grows true old new = taken_in new ≡ taken_in old + 1
 Grows false old new = taken_in new ≤ taken_in old
 
 -- A success of TPM2_EvictControl takes or frees one slot. A success of any other command takes one
--- more slot exactly if its shape says that it grows.
+-- more slot if and only if its shape says that it grows.
 abbrev pub GrowsAsShaped : CommandCode → Record → Record → Type 0
 GrowsAsShaped command.EvictControl old new = Grows true old new ⊎ Grows true new old
 GrowsAsShaped c old new = Grows (shape_of c).grows old new
@@ -98,8 +98,8 @@ abbrev pub ParametersFail : {X : Type 0} → Refused → Result X Refused → Ty
 ParametersFail fault (Ok s) = ⊥
 ParametersFail fault (Err e) = (e ≡ fault) ⊎ (e.check ≡ check.Handles)
 
--- The row refuses the parameters exactly if they are not of these kinds, and then it refuses with
--- the first fault.
+-- The row refuses the parameters if and only if they are not of these kinds, and then it refuses
+-- with the first fault.
 abbrev pub ReadsParameters : {X : Type 0} → Result (Unit {0}) Refused → Result X Refused → Type 0
 ReadsParameters (Ok done) row = Passes check.Parameters row
 ReadsParameters (Err fault) row = ParametersFail fault row
