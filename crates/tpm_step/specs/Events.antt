@@ -1,4 +1,4 @@
--- Events as plain values, which do not depend on the memory of their buffers.
+-- Events as plain values, which do not borrow their buffers.
 use Rattle.std.specs.Prelude.{◌≡◌, ℕ, ◌≤◌, ◌<◌, ◌^◌, List, length}
 use Rattle.tpm_object.specs.Object.{IsObject}
 use Rattle.tpm_object.specs.declared.object.Object.{Object}

@@ -44,8 +44,9 @@ pub record Shape (sessions : List (Option Session)) (objects : List (Option Obje
 -- replay repeats a nonce or an HMAC. The update counters that policies recorded are right. Each use
 -- of a handle was authorized. The assertions of policy sessions met their conditions. Therefore
 -- each use by a policy session met every policy whose digest is the used entity's authPolicy,
--- unless the hash is broken. No decrement of failedTries is overdue. The record has all its slots
--- and is sorted by handle. The fields of its sessions and NV indices have the right sizes.
+-- unless the hash is broken. No decrement of failedTries is overdue. The record has all its slots,
+-- and its persistent objects and NV indices are sorted by handle. The fields of its sessions and NV
+-- indices have the right sizes.
 pub record Follows (r : Record) (history : History) : Type 0 where
   pub counters : HasCounters r history
   pub forgiving : IsForgiving r.fixed.lockout

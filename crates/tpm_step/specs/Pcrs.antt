@@ -109,7 +109,7 @@ digest_in history hash selection = hash_of hash (concat (flat_map (values_in his
 
 -- ---- updates of PCRs
 
--- this count if a command's first handle is a PCR, and 0 if it is TPM_RH_NULL
+-- `count` if a command's first handle is a PCR, and 0 if it is TPM_RH_NULL
 abbrev pub if_pcr : List Handle → ℕ → ℕ
 if_pcr [] count = 0
 if_pcr (handle ∷ handles) count = if nat_lt handle.number 24 then count else 0

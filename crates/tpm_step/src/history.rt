@@ -73,8 +73,8 @@ pub fn following_laws()
 
 /// A stretch of events is a list of executions, one after another. A power cycle is a stretch by
 /// itself, and so is placing an object that satisfies the invariant of loaded objects. Two
-/// stretches make one if the second begins where the first ended. A stretch in which no allocation
-/// can fail is also one in which allocations can fail.
+/// stretches make one if the second begins where the first ended. A stretch that is possible if no
+/// allocation can fail is also possible if allocations can fail.
 #[inline(always)]
 pub fn stretch_laws()
     ensures power_cycle { (can : Bool) (r : Record)

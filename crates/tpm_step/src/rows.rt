@@ -88,7 +88,7 @@ pub fn growth_laws()
 {}
 
 /// If a row refuses no handle, it refuses parameters if and only if they are not of the kinds in
-/// its command's shape, and then with the first fault.
+/// its command's shape. The refusal is then the first fault.
 #[inline(always)]
 #[tactic(auto, using(crate::proofs::rows::Table::row_reads))]
 pub fn parameter_laws()
@@ -135,8 +135,8 @@ pub fn row_handle_laws()
         → HandlesFit r (shape_of c).handles q.handles → Passes check.Handles (row_of r c q) }
 {}
 
-/// If handles fit rules, the first handle fits the first rule, and the second handle fits the
-/// second rule.
+/// If a command's handles fit its rules, the first handle fits the first rule, and the second
+/// handle fits the second rule.
 #[inline(always)]
 #[tactic(auto, using(crate::proofs::rows::HandleRules::first_fits, crate::proofs::rows::HandleRules::second_fits))]
 pub fn handle_place_laws()
