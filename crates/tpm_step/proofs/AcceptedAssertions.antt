@@ -183,7 +183,7 @@ module _ (r : Record) (c : AcceptedCommand) (history : History) (are : AreIndice
 
   -- ---- the assertion of an accepted command
 
-  -- If an accepted command makes an assertion on a policy session that is no trial session, the
+  -- If an accepted command makes an assertion on a policy session that is not a trial session, the
   -- history's version of the assertion meets its condition on the session's policy.
   abbrev pub FindsItsOwn : Code → Type 0
   FindsItsOwn code =

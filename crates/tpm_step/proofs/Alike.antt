@@ -1,5 +1,5 @@
--- Two devices that follow the same history, and show the same views of each handle, authorize each
--- command in the same way.
+-- Two devices that follow the same history, show the same views of each handle and have the same
+-- lockout state authorize each command in the same way.
 use Rattle.std.proofs.Common.{◌≡◌, Bool, true, false, [], Option, Some, None, option_map, refl, ap, sym, subst, ◌∙◌}
 use Rattle.std.specs.Option.{option_map_or}
 use Rattle.tpm_session.specs.Sessions.{session_at}
@@ -25,7 +25,7 @@ use Rattle.tpm_step.proofs.Views.{views_tell}
 use Rattle.tpm_step.specs.Alike.{AuthorizeAlike}
 use Rattle.tpm_step.proofs.AuthorizeAlike.{authorize_same}
 
--- The history determines every field of a device's session.
+-- A device's session can be rebuilt from the facts that the history determines.
 unbound : Bound → Binding
 unbound b = record { name = b.name; auth_value = b.auth_value; protection = b.protection }
 
@@ -83,8 +83,7 @@ other_value : (r : Record) (handle : Handle) → is_kept (entity_at r handle) �
 unfolding auth_value_of
 other_value r handle none = permanent_value r handle (entity_at r handle) none
 
--- The handle of a hierarchy or of lockout has the authorization value of this hierarchy or of
--- lockout.
+-- `auth_seen` finds the authorization value of each hierarchy and of lockout.
 hierarchy_seen : (r : Record) (a : HierarchyAuth) → auth_seen r (auth_handle a) ≡ Some (permanent_auth_value r (auth_handle a))
 hierarchy_seen r auth.Owner = refl
 hierarchy_seen r _ = refl

@@ -45,7 +45,7 @@ first_authorized history c session either names asks grounds =
 
 -- ---- after one more event
 
--- An accepted command made this assertion, and each use of a handle by this command has a ground.
+-- An accepted command made this assertion. Each handle that the command used was authorized.
 pub record HasOrigin (history : History) (handle : Handle) (one : Assertion) : Type 0 where
   pub asserted : IsAssertedBy history handle one
   pub grounds : UsesHaveGrounds asserted.before asserted.command
@@ -70,8 +70,8 @@ later_origin event history handle one stands origin =
       asks = origin.asks;
     }
 
--- Accepted commands made all assertions of this session, and each use of a handle by these commands
--- has a ground.
+-- Accepted commands made all assertions of this session. Each handle that the commands used was
+-- authorized.
 abbrev pub HaveOrigins : History → Handle → LiveSession → Type 0
 HaveOrigins history handle s = (one : Assertion) → IsAmong one s.assertions → HasOrigin history handle one
 
@@ -82,7 +82,7 @@ module _ (c : AcceptedCommand) (history : History) (handle : Handle) (new : Live
   later : (one : Assertion) → IsAmong one new.assertions → HasOrigin history handle one → Origin one
   later one among origin = later_origin (Done c) history handle one (new, lives, among) origin
 
-  -- If the command itself makes the assertion, the assertion has an origin.
+  -- An assertion that the command itself makes has an origin, namely this command.
   itself : (old : LiveSession) (one : Assertion) → sessions_of history handle ≡ Some old → session_handle c.command.code c.request.handles ≡ Ok handle → assertion_by c.command.code c history old.hash old.nonce_tpm ≡ Ok one → IsAmong one new.assertions → Origin one
   itself old one lived names asserts among = record {
     asserted = record {

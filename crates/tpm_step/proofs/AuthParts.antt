@@ -25,7 +25,7 @@ use Rattle.tpm_step.proofs.HandleMap.{same_handle}
 
 -- ---- values that do not change
 
--- If a value is found afterwards, the same value was found before.
+-- If there is a new value, the old value was the same.
 abbrev pub Kept : (old new : Option (List ℕ)) → Type 0
 Kept old new = (value : List ℕ) → new ≡ Some value → old ≡ Some value
 
@@ -42,14 +42,15 @@ index_kept old new found = found_kept (λ (index : NvIndex). index.auth_value) o
 pub object_kept : (old new : Option Object) → (new ≡ old) ⊎ (new ≡ None) → Kept (object_auth old) (object_auth new)
 object_kept old new found = found_kept (λ (object : Object). object.auth_value) old new found
 
--- If an authorization value is found for this handle afterwards, the same value was found before.
+-- If this handle has an authorization value in the new record, it had the same value in the old
+-- one.
 abbrev pub Keeps : (old new : Record) → Handle → Type 0
 Keeps old new handle = Kept (auth_seen old handle) (auth_seen new handle)
 
 abbrev pub KeepsAll : (old new : Record) → Type 0
 KeepsAll old new = (handle : Handle) → Keeps old new handle
 
--- if each part of the record keeps its value for this handle, the handle keeps its value
+-- a handle keeps its authorization value if each part of the record keeps its value for this handle
 pub parts_keep : (old new : Record) (h : Handle) → Kept (index_auth (index_at old.nv h)) (index_auth (index_at new.nv h)) → Kept (object_auth (persistent_at old.persistent h)) (object_auth (persistent_at new.persistent h)) → Kept (object_auth (object_at old.objects h)) (object_auth (object_at new.objects h)) → permanent_auth_value new h ≡ permanent_auth_value old h → Keeps old new h
 parts_keep old new h index persistent transient permanent = by (is_nv_index h) (is_persistent h) (is_transient h)
   where
@@ -64,8 +65,8 @@ kept_values old new values keeps have h value is = have h value (keeps h value i
 
 -- ---- new values
 
--- This handle now has this authorization value, and each other handle that has one has its value
--- from before.
+-- This handle now has this authorization value. Every other handle that has a value had the same
+-- value before.
 pub record Sets (handle : Handle) (value : List ℕ) (old new : Record) : Type 0 where
   pub here : auth_seen new handle ≡ Some value
   pub others : (h : Handle) → h.number ≢ handle.number → Keeps old new h
@@ -121,7 +122,8 @@ object_set r objects handle object named found others = record {
 
 -- ---- hierarchies
 
--- the handle of an authorization value; no two authorization values have the same handle
+-- the handle of the hierarchy, or of lockout, to which an authorization value belongs; no two
+-- authorization values have the same handle
 abbrev pub auth_handle : HierarchyAuth → Handle
 auth_handle auth.Owner = owner_handle
 auth_handle auth.Lockout = lockout_handle

@@ -1,5 +1,5 @@
 -- The authorization values in the parameters of commands do not end in a zero, and the handles in
--- these parameters have their types.
+-- these parameters have the right types.
 use Rattle.std.proofs.Common.{rules, ◌≡◌, true, List, ℕ, length, ◌==◌, not, Result, Ok, Err, IfOk}
 use Rattle.tpm_bytes.specs.Reading.{◌>>=◌, refused_if}
 use Rattle.tpm_types.proofs.Trimming.{trimmed_twice}
@@ -18,7 +18,7 @@ use Rattle.tpm_record.specs.rows.Rows.{all_read, only, parameter}
 use Rattle.tpm_nvactions.specs.NvDefineSpace as definition
 use Rattle.tpm_step.proofs.Binding.{asked, ok_bind, ok_bind_is, ok_then}
 
--- ---- later steps after a parameter was read
+-- ---- steps after a parameter was parsed
 
 pub parameter_then : {X B : Type 0} (P : X → Type 0) (Q : B → Type 0) (n : ℕ) (x : Result X Rc) (f : X → Result B Refused) → IfOk x P → ((a : X) → P a → IfOk (f a) Q) → IfOk (parameter n x >>= f) Q
 parameter_then P Q n (Ok a) f holds next = next a holds
@@ -69,8 +69,8 @@ pub wanted_named : (text : List ℕ) → IfOk (only (persistent_handle_at text))
 unfolding persistent_handle_at
 wanted_named text = search (rules, only_holds, ok_bind, ok_bind_is, asked)
 
--- In the parameters of a definition, the value does not end in a zero, and the handle is that of an
--- index.
+-- In the parameters of TPM2_NV_DefineSpace, the authorization value does not end in a zero, and the
+-- handle is that of an NV index.
 pub record IsDefinition (p : definition.Parameters) : Type 0 where
   pub value : IsTrimmed p.auth_value
   pub named : is_nv_index p.public.nv_index ≡ true

@@ -1,5 +1,5 @@
--- The grants and refusals of a device's authorization depend only on the device's handles,
--- sessions, failed tries and updates of PCRs.
+-- How a device authorizes a command depends only on the device's sessions, its lockout state, its
+-- number of PCR updates, and the facts about the entity of each handle.
 use Rattle.std.proofs.Common.{◌≡◌, ℕ, ◌+◌, ◌-◌, Bool, false, cond, List, [], ◌∷◌, ◌++◌, length, map, Option, Some, None, option_map, slice_get, Result, Ok, Err, refl, ap, ◌∙◌}
 use Rattle.std.specs.Prelude.{◌&&◌, not, is_none}
 use Rattle.std.specs.List.{find}
@@ -40,7 +40,7 @@ use Rattle.tpm_auth.specs.Grant.{authorize, authorized, grant, grant_by, grants_
 use Rattle.tpm_auth.specs.SessionGrant.{comparison, comparison_holds, demand_by, demanded, entry_nonce, entry_parts, entry_protection, granted_value, has_value_in_key, hashed_command, is_authentic, is_bound_to, nonce_where, session_grant, takes_value, use_of, used_auth_value}
 use Rattle.tpm_auth.specs.declared.session_grant.Grant.{Grant}
 
--- Two devices have the same sessions, failed tries and number of PCR updates, and the same facts
+-- Two devices have the same sessions, lockout state and number of PCR updates, and the same facts
 -- about the entity of each handle.
 pub record HaveSame (r t : Record) : Type 0 where
   pub sessions : (handle : Handle) → session_at r.sessions handle ≡ session_at t.sessions handle

@@ -14,7 +14,7 @@ use Rattle.tpm_step.specs.Step.{lockout_counted}
 use Rattle.tpm_step.specs.Potential.{IsForgiving, Pays, credit, period}
 use Rattle.tpm_step.specs.Tries.{is_try}
 
--- ---- changes that keep the failed tries
+-- ---- changes that leave the failed tries unchanged
 
 -- Two states are equal, except that lockoutAuth may be disabled in one of them and enabled in the
 -- other.
@@ -23,7 +23,7 @@ SameTries old new =
     (new.fields.recovery_time ≡ old.fields.recovery_time) × (new.fields.max_tries ≡ old.fields.max_tries)
     × (new.fields.failed_tries ≡ old.fields.failed_tries) × (new.forgiving_time ≡ old.forgiving_time)
 
--- disabling or enabling lockoutAuth changes nothing else
+-- disabling or enabling lockoutAuth changes no other field
 pub closed_same : (old new : LockoutState) (closed : Bool) → new ≡ with_closed closed old → SameTries old new
 closed_same old new closed is = (
   ap (λ (s : LockoutState). s.fields.recovery_time) is,
@@ -134,15 +134,15 @@ refusal_pays s counted.Lockout counts unlocked = same_pays s (closed_by_failure 
 
 -- ---- a stretch of events
 
--- Either no try failed since this state, or no more tries failed than maxTries and the passed
--- milliseconds allow.
+-- Either no try has failed since this state, or no more tries have failed than maxTries and the
+-- passed milliseconds allow.
 abbrev pub IsPaid : LockoutState → (failed elapsed : ℕ) → Type 0
 IsPaid s failed elapsed =
     (failed ≡ 0)
     ⊎ (period s * s.fields.failed_tries + period s * failed ≤ period s * s.fields.max_tries + credit s + elapsed)
 
--- if a step satisfies `Pays`, and the steps after it keep the bound on failed tries, all of them
--- together keep the bound
+-- if a step satisfies `Pays`, and the steps after it satisfy the bound on failed tries, all of them
+-- together satisfy the bound
 pub pays_more : (a b : LockoutState) (one failed all first elapsed whole : ℕ) → one + failed ≡ all → first + elapsed ≡ whole → Pays a b one first → IsPaid b failed elapsed → IsPaid a all whole
 pays_more a b one failed all first elapsed whole counted passed pays rest = by pays.within (rw (pays.recovery_time, pays.max_tries) at rest)
   where

@@ -55,7 +55,7 @@ pub err_bind_is : {A B E : Type 0} (Q : E → Type 0) (x : Result A E) (f : A �
 err_bind_is Q (Ok a) f k h = h a refl
 err_bind_is Q (Err e) f k h = k
 
--- a property of the only refusal of a test holds for each refusal of the test
+-- if the only refusal of a test has a property, each refusal of the test has it
 pub err_if : {E : Type 0} (Q : E → Type 0) (b : Bool) (e : E) → Q e → IfErr (refused_if b e) Q
 err_if Q true e h = h
 err_if Q false e h = tt

@@ -194,7 +194,7 @@ started_type a =
     (unlocked_alike (kept_written a)).0
     ∙ cond_both (has a attribute.ClearStClear) (without_attribute a attribute.Written) a (λ b. index_type b ≡ index_type a) (λ _. are_attributes.cleared_type a attribute.Written) (λ _. refl)
 
--- a startup keeps a counter that it does not clear
+-- a startup keeps the value of a counter without CLEAR_STCLEAR
 startup_keeps : (index : NvIndex) → index_has index attribute.ClearStClear ≡ false → (stored_count (started_index index) ≡ stored_count index) × (index_has (started_index index) attribute.ClearStClear ≡ false)
 startup_keeps index stays =
     let a = index.public.attributes in
@@ -222,7 +222,7 @@ starts_counted old new c (inr starts) are = same_counted (started old) new c sta
 
 -- ---- the rows of all commands
 
--- whether a success that touches this part of the state keeps the counters of the history
+-- whether a success that touches this part of the state changes no counter
 abbrev keeps_counters : Part → Bool
 keeps_counters NvCounter = false
 keeps_counters NvDefined = false

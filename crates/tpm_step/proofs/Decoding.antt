@@ -40,7 +40,7 @@ present_reads r n rule text =
     ok_then _ _ (allowed_handle_at n rule text) _ (allowed_reads n rule text) (λ handle is.
     ok_bind _ (refused_if (not (is_present r handle.0)) _) _ (λ present. is))
 
--- One handle is read for each rule, with the number that the bytes encode.
+-- One handle is parsed for each rule, and has the number that the bytes encode.
 each_reads : (r : Record) (n : ℕ) (rules : List HandleRule) (text : List ℕ) → IfOk (each_at (present_handle_at r) n rules text) (λ x. handles_at n (length rules) text ≡ Ok x)
 each_reads r n [] text = refl
 each_reads r n (rule ∷ rules) text =

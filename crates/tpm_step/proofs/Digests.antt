@@ -1,5 +1,5 @@
--- The digest of selected PCRs is the one that the history determines. Two such digests are equal if
--- the PCR values are equal.
+-- The history determines the digest of selected PCRs. Two digests of the same selection are equal
+-- if the PCR values are equal.
 use Rattle.std.proofs.Common.{arith, ◌≡◌, ℕ, zero, suc, ◌<◌, ◌≤◌, ◌++◌, Bool, true, false, cond, List, [], ◌∷◌, filter, map, refl, ap, ◌∙◌}
 use Rattle.std.proofs.lemmas.List.{map-append}
 use Rattle.std.proofs.lemmas.List.Elements.{filter-append}
@@ -28,7 +28,7 @@ same_below f g chosen (suc n) few same =
 abbrev pub AgreeBelow : PcrValues → PcrValues → Type 0
 AgreeBelow f g = (bank : HashAlg) (pcr : ℕ) → pcr < 24 → f bank pcr ≡ g bank pcr
 
--- the values that an assignment of PCR values has for the selected PCRs
+-- the values of the selected PCRs in an assignment of PCR values
 abbrev chosen_values : PcrValues → BankSelection → List (List ℕ)
 chosen_values f bank = map (f bank.hash) (selected_pcrs bank)
 

@@ -1,4 +1,4 @@
--- Each accepted entry has a ground for the handle that it authorizes.
+-- Each accepted entry authorizes its handle by a password, an HMAC or a policy.
 use Rattle.std.proofs.Common.{◌≡◌, ◌≢◌, ℕ, zero, suc, ◌+◌, ◌<◌, arith, Bool, true, false, cond, List, [], ◌∷◌, length, take, map, Option, Some, None, option_map, Ok, IfOk, slice_get, refl, ap, sym, subst, ◌∙◌}
 use Rattle.std.specs.Prelude.{◌&&◌, not, IfSome, option_and_then, ◌-◌}
 use Rattle.std.specs.Int.{bit_at}
@@ -203,7 +203,7 @@ module _ (r : Record) (c : AcceptedCommand) (history : History) (locality : ℕ)
         by true one = password_told r c history viewed valued live place handle e at (by_password r c.command (place + 1) (granted_by d) e s one holds)
         by false none = has_hmac d (λ is_bound. ap (has_value_in_key s.kind is_bound) demanded) none holds
 
-    -- ---- the ground of an entry, by the type of its session
+    -- ---- how an entry authorizes its handle, by the type of its session
 
     value_first : IfOk (demand_by type.Hmac r c.command locality (place + 1) handle s) (λ d. (d ≡ demand.None) × (allows_in means.AuthValue c place ≡ true))
     value_first =
@@ -239,7 +239,7 @@ module _ (r : Record) (c : AcceptedCommand) (history : History) (locality : ℕ)
     unfolding session_grant demanded
     session_ground = by_type s.kind refl
 
-  -- ---- the ground of an entry, by its kind
+  -- ---- how an entry authorizes its handle, by its kind
 
   password_ground : (place : ℕ) (handle : Handle) (e : Entry) → used_in c.command place ≡ Some handle → session_kind e.session ≡ kind.Password → IfOk (password_grant r c.command.code (place + 1) (Some handle) e) (λ g. Ground history c place e)
   unfolding password_grant
@@ -279,7 +279,7 @@ module _ (r : Record) (c : AcceptedCommand) (history : History) (locality : ℕ)
       (ok_weaker _ (λ g. HasHmac history c place e other) (comparison r c.command (place + 1) None e s) (compared r c.command (place + 1) None e s) (λ g holds.
       authentic_told r c history viewed valued live s other same place None e (nothing_used r s ∙ sym (ap (value_in_key history c place other) none)) (by_hmac r c.command (place + 1) None e s refl holds)))))
 
-  -- ---- the grounds of all entries
+  -- ---- how all entries authorize their handles
 
   of_ground : (place : ℕ) (e : Entry) (l : LiveSession) → Ground history c place e → session_kind e.session ≡ kind.Session → sessions_of history e.session ≡ Some l → l.kind ≡ type.Hmac → HasHmac history c place e l
   of_ground place e l (ByPassword is takes password) names lives hmac = absurd (let never : kind.Password ≡ kind.Session = sym is ∙ names in let no : ⊥ = cc in no)

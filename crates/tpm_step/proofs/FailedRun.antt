@@ -36,7 +36,7 @@ use Rattle.tpm_step.specs.Executions.{Leads}
 use Rattle.tpm_step.proofs.PowerCycles.{none_taken, starting_banks}
 use Rattle.tpm_step.specs.FailedRun.{IsFailedRun, failed_run, protected_index, tried, wrong_after, zeros}
 
--- ---- each record of the run is a record of a device
+-- ---- each record of the run satisfies the invariant of all records
 
 no_value : IsAuthValue []
 unfolding trimmed
@@ -92,7 +92,7 @@ is_tried failed forgiving time few short soon = record {
 
 -- ---- each step of the run, with its whole response
 
--- the step of a try with a wrong password that is refused with this code
+-- the step of a try with a wrong password, with this refusal and this record after it
 abbrev refused_with : Refused → Record → Stepped
 refused_with e after = record { response = refusal_text e; row = record { code = code_number_of command.NvRead; check = 9 }; after = after }
 

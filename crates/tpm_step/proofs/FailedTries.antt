@@ -1,5 +1,5 @@
--- An event is a failed try exactly if its authorization is refused with AUTH_FAIL for an entry that
--- touches a protected entity. The response is that refusal.
+-- An event is a failed try if and only if its authorization is refused with AUTH_FAIL for an entry
+-- that touches a protected entity. The response reports this refusal.
 use Rattle.std.proofs.Common.{arith, rules, ◌≡◌, ℕ, ◌+◌, Bool, true, false, List, [], ◌∷◌, ◌++◌, append_assoc, length, length-append, slice_get, Option, Some, None, option_map, Result, Ok, Err, IfErr, refl, sym, ap, subst, ◌∙◌}
 use Rattle.std.specs.Prelude.{not, nat_lt, ◌&&◌, ◌||◌, is_none}
 use Rattle.std.specs.List.{list_any}
@@ -92,8 +92,8 @@ err_other Q check (Err rc) other h = h rc other
 abbrev is_failure : Refused → Bool
 is_failure e = is_try e.counted || is_auth_fail e.rc.code
 
--- This is the refusal of entry n, which has to authorize this handle or none. The entity that the
--- entry touches is not locked out, and the password or the HMAC is wrong.
+-- The refusal is that of entry n, which has to authorize the handle `used`, if any. The entity that
+-- the entry touches is not locked out, and the password or the HMAC is wrong.
 record FailsAt (r : Record) (c : Whole) (locality n : ℕ) (used : Option Handle) (entry : Entry) (e : Refused) : Type 0 where
   unlocked : is_locked_out r.fixed.lockout (touched r c locality n used entry) ≡ false
   is : e ≡ failure (check_for used) n (touched r c locality n used entry)
@@ -162,7 +162,7 @@ entry_at r c locality n used e = kind_at (session_kind e.session) r c locality n
 
 -- ---- all entries of a command
 
--- This is the refusal of the entry at this position, whose password or HMAC is wrong.
+-- The refusal is that of the entry at this position, whose password or HMAC is wrong.
 record FailsIn (r : Record) (c : Whole) (locality : ℕ) (e : Refused) : Type 0 where
   place : ℕ
   entry : Entry
@@ -201,7 +201,7 @@ authorization_in r c locality =
     err_bind (IfFailsIn r c locality) (grants_pass r c locality [] c.entries) _ (walk_in r c locality [] [] c.entries refl refl) (λ grants.
     err_bind (IfFailsIn r c locality) (refused_if (list_any decrypts c.entries && not (has_first_buffer c.parameters)) _) _ (err_if (IfFailsIn r c locality) _ _ (other_in r c locality _ _ refl)) (λ whole. tt))))
 
--- the refusal of a wrong password or HMAC names its entry
+-- the refusal of a wrong password or HMAC contains the number of its entry
 failed_number : (check : Check) (n m : ℕ) (p : Protection) → (failure check n p).rc.place ≡ (entry_fault m code.AuthFail).place → n ≡ m
 failed_number check n m protection.None is = cc
 failed_number check n m protection.Tries is = cc

@@ -41,8 +41,8 @@ answer_pays true r (Ok a) locality random counts unlocked is quiet = starved_pay
 answer_pays false r (Err e) locality random counts unlocked is quiet = refusal_pays r.fixed.lockout e.refused.counted counts unlocked
 answer_pays true r (Err e) locality random counts unlocked is quiet = refusal_pays r.fixed.lockout e.refused.counted counts unlocked
 
--- An event keeps recoveryTime. If the later events keep the bound on failed tries, this event
--- together with the later ones keeps the bound.
+-- An event does not change recoveryTime. If the later events satisfy the bound on failed tries,
+-- this event together with the later ones satisfies it.
 pub record PaysFor (old new : LockoutState) (fails : Bool) (elapsed : ℕ) : Type 0 where
   pub recovery_time : new.fields.recovery_time ≡ old.fields.recovery_time
   pub more : (failed rest : ℕ) → IsPaid new failed rest → IsPaid old (cond fails 1 0 + failed) (elapsed + rest)

@@ -1,4 +1,5 @@
--- Every event leads from a history to the same history with this event, if it was accepted.
+-- If a device follows a history, then after an event it follows the same history, to which the
+-- event is added if it was accepted.
 use Rattle.std.proofs.Common.{arith, ◌≡◌, ◌≤◌, ℕ, Bool, true, false, cond, List, [], ◌∷◌, length, drop, map, Option, Some, None, option_map, Result, Ok, Err, IfOk, Bor, refl, ap, sym, subst, ◌∙◌}
 use Rattle.std.specs.Fn.{Mut}
 use Rattle.tpm_lockout.specs.Lockout.{LockoutState}
@@ -80,7 +81,7 @@ record_shape r is = record { sessions_many = is.sessions; objects_many = is.obje
 
 -- ---- accepted commands
 
--- Some random bytes are left after the new nonces.
+-- At least 64 random bytes are left after the new nonces.
 abbrev LeavesSome : List ℕ → Accepted → Type 0
 LeavesSome random a = 64 ≤ length (entries_rolled a.success.after a.command.entries (drop a.success.answer.drawn random)).left
 
@@ -213,7 +214,7 @@ manufactured_follows random = record {
 
 -- ---- events
 
--- If the command is accepted, some random bytes are left.
+-- If the command is accepted, at least 64 random bytes are left.
 abbrev LeavesIfAccepted : List ℕ → Result Accepted RefusedCommand → (check : ℕ) → Type 0
 LeavesIfAccepted random x check = check ≡ 0 → IfOk x (LeavesSome random)
 
@@ -227,7 +228,7 @@ answer_follows true r locality random (Ok a) history is leaves sound follows = b
     by true leaves sound = refusal_follows r memory_refusal.counted history follows
     by false leaves sound = command_follows r a locality random history is (leaves refl) sound follows
 
--- If the event is an accepted command, some random bytes are left after it.
+-- If the event is an accepted command, at least 64 random bytes are left after it.
 abbrev LeavesAfter : Record → PlainEvent → (check : ℕ) → Type 0
 LeavesAfter r (Given buffer locality elapsed random) check = LeavesIfAccepted random (accepted (ticked r elapsed) buffer locality random) check
 LeavesAfter r Cycled check = Unit {0}

@@ -14,7 +14,7 @@ use Rattle.tpm_step.proofs.Binding.{ok_bind_is, some_is}
 use Rattle.tpm_step.specs.rows.IndexChanges.{IsCounter}
 use Rattle.tpm_step.proofs.rows.IndexChanges.{writable_type}
 
--- The counter exists, its next value fits 64 bits, and the new contents have this next value.
+-- The counter exists, its next value fits in 64 bits, and the new contents have this next value.
 pub record CountsUp (handle : Handle) (old new : NvContents) : Type 0 where
   pub index : NvIndex
   pub found : index_at old handle ≡ Some index

@@ -26,7 +26,7 @@ abbrev pub EachIndex : (Handle → NvIndex → Type 0) → NvContents → Type 0
 EachIndex Is contents = (handle : Handle) (index : NvIndex) → index_at contents handle ≡ Some index → Is handle index
 
 module _ (Was Is : Handle → NvIndex → Type 0) where
-  -- If an index whose handle is not this one had the property `Was`, it has the property `Is`.
+  -- If an index with another handle had the property `Was`, it has the property `Is`.
   abbrev pub OthersStay : Handle → Type 0
   OthersStay handle = (other : Handle) (index : NvIndex) → other.number ≢ handle.number → Was other index → Is other index
 
@@ -54,7 +54,7 @@ module _ (Was Is : Handle → NvIndex → Type 0) where
       (index_map.put_found contents.indices handle.number new free)
       (λ other away. index_map.put_others contents.indices handle.number new other.number away)
 
-  -- a property of all indices still holds after a startup of all of them
+  -- a property of all indices still holds after a startup
   pub started_each : ((handle : Handle) (index : NvIndex) → Was handle index → Is handle (started_index index)) → (contents : NvContents) → EachIndex Was contents → EachIndex Is (started contents)
   unfolding started
   started_each starts contents was handle index there =

@@ -42,7 +42,7 @@ all_apart (one ∷ executions) new old =
 pub history_apart : (executions : List Execution) (history : History) → history_after history executions ≡ history_after [] executions ++ history
 history_apart executions history = all_apart executions [] history
 
--- ---- properties that each execution keeps
+-- ---- properties that each execution preserves
 
 pub leads_keep : (Follows : Record → History → Type 0) → ((can : Bool) (old : Record) (event : PlainEvent) (x : Stepped) (history : History) → Executes can old event x → Follows old history → Follows x.after (recorded old event x.row.check history)) → (can : Bool) (old : Record) (executions : List Execution) (new : Record) (history : History) → Leads can old executions new → Follows old history → Follows new (history_after history executions)
 leads_keep Follows kept can old [] new history leads follows = subst (λ r. Follows r history) (sym leads) follows

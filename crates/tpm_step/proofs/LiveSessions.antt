@@ -31,8 +31,8 @@ use Rattle.tpm_step.proofs.HandleMap.{at_other, at_same}
 abbrev Matches : Option Session → Option LiveSession → Type 0
 Matches found told = option_map session_facts found ≡ option_map facts_of told
 
--- a relation between a device's session and the history's session holds, if it holds for any two
--- with the same facts, and if neither exists
+-- a relation holds between the device's session and the history's session, if it holds for any two
+-- sessions with the same facts, and also if neither session exists
 pub of_both : (P : Option Session → Option LiveSession → Type 0) → ((s : Session) (l : LiveSession) → session_facts s ≡ facts_of l → P (Some s) (Some l)) → P None None → (found : Option Session) (told : Option LiveSession) → option_map session_facts found ≡ option_map facts_of told → P found told
 of_both P some none (Some s) (Some l) same = some s l (same_Some (session_facts s) (facts_of l) same)
 of_both P some none None None same = none
@@ -88,14 +88,14 @@ absent places handle not = by (at_place places (place_of handle.number))
     by None = refl
     by (Some s) = rw (of_kind s.kind handle not) refl
 
--- an entry whose handle is not a session's ends no session
+-- no session ends if the handle is not that of a session
 pub none_ended_live : (places : List (Option Session)) (handle : Handle) (live : LiveSessions) → is_session handle ≡ false → AreLive places live → AreLive places (without_session handle live)
 none_ended_live places handle live not are =
     replaced places places handle None live (ap (option_map session_facts) (absent places handle not)) (λ other apart. refl) are
 
 -- ---- changing a session
 
--- The device's session changes as the history's session with the same facts does.
+-- The device's session changes in the same way as the history's session with the same facts.
 abbrev pub ChangesAs : (Session → Session) → (LiveSession → LiveSession) → Session → Type 0
 ChangesAs change retell s = (l : LiveSession) → session_facts s ≡ facts_of l → session_facts (change s) ≡ facts_of (retell l)
 
@@ -118,7 +118,7 @@ changed_live change retell keeps places handle live alike are =
     (ap (option_map session_facts) (found_changed change keeps places handle.number) ∙ changed_matches change retell (session_at places handle) (live handle) alike (are handle))
     (λ other apart. changed_others session_byte change keeps places handle.number other.number apart) are
 
--- The policy of an existing session changes as the history says.
+-- The policy of an existing session changes as the history determines.
 pub policy_live : (places : List (Option Session)) (handle : Handle) (s : Session) (policy : Policy) (retell : LiveSession → LiveSession) (live : LiveSessions) → session_at places handle ≡ Some s → ChangesAs (λ s. with_policy s policy) retell s → AreLive places live → AreLive (with_session_policy places handle policy) (changed_session retell handle live)
 unfolding with_session_policy
 policy_live places handle s policy retell live is alike are =

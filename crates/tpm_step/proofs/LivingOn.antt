@@ -237,9 +237,9 @@ module _ (c : AcceptedCommand) (history : History) (some : 1 ≤ length (rolled_
 
 -- ---- the effects of a command's row
 
--- Where the session at a handle comes from, after the command's row took effect: the command
--- started it, without assertions; or it existed before, and has the same assertions or none; or the
--- command added an assertion to it.
+-- The origin of the session at a handle, after a command's row took effect: the command started it,
+-- without assertions; or it existed before, and has the same assertions or none; or the command
+-- added an assertion to it.
 pub data Came (code : CommandCode) (c : AcceptedCommand) (history : History) (found : Option LiveSession) (handle : Handle) (new : LiveSession) : Type 0 where
   Begun : starts_under code c.answer.handle handle ≡ true → new.assertions ≡ [] → Came code c history found handle new
   Stayed : Was Keeps found new → Came code c history found handle new

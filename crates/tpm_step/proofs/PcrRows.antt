@@ -46,7 +46,7 @@ use Rattle.tpm_step.specs.DevicePcrs.{AreSaved, IsSavedAs}
 use Rattle.tpm_step.specs.Pcrs.{count_in, extended_by_all, if_pcr, measured_by, names_pcr, pcr_by, resumed, updates_by}
 use Rattle.tpm_pcr.proofs.OneValue.{event_digest, extensions_at, extensions_count, zeros_at}
 
--- A success changes the values of PCRs, and the number of updates, as the history does with these
+-- A success changes the values of PCRs, and the number of updates, as the history does, given these
 -- saved values.
 pub record Measures (code : CommandCode) (q : Request) (saved : PcrValues) (old new : BankValues) : Type 0 where
   pub values : (bank : HashAlg) (n : ℕ) → n < 24 → pcr_value new bank n ≡ pcr_by code q bank n (saved bank n) (pcr_value old bank n)
@@ -57,14 +57,14 @@ SoMeasures code q saved r s = Measures code q saved r.fixed.banks s.after.fixed.
 
 -- ---- the PCR that a handle names
 
--- The new banks have these values in the PCR that the handle names, if it names one, and this many
--- more updates. Other PCRs have their old values.
+-- The new banks have these values in the PCR that the handle names, if it names one, and count this
+-- many more updates. Other PCRs have their old values.
 record IsChanged (handle : Handle) (new : HashAlg → ℕ → List ℕ) (count : ℕ) (old banks : BankValues) : Type 0 where
   values : (bank : HashAlg) (n : ℕ) → n < 24 → pcr_value banks bank n ≡ cond (handle.number == n) (new bank n) (pcr_value old bank n)
   updates : banks.update_count ≡ old.update_count + cond (nat_lt handle.number 24) count 0
 
--- The new banks have these values in the PCR with this number, and this many more updates. Other
--- PCRs have their old values.
+-- The new banks have these values in the PCR with this number, and count this many more updates.
+-- Other PCRs have their old values.
 record IsMade (pcr : ℕ) (new : HashAlg → ℕ → List ℕ) (count : ℕ) (old banks : BankValues) : Type 0 where
   values : (bank : HashAlg) (n : ℕ) → n < 24 → pcr_value banks bank n ≡ cond (pcr == n) (new bank n) (pcr_value old bank n)
   updates : banks.update_count ≡ old.update_count + count
@@ -116,7 +116,8 @@ counts_first (h ∷ handles) handle count e = sym (ap (λ (x : Handle). cond (na
 
 -- ---- rows that change a PCR
 
--- For this command, the history has these values and this number of updates of the request's PCR.
+-- For this command, the history determines these values of the PCR that the request names, and this
+-- number of updates.
 abbrev Tells : CommandCode → Request → PcrValues → BankValues → (HashAlg → ℕ → List ℕ) → ℕ → Type 0
 Tells code q saved old new count =
     ((bank : HashAlg) (n : ℕ) → cond (names_pcr q.handles n) (new bank n) (pcr_value old bank n) ≡ pcr_by code q bank n (saved bank n) (pcr_value old bank n))
@@ -197,7 +198,8 @@ restored_at : (s : SavedValues) (values : PcrValues) (banks : BankValues) → Ar
 restored_at s values banks is alg.Sha1 n = front_or s.sha1 banks.sha1 n (values alg.Sha1 n) (is.sixteen alg.Sha1) (is.each alg.Sha1 n)
 restored_at s values banks is alg.Sha256 n = front_or s.sha256 banks.sha256 n (values alg.Sha256 n) (is.sixteen alg.Sha256) (is.each alg.Sha256 n)
 
--- After a startup of this type, PCRs have these values, and updates are counted from 0.
+-- After a startup of this type, PCRs have the values that the history determines, and the update
+-- counter is 0.
 abbrev Begins : StartupType → PcrValues → BankValues → BankValues → Type 0
 Begins t saved old new =
     ((bank : HashAlg) (n : ℕ) → pcr_value new bank n ≡ resumed (Ok t) n (saved bank n) (pcr_value old bank n))
@@ -250,7 +252,7 @@ touched_banks Cleared old new leaves touches = absurd cc
 touched_banks AuthValues old new leaves touches = ap (λ (r : Record). r.fixed.banks) touches.0
 touched_banks _ old new leaves touches = ap (λ (r : Record). r.fixed.banks) touches
 
--- In a history, this command changes no PCR.
+-- In a history, this command changes neither a PCR nor the update counter.
 abbrev TellsNothing : CommandCode → Request → Type 0
 TellsNothing code q =
     ((bank : HashAlg) (n : ℕ) (saved old : List ℕ) → old ≡ pcr_by code q bank n saved old)

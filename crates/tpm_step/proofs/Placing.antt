@@ -1,4 +1,5 @@
--- Placing an object is an execution of its event, and the new record is a device's record.
+-- Placing an object is an execution of its event, and the new record satisfies the invariant of all
+-- records.
 use Rattle.std.proofs.Common.{arith, ◌≡◌, ℕ, Bool, false, [], ◌∷◌, length, length-set, Option, Some, None, refl, ◌∙◌}
 use Rattle.std.proofs.lemmas.Bool.{false≢true}
 use Rattle.tpm_containers.specs.Slots.{AreAll, lowest_free}

@@ -1,5 +1,5 @@
--- Each use by a policy session meets every policy with the entity's authPolicy, or the hash is
--- broken.
+-- Each use by a policy session meets every policy whose digest is the entity's authPolicy, or the
+-- hash is broken.
 use Rattle.std.proofs.Common.{◌≡◌, ◌⊎◌, ℕ, Bool, true, false, cond, List, [], ◌∷◌, Option, Some, None, IfSome, IfOk, refl, ap, sym, subst, ◌∙◌, inl, inr}
 use Rattle.std.proofs.lemmas.Option.{same_Some}
 use Rattle.std.specs.Int.{bit_at, w8, w32}
@@ -92,8 +92,8 @@ all_at P one (other ∷ assertions) all (inr among) = all_at P one assertions al
 
 -- ---- the command of each assertion
 
--- The command is TPM2_PolicySecret or TPM2_PolicyNV, and the assertion contains the Name of its
--- handle's entity.
+-- If the assertion is one of TPM2_PolicySecret or TPM2_PolicyNV, this command made it. It contains
+-- the Name of the entity that the command's handle names.
 abbrev IsOf : Code → AcceptedCommand → Assertion → Type 0
 IsOf code c (assertion.Secret parts) = (code ≡ command.PolicySecret) × (name_in c.views 0 ≡ parts.name)
 IsOf code c (assertion.Nv parts) = (code ≡ command.PolicyNv) × (name_in c.views 1 ≡ parts.name)

@@ -1,4 +1,5 @@
--- A power cycle is an execution of its event, and two stretches of executions make one.
+-- A power cycle is an execution of its event. Two stretches of executions make one if the second
+-- begins where the first ended.
 use Rattle.std.proofs.Common.{arith, ◌≡◌, ◌≢◌, ℕ, zero, suc, Bool, false, List, [], ◌∷◌, ◌++◌, length, refl, subst}
 use Rattle.std.proofs.lemmas.Bool.{false≢true}
 use Rattle.std.proofs.lemmas.List.{length-map, length-replicate}

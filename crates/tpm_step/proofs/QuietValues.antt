@@ -1,4 +1,4 @@
--- Quiet events change no PCR, and so assertions about PCRs still hold after them.
+-- Quiet events (`IsQuiet`) change no PCR. Therefore assertions about PCRs still hold after them.
 use Rattle.std.proofs.Common.{◌≡◌, ◌⊎◌, ℕ, ◌<◌, arith, Bool, true, false, cond, List, [], ◌∷◌, ◌++◌, Result, Ok, Err, refl, ap, sym, ◌∙◌, inl, inr}
 use Rattle.std.specs.Prelude.{◌==◌, nat_lt}
 use Rattle.std.specs.List.{AllByRecursion}

@@ -1,4 +1,4 @@
--- A property of every acceptance holds for the command that a history records.
+-- If a property holds for every accepted command, it holds for each command that a history records.
 use Rattle.std.proofs.Common.{arith, ◌≡◌, ℕ, zero, suc, List, ◌∷◌, length, Option, Some, None, Result, Ok, Err, IfOk, ap, subst}
 use Rattle.tpm_types.specs.declared.handle.Handle.{Handle}
 use Rattle.tpm_record.specs.Objects.{next_handle}

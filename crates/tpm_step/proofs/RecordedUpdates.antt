@@ -1,5 +1,5 @@
--- The update counter that a policy session recorded is right, given the history. It is not above
--- that of the history, and if the two are equal, the session's assertions about PCRs hold.
+-- The update counter that a policy session recorded is right, given the history. It does not exceed
+-- the history's counter, and if the two are equal, the session's assertions about PCRs hold.
 use Rattle.tpm_types.specs.YesNo.{yes_no_at}
 use Rattle.std.proofs.Common.{◌≡◌, ◌≢◌, ◌⊎◌, ℕ, ◌+◌, ◌≤◌, arith, Bool, true, false, List, [], ◌∷◌, ◌++◌, append_assoc, length, Option, Some, None, option_map, Result, Ok, Err, IfOk, refl, ap, sym, subst, ◌∙◌, inl, inr}
 use Rattle.std.specs.Prelude.{not, ◌&&◌, ◌||◌}
@@ -56,7 +56,8 @@ use Rattle.tpm_step.proofs.LivingOn.{Asserted, Begun, Came, Keeps, Stayed, entri
 
 -- ---- a TPM2_PolicyPCR after an earlier one
 
--- If a session is not a trial session and recorded an update counter, this is the device's counter.
+-- If a session is not a trial session and recorded an update counter, the device has the same
+-- counter.
 abbrev Agrees : Record → Request → Type 0
 Agrees r q =
     (handle : Handle) (s : Session) → first_handle q.handles ≡ Ok handle → session_at r.sessions handle ≡ Some s
@@ -90,7 +91,7 @@ row_agrees r q =
 
 -- ---- the effect of an assertion on the recorded counter
 
--- The assertion that was read is not a TPM2_PolicyPCR.
+-- The assertion, if it could be parsed, is not a TPM2_PolicyPCR.
 abbrev IsOther : Result Assertion Refused → Type 0
 IsOther x = IfOk x (λ assertion. is_pcr assertion ≡ false)
 
@@ -203,7 +204,7 @@ module _ (r : Record) (a : Accepted) (locality : ℕ) (random : List ℕ) (histo
   abbrev c : AcceptedCommand
   c = command_of r a
 
-  -- if there is a session, the accepted command is not a TPM2_Startup
+  -- if a session exists, the accepted command is not a TPM2_Startup
   no_startup : (handle : Handle) (s : LiveSession) → sessions_of history handle ≡ Some s → is_startup c.command.code ≡ false
   no_startup handle s lives = by c.command.code is.due
     where
@@ -215,7 +216,7 @@ module _ (r : Record) (a : Accepted) (locality : ℕ) (random : List ℕ) (histo
   updates_add command.Startup is = absurd cc
   updates_add _ is = refl
 
-  -- The assertions about PCRs that held before a quiet command still hold after it.
+  -- The assertions about PCRs that held before a command still hold after it, if it updates no PCR.
   holds_more : (handle : Handle) (s : LiveSession) → has_pcrs (Done c ∷ history) handle ≡ true → IsQuiet (Done c) → HoldsPcrs handle history s → HoldsPcrs handle (Done c ∷ history) s
   holds_more handle s now quiet holds = record {
     quiet = one_more handle (Done c) history now quiet holds.quiet;
@@ -265,7 +266,7 @@ module _ (r : Record) (a : Accepted) (locality : ℕ) (random : List ℕ) (histo
     quiet_pcr = (ap is_startup code, ap (λ (x : Code). writes x c.request) code)
 
     -- The first TPM2_PolicyPCR on a session begins a period in which no PCR changes. At a later
-    -- one, the earlier assertions about PCRs hold.
+    -- TPM2_PolicyPCR, the earlier assertions about PCRs hold.
     holds_first : (asserts : Bool) → asserts_pcrs old ≡ asserts → AreQuietSince handle (Done c ∷ history) × AllByRecursion (HoldsOf history old.hash) old.assertions
     holds_first false asserts = (
       record {

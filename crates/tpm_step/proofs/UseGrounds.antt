@@ -113,7 +113,7 @@ both false b is = absurd cc
 some_policy : (digest : List ℕ) → is_policy digest ≡ true → digest ≢ []
 some_policy digest is none = absurd (let no : is_policy digest ≡ false = ap is_policy none in let never : ⊥ = cc in never)
 
--- the policy of an entity that accepts a policy is not empty
+-- an entity that accepts policies has an authPolicy that is not empty
 pub takes_some : (nv_use : NvUse) (view : View) (entity : EntityParts) → view_takes means.Policy nv_use view ≡ true → view_policy view ≡ Some entity → entity.digest ≢ []
 takes_some nv_use (OfObject public) entity takes is =
     let same : public.auth_policy ≡ entity.digest = cc in

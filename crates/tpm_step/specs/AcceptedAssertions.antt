@@ -12,10 +12,10 @@ use Rattle.tpm_types.specs.declared.session_type.SessionType.TheVariants as type
 use Rattle.tpm_step.specs.History.{AcceptedCommand, Done, History, ObjectPlaced, PowerCycled}
 use Rattle.tpm_step.specs.Sessions.{LiveSession, sessions_of}
 
--- The assertion meets its condition on the policy before it. The digests of TPM2_PolicyOR contain
--- the policy's digest. A command code, a cpHash and a written state were not recorded before, or
--- were recorded with the same value. A command code has 32 bits. TPM2_PolicyNV found bytes to
--- compare.
+-- The assertion meets its condition, given the policy before it. The digests of TPM2_PolicyOR
+-- contain the policy's digest. A command code, a cpHash or a written state was not recorded before,
+-- or was recorded with the same value. A command code has 32 bits. TPM2_PolicyNV could read the
+-- bytes that it compares.
 abbrev pub Finds : Assertion → Policy → Type 0
 Finds (assertion.Or digests) p = IsAmong p.digest digests
 Finds (assertion.CommandCode number) p =
@@ -28,14 +28,15 @@ Finds (assertion.Secret parts) p =
 Finds (assertion.Nv parts) p = (bytes : List ℕ) × (parts.compared ≡ Ok bytes)
 Finds _ p = Unit {0}
 
--- Each of these assertions, the latest first, met its condition on the policy before it, and its
--- numbers fit their types.
+-- Each assertion in the list, the latest first, met its condition, given the assertions before it.
+-- Its numbers fit their types.
 abbrev pub AllFind : HashAlg → List Assertion → Type 0
 AllFind hash [] = Unit {0}
 AllFind hash (latest ∷ earlier) =
     (Finds latest (evaluated hash false earlier) × HasWidths hash latest) × AllFind hash earlier
 
--- In each policy session after a history, each assertion met its condition when it was accepted.
+-- In each policy session that exists after a history, each assertion met its condition when it was
+-- accepted.
 abbrev pub SessionsFind : History → Type 0
 SessionsFind history =
     (handle : Handle) (s : LiveSession) → sessions_of history handle ≡ Some s

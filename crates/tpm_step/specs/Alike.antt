@@ -9,8 +9,8 @@ use Rattle.tpm_step.specs.Follows.{Follows}
 use Rattle.tpm_step.specs.History.{History}
 use Rattle.tpm_step.specs.View.{view_of}
 
--- Two devices follow the same history. On both, everybody may read the same about each handle. They
--- have the same failed tries and the same parameters against dictionary attacks, which a history
+-- Two devices follow the same history. Both show the same public data for each handle. Both have
+-- the same lockout state (failed tries and parameters against dictionary attacks), which a history
 -- does not determine. Their seeds, private areas, index data and clocks may differ.
 pub record AreAlike (one other : Record) (history : History) : Type 0 where
   pub first : Follows one history

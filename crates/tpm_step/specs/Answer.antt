@@ -29,7 +29,7 @@ abbrev pub refusal_tag : Check → ℕ
 refusal_tag check.Tag = 0xc4
 refusal_tag _ = 0x8001
 
--- the response of a refusal, ten bytes
+-- the ten bytes of the response to a refused command
 abbrev pub refusal_text : Refused → List ℕ
 refusal_text e = framed (refusal_tag e.check) (rc_number e.rc) []
 
@@ -37,9 +37,9 @@ abbrev pub handle_answer : Option Handle → List ℕ
 handle_answer None = []
 handle_answer (Some handle) = handle_text handle
 
--- the response of a success: the handle that the command returns, if any, and the parameters. If
--- the command has sessions, the size of the parameters comes before them, and the answer to each
--- entry after them
+-- the response to a successful command: the handle that it returns, if any, and the parameters. If
+-- the command has sessions, the size of the parameters comes before the parameters, and the answer
+-- to each entry comes after them
 unfoldable pub success_text : List Entry → Option Handle → (answer area : List ℕ) → List ℕ
 success_text [] handle answer area = framed 0x8001 0 (handle_answer handle ++ answer)
 success_text (entry ∷ entries) handle answer area =
@@ -50,7 +50,7 @@ pub record Answered : Type 0 where
   pub response : List ℕ
   pub after : Record
 
--- an answer whose parameters are encoded
+-- an answer with its parameters encoded as bytes
 pub record Written : Type 0 where
   pub handle : Option Handle
   pub parameters : List ℕ
@@ -59,14 +59,14 @@ pub record Written : Type 0 where
 abbrev pub written_of : AnswerParts → Written
 written_of a = record { handle = a.handle; parameters = answer_body_text a.body; drawn = a.drawn }
 
--- the parts of an answer that the code wrote
+-- an answer that the code wrote, as a plain value
 abbrev pub text_of : Answer → Written
 text_of a = record { handle = a.handle; parameters = a.parameters; drawn = a.drawn }
 
 -- the answer to a command after its effect, given the grant of each entry. First, new nonces are
--- drawn from the random bytes after those of the command. Then the parameters are encrypted if an
--- entry asks for it, and each entry is answered. Last, policies return to their start, and sessions
--- without continueSession end
+-- drawn from the random bytes that the command left. Then the parameters are encrypted if an entry
+-- asks for it, and each entry is answered. Last, the policy sessions that authorized a handle are
+-- reset, and sessions without continueSession end
 unfoldable pub answer_to : Whole → List (Option Grant) → Written → Record → List ℕ → Answered
 answer_to c grants a effect random =
     let granted : List Granted = granted_entries c grants in

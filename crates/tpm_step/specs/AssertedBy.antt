@@ -1,6 +1,6 @@
--- The accepted command that made an assertion of a policy session, and its ground. TPM 2.0
--- Library, Part 1, section 19.7 (enhanced authorization), and Part 3, sections 23.4
--- (TPM2_PolicySecret) and 23.9 (TPM2_PolicyNV).
+-- The accepted command that made an assertion on a policy session, and how that command was
+-- authorized. TPM 2.0 Library, Part 1, section 19.7 (enhanced authorization), and Part 3, sections
+-- 23.4 (TPM2_PolicySecret) and 23.9 (TPM2_PolicyNV).
 use Rattle.std.specs.Prelude.{◌≡◌, ℕ, List, [], ◌∷◌, ◌++◌, Some, Ok, slice_get}
 use Rattle.tpm_policy.specs.Assertion as assertion
 use Rattle.tpm_policy.specs.Assertion.{Assertion, NvParts, SecretParts}
@@ -24,8 +24,9 @@ abbrev pub Stands : Assertion → Handle → History → Type 0
 Stands one handle history =
     (s : LiveSession) × (sessions_of history handle ≡ Some s) × IsAmong one s.assertions
 
--- After each of these events, the latest first, the session still has this assertion. So none of
--- the events starts, restarts, ends or uses the session: each of these clears the assertions.
+-- After each of these events, the latest first, the session still has this assertion. Therefore
+-- none of the events starts, restarts, ends or uses the session, since that would clear its
+-- assertions.
 abbrev pub StandsThrough : Assertion → Handle → (events before : History) → Type 0
 StandsThrough one handle [] before = Unit {0}
 StandsThrough one handle (event ∷ events) before =
@@ -45,7 +46,8 @@ pub record IsAssertedBy (history : History) (handle : Handle) (one : Assertion) 
       ≡ Ok one
   pub stands : StandsThrough one handle (since ++ Done command ∷ []) before
 
--- The first entry of a command authorized the command's first handle, on this ground.
+-- The first entry of a command authorized the command's first handle, by a password, an HMAC or a
+-- policy.
 pub record IsFirstAuthorized (history : History) (c : AcceptedCommand) : Type 0 where
   pub handle : Handle
   pub used : used_in c.command 0 ≡ Some handle
@@ -55,8 +57,8 @@ pub record IsFirstAuthorized (history : History) (c : AcceptedCommand) : Type 0 
 
 -- ---- TPM2_PolicySecret and TPM2_PolicyNV
 
--- TPM2_PolicySecret was accepted with this policyRef for the entity with this Name, and that entity
--- was authorized. The session at this handle has had the assertion since then.
+-- TPM2_PolicySecret was accepted with this policyRef, and the entity with this Name authorized it.
+-- The session at this handle has had the assertion since then.
 pub record ShowsSecret (history : History) (handle : Handle) (name reference : List ℕ) : Type 0
   where
     pub parts : SecretParts
@@ -67,8 +69,8 @@ pub record ShowsSecret (history : History) (handle : Handle) (name reference : L
     pub for_reference : parts.reference ≡ reference
 
 -- TPM2_PolicyNV was accepted for the NV index with this Name, with this operand, offset and
--- operation. It is refused unless the operation holds between the index's bytes from the offset and
--- the operand. authHandle, which authorizes the read of the index, was authorized. The session at
+-- operation. The command is refused unless the operation holds between the index's bytes from the
+-- offset and the operand. The entity of authHandle authorized the read of the index. The session at
 -- this handle has had the assertion since then.
 pub record ComparesIndex (history : History) (handle : Handle) (name operand : List ℕ) (offset : ℕ)
     (operation : Operation) : Type 0

@@ -26,31 +26,32 @@ use Rattle.tpm_step.specs.History.{Done, History, ObjectPlaced, PowerCycled}
 abbrev pub AuthValues : Type 0
 AuthValues = Handle → List ℕ
 
--- ---- which value a command sets, and for which handle
+-- ---- the value that a command sets, and its handle
 
--- TPM2_HierarchyChangeAuth and TPM2_NV_ChangeAuth set newAuth, without the zeros at its end, for
--- the handle that they name.
+-- TPM2_HierarchyChangeAuth and TPM2_NV_ChangeAuth set the value of the handle that they name to
+-- newAuth, without trailing zeros.
 abbrev pub changed_value : Request → Result (Handle × List ℕ) Refused
 changed_value q = do
   handle ← first_handle q.handles
   value ← only (auth_value_at q.parameters)
   Ok (handle, value)
 
--- TPM2_NV_DefineSpace sets auth, without the zeros at its end, for the index that it defines.
+-- TPM2_NV_DefineSpace sets the value of the index that it defines to auth, without trailing zeros.
 abbrev pub defined_value : Request → Result (Handle × List ℕ) Refused
 defined_value q = do
   p ← definition.parameters_in q.parameters
   Ok (p.public.nv_index, p.auth_value)
 
--- TPM2_CreatePrimary sets userAuth, without the zeros at its end, for the handle that it returns.
+-- TPM2_CreatePrimary sets the value of the handle that it returns to userAuth, without trailing
+-- zeros.
 abbrev pub created_value : Request → (made : Option Handle) → Result (Handle × List ℕ) Refused
 created_value q made = do
   handle ← ok_or made handle_refusal
   p ← creation.parameters_in q.parameters
   Ok (handle, trimmed p.given.user_auth)
 
--- TPM2_Load sets the authorization value in the sensitive area, without the zeros at its end, for
--- the handle that it returns.
+-- TPM2_Load sets the value of the handle that it returns to the authorization value in the
+-- sensitive area, without trailing zeros.
 abbrev pub loaded_value : Option Sensitive → (made : Option Handle)
     → Result (Handle × List ℕ) Refused
 loaded_value area made = do
@@ -84,8 +85,8 @@ cleared_values values =
 -- ---- the values after a history
 
 -- the values after an accepted command, given its request, the handle that it returned, and the
--- sensitive area that it loaded. A command that removes an object or an index changes no value: no
--- entity has the handle then, and the next one with this handle sets its own value
+-- sensitive area that it loaded. A command that removes an object or an index changes no value: its
+-- handle then names no entity, and the next entity with this handle gets a value of its own
 abbrev pub values_by : CommandCode → Request → (made : Option Handle) → Option Sensitive
     → AuthValues → AuthValues
 values_by command.HierarchyChangeAuth q made area values = with_value (changed_value q) values
@@ -99,8 +100,9 @@ values_by command.Startup q made area values =
 values_by command.Clear q made area values = cleared_values values
 values_by _ q made area values = values
 
--- the authorization value of each handle after a history. At first all are empty, and a power cycle
--- changes none. An object from a saved context brings its own value, without the zeros at its end
+-- the authorization value of each handle after a history. At first all values are empty, and a
+-- power cycle changes none of them. An object from a saved context brings its own value, without
+-- trailing zeros
 abbrev pub auth_of : History → AuthValues
 auth_of [] handle = []
 auth_of (Done c ∷ history) handle =

@@ -21,7 +21,7 @@ pub record Counters : Type 0 where
 abbrev pub no_counters : Counters
 no_counters = record { at = λ handle. None; all = [] }
 
--- the largest of these values, or 0 if there is none
+-- the largest number in a list, or 0 if the list is empty
 abbrev pub largest : List ℕ → ℕ
 largest [] = 0
 largest (n ∷ ns) = max (largest ns) n
@@ -32,27 +32,27 @@ abbrev pub next_count : (most : ℕ) → Option ℕ → ℕ
 next_count most None = most + 1
 next_count most (Some n) = n + 1
 
--- ---- what a command does to the counter of a handle
+-- ---- the effect of a command on the counter at a handle
 
--- TPM2_NV_Increment: the counter at its handle gets its next value
+-- the effect of TPM2_NV_Increment: the counter at this handle gets its next value
 abbrev pub counted_at : Handle → Counters → Counters
 counted_at handle c =
     let n : ℕ = next_count (largest c.all) (c.at handle) in
     record { at = with_at handle (Some n) c.at; all = n ∷ c.all }
 
--- TPM2_NV_DefineSpace: the counter at its handle begins again, without a value
+-- the effect of TPM2_NV_DefineSpace: the counter at this handle starts again, without a value
 abbrev pub begun_at : Handle → Counters → Counters
 begun_at handle c = record { at = with_at handle None c.at; all = c.all }
 
--- the index that TPM2_NV_DefineSpace defines
+-- the handle of the index that TPM2_NV_DefineSpace defines
 abbrev pub defined_handle : List ℕ → Result Handle Refused
 defined_handle text = do
   p ← parameters_in text
   Ok p.public.nv_index
 
 -- the counters after an accepted command. A command that removes an index, such as
--- TPM2_NV_UndefineSpace and TPM2_Clear, changes nothing here: the handle has no counter until its
--- next definition, which begins without a value
+-- TPM2_NV_UndefineSpace and TPM2_Clear, changes nothing here: its handle names no counter until an
+-- index is defined again, and this index begins without a value
 abbrev pub counters_by : CommandCode → Request → Counters → Counters
 counters_by command.NvIncrement q c = by_handle (second_handle q.handles) counted_at c
 counters_by command.NvDefineSpace q c = by_handle (defined_handle q.parameters) begun_at c
@@ -65,7 +65,7 @@ counters_of (Done c ∷ history) = counters_by c.command.code c.request (counter
 counters_of (PowerCycled ∷ history) = counters_of history
 counters_of (ObjectPlaced at object ∷ history) = counters_of history
 
--- all values that any counter had, and the value of the counter at a handle
+-- all values that any counter ever had; and the value of the counter at a handle
 abbrev pub counts_of : History → List ℕ
 counts_of history = (counters_of history).all
 
@@ -74,7 +74,7 @@ count_at history handle = (counters_of history).at handle
 
 -- ---- definitions of indices in a history
 
--- whether a command names this handle
+-- whether a parsed handle is this handle; false if it could not be parsed
 abbrev pub is_named : Result Handle Refused → Handle → Bool
 is_named (Ok named) handle = named.number == handle.number
 is_named (Err e) handle = false
@@ -83,7 +83,7 @@ abbrev pub defines_by : CommandCode → Request → Handle → Bool
 defines_by command.NvDefineSpace q handle = is_named (defined_handle q.parameters) handle
 defines_by _ q handle = false
 
--- whether an event defines an index at a handle
+-- whether an event defines an index with this handle
 abbrev pub defines : PastEvent → Handle → Bool
 defines (Done c) handle = defines_by c.command.code c.request handle
 defines PowerCycled handle = false
@@ -98,21 +98,22 @@ pub record IsDefinition (one : PastEvent) (handle : Handle) : Type 0 where
   pub defined : defined_handle accepted.request.parameters ≡ Ok named
   pub same : named.number ≡ handle.number
 
--- No event in this part of a history defines an index under this handle.
+-- No event in this part of a history defines an index with this handle.
 abbrev pub HasNoDefinition : Handle → History → Type 0
 HasNoDefinition handle history =
     AllByRecursion (λ (one : PastEvent). defines one handle ≡ false) history
 
--- Each of these numbers is below n.
+-- Every number in the list is less than n.
 abbrev pub AllBelow : ℕ → List ℕ → Type 0
 AllBelow n numbers = AllByRecursion (λ m. m < n) numbers
 
 -- The claims about the counters of every history.
 pub record CountLaws : Type 0 where
-  -- an event defines an index exactly if it is an accepted TPM2_NV_DefineSpace of this index
+  -- an event defines an index with a handle if and only if it is an accepted TPM2_NV_DefineSpace
+  -- for this handle
   pub definitions : (one : PastEvent) (handle : Handle)
       → (defines one handle ≡ true ↔ IsDefinition one handle)
-  -- if a counter has no value after the old history, each later value of it exceeds all counter
+  -- if a counter has no value after the old history, each of its later values exceeds all counter
   -- values of the old history
   pub first_exceeds : (old new : History) (handle : Handle) (n : ℕ)
       → count_at old handle ≡ None
@@ -123,7 +124,7 @@ pub record CountLaws : Type 0 where
       → defines definition handle ≡ true
       → count_at (new ++ definition ∷ old) handle ≡ Some n
       → AllBelow n (counts_of old)
-  -- a counter does not go down as long as no index is defined again under its handle
+  -- a counter does not go down until an index is defined again with its handle
   pub never_down : (old new : History) (handle : Handle) (n : ℕ)
       → count_at old handle ≡ Some n
       → HasNoDefinition handle new

@@ -11,8 +11,8 @@ use Rattle.tpm_record.specs.Record.{Record}
 use Rattle.tpm_step.specs.AuthValues.{AuthValues, auth_of}
 use Rattle.tpm_step.specs.History.{History}
 
--- one of four values, by the type of a handle: for an NV index, a persistent object, a transient
--- object, or any other handle
+-- selects one of four values by the type of a handle: an NV index, a persistent object, a transient
+-- object, or anything else
 abbrev pub by_type : {X : Type 0} → Handle → (index persistent transient other : X) → X
 by_type handle index persistent transient other =
     if is_nv_index handle then index
@@ -26,15 +26,15 @@ index_auth found = option_map (λ (index : NvIndex). index.auth_value) found
 abbrev pub object_auth : Option Object → Option (List ℕ)
 object_auth found = option_map (λ (object : Object). object.auth_value) found
 
--- the authorization value of the entity that a handle names, if the entity exists; a handle that is
--- not of an index's or an object's type always names an entity
+-- the authorization value of the entity that a handle names, if the entity exists; a handle that
+-- does not have the type of an index or an object always names an entity
 abbrev pub auth_seen : Record → Handle → Option (List ℕ)
 auth_seen r handle =
     by_type handle (index_auth (index_at r.nv handle))
     (object_auth (persistent_at r.persistent handle)) (object_auth (object_at r.objects handle))
     (Some (permanent_auth_value r handle))
 
--- The authorization value of each existing entity is the one that this map has for its handle.
+-- The map has the authorization value of each existing entity, by the entity's handle.
 abbrev pub HaveValues : Record → AuthValues → Type 0
 HaveValues r values =
     (handle : Handle) (value : List ℕ) → auth_seen r handle ≡ Some value → value ≡ values handle

@@ -9,13 +9,15 @@ use Rattle.tpm_step.specs.rows.IndexChanges.{IsCounter, stored_count}
 use Rattle.tpm_step.specs.Counters.{AllBelow, Counters, HasNoDefinition, counters_of, counts_of, defines, largest}
 use Rattle.tpm_step.specs.History.{History, PastEvent}
 
--- An NV index contains this counter value, if there is one, and no startup clears it.
+-- The NV index contains this counter value, or has no value yet if it is None. No startup clears
+-- the index.
 pub record IsCounted (index : NvIndex) (count : Option ℕ) : Type 0 where
   pub stays : index_has index attribute.ClearStClear ≡ false
   pub value : stored_count index ≡ count
 
--- The largest of these values is the largest value that any counter of the device ever had. Each
--- counter of the device has the value that is given for its handle.
+-- A device's counters agree with the counters of a history. Both have the same largest value that
+-- any counter ever had. Each counter of the device has the value that the history has for its
+-- handle.
 pub record AreCounted (contents : NvContents) (c : Counters) : Type 0 where
   pub most : contents.max_count ≡ largest c.all
   pub each : (handle : Handle) (index : NvIndex)
@@ -27,8 +29,7 @@ pub record AreCounted (contents : NvContents) (c : Counters) : Type 0 where
 abbrev pub HasCounters : Record → History → Type 0
 HasCounters r history = AreCounted r.nv (counters_of history)
 
--- The value of a counter has not gone down, as long as no index was defined again under its
--- handle.
+-- The value of a counter has not gone down, unless an index was defined again with its handle.
 abbrev pub KeepsCounter : (old new : Record) → (meanwhile : History) → Handle
     → NvIndex → NvIndex → Type 0
 KeepsCounter old new meanwhile handle before after =

@@ -10,7 +10,7 @@ use Rattle.tpm_record.specs.Saved.{Clear, Nothing, SavedState, State}
 use Rattle.tpm_step.specs.History.{History}
 use Rattle.tpm_step.specs.Pcrs.{pcr_of, pcrs_after, updates_of}
 
--- the values of a bank that a shutdown saved
+-- the PCR values that a shutdown saved for this bank
 abbrev pub saved_in : SavedValues → HashAlg → List (List ℕ)
 saved_in saved alg.Sha1 = saved.sha1
 saved_in saved alg.Sha256 = saved.sha256
@@ -21,7 +21,7 @@ pub record AreSaved (saved : SavedValues) (values : PcrValues) : Type 0 where
   pub each : (bank : HashAlg) (pcr : ℕ) → pcr < 16
       → slice_index_or (saved_in saved bank) pcr [] ≡ values bank pcr
 
--- If a state is saved, it has these values of PCR 0 to 15.
+-- If a shutdown saved the state, it saved these values of PCR 0 to 15.
 abbrev pub IsSavedAs : SavedState → PcrValues → Type 0
 IsSavedAs Nothing values = Unit {0}
 IsSavedAs Clear values = Unit {0}

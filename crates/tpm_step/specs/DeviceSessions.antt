@@ -45,14 +45,14 @@ session_facts s = record {
   policy = s.policy;
 }
 
--- At each handle, the device and the history have a session with the same facts, or both have
--- none.
+-- For each handle, the device's session and the history's session have the same `SessionFacts`, or
+-- neither has a session.
 abbrev pub AreLive : List (Option Session) → LiveSessions → Type 0
 AreLive places live =
     (handle : Handle) → option_map session_facts (session_at places handle)
     ≡ option_map facts_of (live handle)
 
--- A device and its history have the same sessions. Before TPM2_Startup there are none.
+-- A device and its history have the same sessions. Before TPM2_Startup, no session exists.
 pub record AreSessions (places : List (Option Session)) (is_started : Bool) (history : History)
     : Type 0
   where

@@ -26,20 +26,20 @@ pub record Drawn : Type 0 where
   pub after : Record
   pub left : List ℕ
 
--- the size of the next nonce of an entry's session, which is that of its current nonce; a
--- password draws none
+-- the size of the next nonce of an entry's session, which is the size of its current nonce; 0 for a
+-- password
 unfoldable pub draw_of : Record → Entry → ℕ
 draw_of r e = option_map_or (λ (s : Session). length s.nonce_tpm) (session_of r e) 0
 
--- a new nonce for the session of an entry: the record after it, and the remaining random bytes
+-- draws a new nonce for an entry's session: the record after it, and the remaining random bytes
 unfoldable pub entry_rolled : Record → Entry → List ℕ → Drawn
 entry_rolled r e left = record {
   after = record r { sessions = rolled r.sessions e.session (take (draw_of r e) left) };
   left = drop (draw_of r e) left;
 }
 
--- a new nonce for the session of each entry, in order: the record after them, and the remaining
--- random bytes
+-- draws a new nonce for the session of each entry, in order: the record after them, and the
+-- remaining random bytes
 abbrev pub entries_rolled : Record → List Entry → List ℕ → Drawn
 entries_rolled r [] left = record { after = r; left = left }
 entries_rolled r (e ∷ es) left =
@@ -52,14 +52,14 @@ abbrev pub DrawsFew : List ℕ → Record → List Entry → (drawn : ℕ) → T
 DrawsFew random r entries drawn =
     length random ≤ length (entries_rolled r entries (drop drawn random)).left + 192
 
--- the response to an entry with a password: no nonce, continueSession, no HMAC
+-- the response to an entry with a password: an empty nonce, continueSession, and an empty HMAC
 abbrev pub password_answer : List ℕ
 password_answer = 0 ∷ 0 ∷ 1 ∷ 0 ∷ 0 ∷ []
 
 -- the HMAC in the response to an entry. Its key contains the entity's authorization value after the
 -- command's effect. If the command changed this value, a session that was bound to the entity is no
--- longer bound to it. The HMAC is empty if the policy demanded a password, and also if the
--- command's HMAC was empty, even if the key no longer is (this device's own choice)
+-- longer bound to it. The HMAC is empty if the policy demanded a password. It is also empty if the
+-- command's HMAC was empty, even if the key is no longer empty (this device's own choice)
 unfoldable pub answer_mac : Record → HashedParts → Option Grant → Entry → Session → List ℕ
 answer_mac r hashed grant e s =
     if length e.hmac == 0 || demands_password grant then []
@@ -77,7 +77,7 @@ unfoldable pub entry_answer : Record → HashedParts → Option Grant → Entry 
 entry_answer r hashed grant e =
     option_map_or (session_answer r hashed grant e) (session_of r e) password_answer
 
--- the responses to the entries of a command; each entry comes with its grant
+-- the responses to the entries of a command, given the grant of each entry
 abbrev pub entries_answer : Record → HashedParts → List Granted → List ℕ
 entries_answer r hashed granted = flat_map (λ g. entry_answer r hashed g.1 g.0) granted
 

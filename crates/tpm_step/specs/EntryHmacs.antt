@@ -1,6 +1,6 @@
--- What an entry of a command shows, given the history before the command: a password, or an HMAC
--- with its key and its text. TPM 2.0 Library, Part 1, sections 18.7 (cpHash), 19.4 (password
--- authorizations) and 19.6.5 (HMAC computation).
+-- The password or the HMAC that an entry of a command has to contain, given the history before the
+-- command. TPM 2.0 Library, Part 1, sections 18.7 (cpHash), 19.4 (password authorizations) and
+-- 19.6.5 (HMAC computation).
 use Rattle.std.specs.Prelude.{◌≡◌, ◌⊎◌, ◌≤◌, ℕ, ◌+◌, ◌&&◌, Bool, false, List, [], ◌∷◌, ◌++◌, length, map, if◌then◌else◌, Option, Some, None, slice_get}
 use Rattle.std.specs.List.{find}
 use Rattle.std.specs.Option.{option_map_or}
@@ -33,7 +33,7 @@ used_in c place = slice_get (authorized c) place
 -- ---- a password
 
 -- The hmac field of an entry contains the authValue of the handle that the entry has to authorize.
--- Zeros at its end do not count, and no value of a history ends in zeros.
+-- Trailing zeros in the field are ignored, and no value of a history ends in zeros.
 abbrev pub HasPassword : History → AcceptedCommand → ℕ → Entry → Type 0
 HasPassword history c place e =
     trimmed e.hmac ≡ option_map_or (auth_of history) (used_in c.command place) []
@@ -71,7 +71,7 @@ abbrev pub entry_nonce : History → Entry → List ℕ
 entry_nonce history e =
     option_map_or (λ (s : LiveSession). s.nonce_tpm) (sessions_of history e.session) []
 
--- the nonceTPM of the session of the first entry that passes a test
+-- the nonceTPM for the first entry that passes a test, or empty if no entry passes it
 abbrev pub nonce_where : History → (Entry → Bool) → List Entry → List ℕ
 nonce_where history test entries = option_map_or (entry_nonce history) (find test entries) []
 
@@ -89,7 +89,7 @@ abbrev pub hmac_in : History → AcceptedCommand → ℕ → Entry → LiveSessi
 hmac_in history c place e s =
     hmac_of s.hash (key_in history c place s) (text_in history c place e s)
 
--- The entry has the HMAC of its key and its text, or an empty HMAC with an empty key.
+-- The entry contains the HMAC of its text with its key. Or both its key and its HMAC are empty.
 abbrev pub HasHmac : History → AcceptedCommand → ℕ → Entry → LiveSession → Type 0
 HasHmac history c place e s =
     (e.hmac ≡ hmac_in history c place e s)
@@ -106,7 +106,8 @@ pub record ShowsHmacs (history : History) (c : AcceptedCommand) : Type 0 where
       → sessions_of history e.session ≡ Some s → s.kind ≡ type.Hmac → HasHmac history c place e s
   pub left : 64 ≤ length (rolled_by c history (sessions_of history)).left
 
--- Each command of a history shows the HMACs of its entries, given the history before it.
+-- In each command of a history, the entries have the right HMACs, given the history before the
+-- command.
 abbrev pub AllShowHmacs : History → Type 0
 AllShowHmacs [] = Unit {0}
 AllShowHmacs (Done c ∷ history) = ShowsHmacs history c × AllShowHmacs history

@@ -1,4 +1,4 @@
--- Events as plain values, which do not depend on the memory of their buffers.
+-- Events as plain values, which do not borrow their buffers.
 use Rattle.std.specs.Prelude.{◌≡◌, ℕ, ◌≤◌, ◌<◌, ◌^◌, List, length}
 use Rattle.tpm_object.specs.Object.{IsObject}
 use Rattle.tpm_object.specs.declared.object.Object.{Object}
@@ -9,13 +9,14 @@ use Rattle.tpm_step.specs.declared.event.Event.TheVariants as event
 -- An event. A command has its bytes, its locality, its random bytes, and its elapsed time: the
 -- milliseconds since the command before it. A power cycle has no time of its own. An object is
 -- placed when the completing layer loads a saved context: the object that the context contains gets
--- the lowest free slot of the transient objects. The code's own type `Event` has no such event.
+-- the lowest free slot of the transient objects. The code's own type `Event` has no variant for a
+-- placed object.
 pub data PlainEvent : Type 0 where
   Given : (buffer : List ℕ) (locality elapsed : ℕ) (random : List ℕ) → PlainEvent
   Cycled : PlainEvent
   Placed : (object : Object) → PlainEvent
 
--- The event can happen. Its locality is 0 to 4, its elapsed time has 32 bits, and each command has
+-- The event can occur. Its locality is 0 to 4, its elapsed time has 32 bits, and each command has
 -- 256 random bytes. A placed object satisfies the invariant of every loaded object.
 abbrev pub IsEvent : PlainEvent → Type 0
 IsEvent (Given buffer locality elapsed random) =

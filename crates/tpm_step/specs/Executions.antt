@@ -7,7 +7,7 @@ use Rattle.tpm_step.specs.Execution.{Executes}
 use Rattle.tpm_step.specs.Step.{Stepped, step}
 use Rattle.tpm_step.specs.History.{History, recorded}
 
--- an event that was executed on this record, and its outcome
+-- an executed event, with the record before it and its outcome
 pub record Execution : Type 0 where
   pub before : Record
   pub event : PlainEvent
@@ -29,7 +29,7 @@ power_cycle r = record { before = r; event = Cycled; seen = step r Cycled }
 abbrev pub placing : Record → Object → Execution
 placing r object = record { before = r; event = Placed object; seen = step r (Placed object) }
 
--- the history after one more execution; and after several executions, in order
+-- the history after one more execution; and the history after several executions, in order
 abbrev pub with_execution : Execution → History → History
 with_execution one history = recorded one.before one.event one.seen.row.check history
 

@@ -40,12 +40,13 @@ pub record Shape (sessions : List (Option Session)) (objects : List (Option Obje
   pub indices_ascend : Ascends indices
 
 -- A device follows a history: its counters, PCRs, authorization values and sessions are those of
--- the history. In the history, each entry of an HMAC session had the right HMAC, and so each replay
--- repeats a nonce or an HMAC. The update counters that policies recorded are right. Each use of a
--- handle had a ground. The assertions of policy sessions met their conditions. So each use by a
--- policy session met every policy with the authPolicy of the used entity, or the hash is broken. No
--- decrement of failedTries is overdue. The record has the shape and the sizes of every record, and
--- its NV indices have their sizes.
+-- the history. In the history, each entry of an HMAC session had the right HMAC; therefore each
+-- replay repeats a nonce or an HMAC. The update counters that policies recorded are right. Each use
+-- of a handle was authorized. The assertions of policy sessions met their conditions. Therefore
+-- each use by a policy session met every policy whose digest is the used entity's authPolicy,
+-- unless the hash is broken. No decrement of failedTries is overdue. The record has all its slots,
+-- and its persistent objects and NV indices are sorted by handle. The fields of its sessions and NV
+-- indices have the right sizes.
 pub record Follows (r : Record) (history : History) : Type 0 where
   pub counters : HasCounters r history
   pub forgiving : IsForgiving r.fixed.lockout
@@ -74,10 +75,10 @@ After Holds old event x =
 
 -- ---- a stretch of events on a device that follows a history
 
--- Executions led from a device that follows a history to one that follows the history after them.
--- No counter went down unless an index was defined again under its handle. The first value of a
--- counter exceeds all earlier values of any counter. The number of failed tries is within its
--- bounds. Every replay repeats a nonce or an HMAC.
+-- The executions led from a device that follows a history to a device that follows the history
+-- after the executions. No counter went down unless an index was defined again with its handle. The
+-- first value of a counter exceeds all earlier values of any counter. The number of failed tries is
+-- within its bounds. Every replay repeats a nonce or an HMAC.
 pub record StretchFollows (can : Bool) (old : Record) (executions : List Execution) (new : Record)
     (history : History) : Type 0
   where
@@ -104,8 +105,8 @@ Tells {F} g p (one ∷ executions) q =
     (outcome : Outcome) × (next : F) × (one.seen ≡ outcome_step one.seen.after outcome)
     × CalledAt g p outcome tt next × Tells g next executions q
 
--- Running the events led from a device that follows a history to one that follows the history after
--- them, and a closure was called with each outcome.
+-- Running the events led from a device that follows a history to a device that follows the history
+-- after the events. A closure was called with each outcome.
 pub record RunFollows {F : Type 0} (g : Mut F (Bor Outcome × Unit {0}) (Unit {0})) (can : Bool)
     (old : Record) (p : F) (events : List PlainEvent) (new : Record) (q : F) (history : History)
     : Type 0

@@ -31,12 +31,12 @@ use Rattle.tpm_types.specs.declared.check.Check.TheVariants as check
 use Rattle.tpm_types.specs.declared.refused.Refused.{Refused}
 use Rattle.tpm_step.specs.declared.refused_command.RefusedCommand.{RefusedCommand}
 
--- a refusal with the code of the refused command, which the row reports
+-- adds the code of the command to a refusal, because the row reports it
 abbrev pub in_command : {X : Type 0} → CommandCode → Result X Refused → Result X RefusedCommand
 in_command c (Ok x) = Ok x
 in_command c (Err e) = Err (record { code = code_number c; refused = e })
 
--- the check of a fault in the header, G1 to G4; the row of such a refusal has the code 0
+-- the check, G1 to G4, that refuses a header with this fault. The reported row then has the code 0
 abbrev pub header_check : HeaderFault → Check
 header_check fault.Length = check.Length
 header_check fault.Tag = check.Tag
@@ -50,7 +50,8 @@ abbrev pub in_header : Result (Header × List ℕ) HeaderFault → Result (Heade
 in_header (Ok h) = Ok h
 in_header (Err f) = Err (header_refusal f)
 
--- G5: no other command is accepted before TPM2_Startup, and no second TPM2_Startup after it
+-- whether a command is TPM2_Startup. Check G5 refuses every other command before TPM2_Startup, and
+-- refuses a second TPM2_Startup after it
 abbrev pub is_startup : CommandCode → Bool
 is_startup c = code_number c == code_number command.Startup
 
@@ -62,8 +63,8 @@ abbrev pub has_sessions : Tag → Bool
 has_sessions NoSessions = false
 has_sessions Sessions = true
 
--- G7: some commands may not have sessions, and a command with a handle that needs authorization
--- must have one
+-- Check G7: some commands may not have sessions, and a command with a handle that needs
+-- authorization must have one.
 unfoldable pub sessions_pass : CommandCode → Tag → Result (Unit {0}) Refused
 sessions_pass c tag = do
   forbidden ← refused_if (has_sessions tag && (shape_of c).forbids_sessions)

@@ -5,8 +5,7 @@ use Rattle.tpm_types_command.specs.AuthEntry.{Entry}
 use Rattle.tpm_types_command.specs.Command.{Whole}
 use Rattle.tpm_auth.specs.declared.session_grant.Grant.{Grant}
 
--- an entry with its grant, if it authorizes a handle; the grant is this handle and the policy's
--- demand
+-- an entry and, if it authorizes a handle, its grant: this handle and the policy's demand
 abbrev pub Granted : Type 0
 Granted = Entry × Option Grant
 

@@ -1,5 +1,6 @@
--- The grounds on which a command uses its handles, given the history before it. TPM 2.0 Library,
--- Part 1, section 19 (authorizations and policies), and Part 3, section 5.6 (authorization checks).
+-- How each handle that a command uses is authorized, given the history before the command. TPM 2.0
+-- Library, Part 1, section 19 (authorizations and policies), and Part 3, section 5.6 (authorization
+-- checks).
 use Rattle.std.specs.Prelude.{◌≡◌, ◌≢◌, ℕ, ◌&&◌, Bool, true, false, IfSome, [], ◌∷◌, is_some, Option, Some, None, option_and_then, slice_get}
 use Rattle.std.specs.Int.{bit_at}
 use Rattle.std.specs.Option.{option_map_or}
@@ -52,17 +53,17 @@ IsPolicyOf s (Some entity) =
 abbrev pub written_at : AcceptedCommand → ℕ → Option Bool
 written_at c place = option_and_then view_written (slice_get c.views place)
 
--- A policy for a handle with the role ADMIN names a command.
+-- If the role of a handle is ADMIN, the policy contains a command code.
 abbrev pub NamesCommand : Role → Option ℕ → Type 0
 NamesCommand role.User number = Unit {0}
 NamesCommand role.Admin number = is_some number ≡ true
 
 -- A policy session may authorize the entity at this position of a command's handles. The entity
--- accepts a policy, and the session meets its authPolicy. Since the first TPM2_PolicyPCR no PCR was
--- written and no TPM2_Clear was accepted, so every assertion about PCRs still holds. A recorded
--- command code is that of this command, and the role ADMIN requires one. A recorded cpHash is that
--- of this command. A recorded written state is that of this NV index. The command's locality is
--- allowed.
+-- accepts policies, and the session meets its authPolicy. Since the first TPM2_PolicyPCR no PCR was
+-- written and no TPM2_Clear was accepted, so every assertion about PCRs still holds. If the policy
+-- recorded a command code, it is this command's code; the role ADMIN requires a recorded code. A
+-- recorded cpHash is that of this command, and a recorded written state is that of this NV index.
+-- The command's locality is allowed.
 pub record MeetsPolicy (history : History) (c : AcceptedCommand) (place : ℕ) (e : Entry)
     (s : LiveSession) : Type 0 where
   pub allowed : allows_in means.Policy c place ≡ true
@@ -80,7 +81,7 @@ abbrev pub HasDemanded : Bool → History → AcceptedCommand → ℕ → Entry 
 HasDemanded true history c place e s = HasPassword history c place e
 HasDemanded false history c place e s = HasHmac history c place e s
 
--- ---- the three grounds
+-- ---- the three ways to authorize a handle
 
 -- The entry authorizes the handle at the same position: by a password; by its HMAC in an HMAC
 -- session; or by a policy session, which is not a trial session.
@@ -95,15 +96,15 @@ pub data Ground (history : History) (c : AcceptedCommand) (place : ℕ) (e : Ent
       → HasDemanded (is_password_demand (policy_in s).demand) history c place e s
       → Ground history c place e
 
--- For each handle that needs authorization, the entry at the same position authorizes it on one of
--- the three grounds.
+-- For each handle that needs authorization, the entry at the same position authorizes it by a
+-- password, an HMAC or a policy.
 abbrev pub UsesHaveGrounds : History → AcceptedCommand → Type 0
 UsesHaveGrounds history c =
     (place : ℕ) (handle : Handle) → used_in c.command place ≡ Some handle
     → (e : Entry) × (slice_get c.command.entries place ≡ Some e) × Ground history c place e
 
--- Each command of a history used its handles on one of the three grounds, given the history
--- before it.
+-- In each command of a history, each handle that needs authorization was authorized, given the
+-- history before the command.
 abbrev pub AllHaveGrounds : History → Type 0
 AllHaveGrounds [] = Unit {0}
 AllHaveGrounds (Done c ∷ history) = UsesHaveGrounds history c × AllHaveGrounds history

@@ -23,7 +23,7 @@ use Rattle.tpm_step.specs.Step.{Accepted, accepted}
 use Rattle.tpm_step.specs.declared.refused_command.RefusedCommand.{RefusedCommand}
 use Rattle.tpm_step.specs.View.{View, view_of}
 
--- the sensitive area that a TPM2_Load loads, from the private area that its parent protects
+-- the sensitive area that TPM2_Load finds in the private area, which the parent protects
 unfoldable pub loaded_sensitive : Record → Request → Result Sensitive Refused
 loaded_sensitive r q = do
   handle ← first_handle q.handles
@@ -51,8 +51,8 @@ pub record AcceptedCommand : Type 0 where
   pub views : List View
   pub sensitive : Option Sensitive
 
--- the history's event for a command that this record accepted with these grants, this request and
--- this answer
+-- the history's event for a command that was accepted on this record, with these grants, this
+-- request and this answer
 abbrev pub command_on : Record → Whole → List (Option Grant) → Request → AnswerParts
     → AcceptedCommand
 command_on r command grants q answer = record {
@@ -64,7 +64,7 @@ command_on r command grants q answer = record {
   sensitive = sensitive_in command.code r q;
 }
 
--- the history's event for a command that this record accepted
+-- the history's event for a command that was accepted on this record
 abbrev pub command_of : Record → Accepted → AcceptedCommand
 command_of r a = command_on r a.command a.grants a.request a.success.answer
 
@@ -79,15 +79,15 @@ pub data PastEvent : Type 0 where
 abbrev pub History : Type 0
 History = List PastEvent
 
--- the history with one more command, if its row reports check 0. Neither a refusal nor MEMORY
--- instead of a success is recorded
+-- the history with one more command, if its row reports check 0. The history records neither a
+-- refused command, nor a command that returned MEMORY instead of succeeding
 abbrev pub with_command : Record → Result Accepted RefusedCommand → (check : ℕ)
     → History → History
 with_command r (Ok a) zero history = Done (command_of r a) ∷ history
 with_command r (Ok a) (suc check) history = history
 with_command r (Err e) check history = history
 
--- the history with one more object, which got this handle. Without a handle, all slots were taken,
+-- the history with one more object, which got this handle. If it got none, all slots were taken,
 -- and nothing is recorded
 abbrev pub with_placed : Option Handle → Object → History → History
 with_placed (Some handle) object history = ObjectPlaced handle object ∷ history

@@ -45,8 +45,8 @@ abbrev pub measured_by : HashAlg → Result (List ℕ) Refused → List ℕ → 
 measured_by bank (Ok event) old = hash_of bank (old ++ hash_of bank event)
 measured_by bank (Err e) old = old
 
--- a PCR's value after TPM2_Startup: with STATE, PCR 0 to 15 get back their values at the last
--- shutdown
+-- a PCR's value after TPM2_Startup; with STATE, PCR 0 to 15 get the values that the last shutdown
+-- saved
 abbrev pub resumed : Result StartupType Refused → ℕ → (saved old : List ℕ) → List ℕ
 resumed (Ok type.Clear) pcr saved old = old
 resumed (Ok type.State) pcr saved old = if nat_lt pcr 16 then saved else old
@@ -109,7 +109,7 @@ digest_in history hash selection = hash_of hash (concat (flat_map (values_in his
 
 -- ---- updates of PCRs
 
--- this count if a command's first handle is a PCR, and 0 if it is TPM_RH_NULL
+-- `count` if a command's first handle is a PCR, and 0 if it is TPM_RH_NULL
 abbrev pub if_pcr : List Handle → ℕ → ℕ
 if_pcr [] count = 0
 if_pcr (handle ∷ handles) count = if nat_lt handle.number 24 then count else 0

@@ -23,8 +23,9 @@ abbrev pub HasPolicyOf : HashAlg → List Assertion → Option EntityParts → T
 HasPolicyOf hash assertions (Some entity) = entity.digest ≡ (evaluated hash false assertions).digest
 HasPolicyOf hash assertions None = ⊥
 
--- the assertion that the selected PCRs have the values after this history. A policy's digest
--- contains neither the given digest nor the update counter, so these are empty
+-- the assertion that the selected PCRs have the values that they have after this history. A
+-- policy's digest contains neither the pcrDigest argument nor the update counter, so these are
+-- empty
 abbrev pub pcrs_as_in : History → HashAlg → List BankSelection → PcrParts
 pcrs_as_in history hash selection = record {
   given = [];
@@ -33,8 +34,8 @@ pcrs_as_in history hash selection = record {
   update_count = 0;
 }
 
--- If a session whose only assertion is a TPM2_PolicyPCR uses an entity, the entity's policy is that
--- the selected PCRs have the values that they have at the use.
+-- If a session whose only assertion is TPM2_PolicyPCR authorizes the use of an entity, the entity's
+-- policy requires the values that the selected PCRs have at the use.
 abbrev pub UsesPcrsAsTheyAre : Type 0
 UsesPcrsAsTheyAre =
     (history : History) (c : AcceptedCommand) (place : ℕ) (e : Entry) (s : LiveSession)
@@ -43,8 +44,8 @@ UsesPcrsAsTheyAre =
     → (selection : List BankSelection) × (parts.selection ≡ selection_text selection)
     × HasPolicyOf s.hash (Pcr (pcrs_as_in history s.hash selection) ∷ []) (policy_at c place)
 
--- If a session whose only assertion is a TPM2_PolicyCommandCode uses an entity, the entity's policy
--- is the code of the command that uses it.
+-- If a session whose only assertion is TPM2_PolicyCommandCode authorizes a command's use of an
+-- entity, the entity's policy requires the code of this command.
 abbrev pub UsesItsCommand : Type 0
 UsesItsCommand =
     (history : History) (c : AcceptedCommand) (place : ℕ) (e : Entry) (s : LiveSession) (number : ℕ)
@@ -52,9 +53,9 @@ UsesItsCommand =
     → s.assertions ≡ CommandCode number ∷ []
     → HasPolicyOf s.hash (CommandCode (code_number c.command.code) ∷ []) (policy_at c place)
 
--- If a session whose only assertion is a TPM2_PolicyNvWritten uses an entity, the entity is an NV
--- index, and it is WRITTEN or not as its policy requires. So an index whose policy requires that it
--- is not written has no WRITTEN at the use.
+-- If a session whose only assertion is TPM2_PolicyNvWritten authorizes the use of an entity, the
+-- entity is an NV index, and it is WRITTEN or not as its policy requires. Therefore an index whose
+-- policy requires that it is not written does not have WRITTEN at the use.
 abbrev pub UsesAsWritten : Type 0
 UsesAsWritten =
     (history : History) (c : AcceptedCommand) (place : ℕ) (e : Entry) (s : LiveSession)
@@ -63,7 +64,8 @@ UsesAsWritten =
     → (written_at c place ≡ Some is_written)
     × HasPolicyOf s.hash (NvWritten is_written ∷ []) (policy_at c place)
 
--- Each PCR has the value that it had at the session's first TPM2_PolicyPCR.
+-- If no PCR is updated after a session's first TPM2_PolicyPCR, each PCR still has the value that it
+-- had then.
 abbrev pub KeepsQuietValues : Type 0
 KeepsQuietValues =
     (history : History) (handle : Handle) (quiet : AreQuietSince handle history) (bank : HashAlg)

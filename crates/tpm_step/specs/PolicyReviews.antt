@@ -68,8 +68,8 @@ pub record WritesIndex (c : AcceptedCommand) (place : ℕ) (public : NvPublic)
     pub no_auth_write : index_has public.attributes mark.AuthWrite ≡ false
     pub auth_policy : public.auth_policy ≡ policy_digest public.name_alg policy
 
--- The entry at this position of a command names a policy session with this hash, and the property
--- holds for the use. Otherwise, texts of the policy and of the session break the hash.
+-- The entry at this position of a command names a policy session with this hash. The property holds
+-- for the use, unless texts of the policy and of the session break the hash.
 pub record IsUsedBySession (history : History) (c : AcceptedCommand) (place : ℕ) (hash : HashAlg)
     (policy : PolicyExpression) (Holds : PolicyUse → Type 0) : Type 0
   where
@@ -92,8 +92,8 @@ pub record IsUsedBySession (history : History) (c : AcceptedCommand) (place : �
 
 -- ---- policies of any kind
 
--- Only policy sessions use an object without userWithAuth, and each use meets the object's
--- policy.
+-- Only policy sessions authorize the use of an object without userWithAuth, and each use meets the
+-- object's policy.
 abbrev pub NeedsItsPolicy : History → AcceptedCommand → Type 0
 NeedsItsPolicy history c =
     (place : ℕ) (public : Public) (policy : PolicyExpression) → UsesObject c place public policy
@@ -102,18 +102,18 @@ NeedsItsPolicy history c =
 
 -- ---- policies of PCRs
 
--- the written policy that the selected PCRs have these concatenated values
+-- the written policy that requires these concatenated values of the selected PCRs
 abbrev pub by_pcrs : HashAlg → List BankSelection → (values : List ℕ) → PolicyExpression
 by_pcrs hash selection values = Then Nothing (PolicyPcr selection (hash_of hash values))
 
--- The selected PCRs have these values after a history. Or these values and those of the PCRs are
--- two different texts with the same hash.
+-- The selected PCRs have these values after a history. Or their values are a different text with
+-- the same hash.
 abbrev pub HavePcrValues : History → HashAlg → List BankSelection → (values : List ℕ) → Type 0
 HavePcrValues history hash selection values =
     let found : List ℕ = concat (flat_map (values_in history) selection) in
     (found ≡ values) ⊎ (found ≢ values) × (hash_of hash found ≡ hash_of hash values)
 
--- If an object's policy is that PCRs have these values, the object is used only while they have
+-- If an object's policy requires these values of PCRs, the object is used only while the PCRs have
 -- them.
 abbrev pub NeedsPcrs : History → AcceptedCommand → Type 0
 NeedsPcrs history c =
@@ -123,8 +123,8 @@ NeedsPcrs history c =
     → IsUsedBySession history c place public.name_alg policy
     (λ u. HavePcrValues history public.name_alg selection values)
 
--- If an object's policy is that PCRs have these values and that the authorization value (a PIN) is
--- given, the object is used only while they have them, and only with the PIN.
+-- If an object's policy requires these values of PCRs and the authorization value (a PIN), the
+-- object is used only while the PCRs have these values, and only with the PIN.
 abbrev pub NeedsPcrsAndPin : History → AcceptedCommand → Type 0
 NeedsPcrsAndPin history c =
     (place : ℕ) (public : Public) (selection : List BankSelection) (values : List ℕ)
@@ -144,7 +144,7 @@ by_pin_or_secret name reference =
     (Branch (Then Nothing (PolicySecret name reference)) NoBranch))
 
 -- An object with this policy is used only with its authorization value, or after an accepted
--- TPM2_PolicySecret for the entity with that Name, which was authorized.
+-- TPM2_PolicySecret that the entity with this Name authorized.
 abbrev pub NeedsPinOrSecret : History → AcceptedCommand → Type 0
 NeedsPinOrSecret history c =
     (place : ℕ) (public : Public) (name reference : List ℕ)
@@ -155,8 +155,8 @@ NeedsPinOrSecret history c =
 
 -- ---- the policy of an index that is written once
 
--- If an NV index has the policy that it is not WRITTEN, commands write the index only while it is
--- not WRITTEN.
+-- If the policy of an NV index requires that it is not WRITTEN, commands write the index only while
+-- it is not WRITTEN.
 abbrev pub IsWrittenOnce : History → AcceptedCommand → Type 0
 IsWrittenOnce history c =
     (place : ℕ) (public : NvPublic)
@@ -165,10 +165,10 @@ IsWrittenOnce history c =
     → IsUsedBySession history c place public.name_alg policy
     (λ u. index_has public.attributes mark.Written ≡ false)
 
--- ---- the policy of a counter that has reached a number
+-- ---- the policy that a counter has reached a number
 
--- If an object's policy is that a counter, the NV index with this Name, is at least a number, the
--- object is used only after an accepted TPM2_PolicyNV that compared the two.
+-- If an object's policy requires that a counter (the NV index with this Name) has reached a number,
+-- the object is used only after an accepted TPM2_PolicyNV that compared the two.
 abbrev pub NeedsCount : History → AcceptedCommand → Type 0
 NeedsCount history c =
     (place : ℕ) (public : Public) (name number : List ℕ)

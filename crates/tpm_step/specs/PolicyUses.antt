@@ -23,9 +23,9 @@ use Rattle.tpm_step.specs.Pcrs.{digest_in}
 use Rattle.tpm_step.specs.QuietPcrs.{AreQuietSince}
 use Rattle.tpm_step.specs.Sessions.{LiveSession}
 
--- a use by a policy session: the history before it; the command; the used handle, and its position
--- among the command's handles, counted from 0; the entry at the same position; and the entry's
--- session
+-- a use of an entity that a policy session authorizes: the history before it; the command; the used
+-- handle, and its position among the command's handles, counted from 0; the entry at the same
+-- position; and the entry's session
 pub record PolicyUse : Type 0 where
   pub history : History
   pub command : AcceptedCommand
@@ -54,7 +54,7 @@ ShowsAuthValue u =
 
 -- A use meets an assertion of its policy. The command code, the cpHash, the locality and the
 -- written state are those of the use itself (Part 3, sections 23.11, 23.13, 23.8 and 23.20).
--- TPM2_PolicySecret and TPM2_PolicyNV were accepted on its session before it.
+-- TPM2_PolicySecret and TPM2_PolicyNV were accepted for its session before the use.
 abbrev pub IsMetBy : PolicyUse → PolicyAssertion → Type 0
 IsMetBy u (PolicyPcr selection digest) = HasPcrsNow u selection digest
 IsMetBy u PolicyAuthValue = ShowsAuthValue u
@@ -80,8 +80,8 @@ pub record HasAuthPolicy (c : AcceptedCommand) (place : ℕ) (hash : HashAlg)
         ≡ Some (record { hash = hash; digest = policy_digest hash policy })
 
 -- If a policy session authorizes a use, the use meets every policy whose digest is the entity's
--- authPolicy, along one branch at each TPM2_PolicyOR. Otherwise, texts of the policy and of the
--- session break the hash.
+-- authPolicy, along one branch at each TPM2_PolicyOR, unless texts of the policy and of the session
+-- break the hash.
 abbrev pub MeetsPolicies : (history : History) (c : AcceptedCommand) (place : ℕ) → Handle
     → (e : Entry) → Ground history c place e → Type 0
 MeetsPolicies history c place handle e (ByPassword names takes has) = Unit {0}
@@ -98,8 +98,8 @@ MeetsPolicies history c place handle e (ByPolicy s lives kind meets has) =
     (hash : HashAlg) (policy : PolicyExpression) → HasAuthPolicy c place hash policy
     → IsMet (IsMetBy u) policy ⊎ BreaksHash hash policy s.assertions
 
--- For each handle that needs authorization, the entry at the same position authorizes it on a
--- ground, and the use meets every policy of the handle's entity.
+-- For each handle that needs authorization, the entry at the same position authorizes it by a
+-- password, an HMAC or a policy. The use meets every policy of the handle's entity.
 abbrev pub UsesMeetPolicies : History → AcceptedCommand → Type 0
 UsesMeetPolicies history c =
     (place : ℕ) (handle : Handle) → used_in c.command place ≡ Some handle
@@ -107,7 +107,7 @@ UsesMeetPolicies history c =
     × (ground : Ground history c place e) × MeetsPolicies history c place handle e ground
 
 -- Each command of a history met the policies of the entities that it used, given the history before
--- it.
+-- the command.
 abbrev pub AllMeetPolicies : History → Type 0
 AllMeetPolicies [] = Unit {0}
 AllMeetPolicies (Done c ∷ history) = UsesMeetPolicies history c × AllMeetPolicies history

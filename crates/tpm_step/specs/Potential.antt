@@ -16,10 +16,10 @@ credit s = if s.fields.failed_tries == 0 then 0 else s.forgiving_time
 abbrev pub IsForgiving : LockoutState → Type 0
 IsForgiving s = s.fields.recovery_time ≢ 0 → s.forgiving_time < period s
 
--- From the old state to the new one this many tries failed, this many milliseconds passed, and the
+-- Between the old and the new state, this many tries failed, this many milliseconds passed, and the
 -- parameters did not change. Each try that was counted before, or failed since, is still counted or
--- was forgiven. Forgiving the tries used up some of these milliseconds and of those that counted
--- before. If a try failed, failedTries is at most maxTries now.
+-- was forgiven. Each forgiven try consumed one recoveryTime, out of these milliseconds and those
+-- that counted before. If a try failed, failedTries is at most maxTries now.
 pub record Pays (old new : LockoutState) (failed elapsed : ℕ) : Type 0 where
   pub recovery_time : new.fields.recovery_time ≡ old.fields.recovery_time
   pub max_tries : new.fields.max_tries ≡ old.fields.max_tries

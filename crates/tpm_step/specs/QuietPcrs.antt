@@ -1,5 +1,6 @@
--- PCRs that have not changed since a TPM2_PolicyPCR. TPM 2.0 Library, Part 3, section 23.7, which
--- records the update counter of PCRs, and section 24.6 (TPM2_Clear counts as an update).
+-- PCRs that have not changed since a TPM2_PolicyPCR. TPM 2.0 Library, Part 3, section 23.7
+-- (TPM2_PolicyPCR, which records the PCR update counter), and section 24.6 (TPM2_Clear counts as an
+-- update).
 use Rattle.std.specs.Prelude.{◌≡◌, ◌≤◌, ℕ, Bool, true, false, List, [], ◌∷◌, ◌++◌, Some, Ok}
 use Rattle.std.specs.List.{AllByRecursion, list_any}
 use Rattle.std.specs.Option.{option_map_or}
@@ -16,7 +17,7 @@ use Rattle.tpm_step.specs.History.{AcceptedCommand, Done, History, ObjectPlaced,
 use Rattle.tpm_step.specs.Pcrs.{digest_in, updates_of, writes}
 use Rattle.tpm_step.specs.Sessions.{LiveSession, policy_in, sessions_of}
 
--- whether an assertion is by TPM2_PolicyPCR, and whether a session has such an assertion
+-- whether TPM2_PolicyPCR made this assertion; and whether it made one of a session's assertions
 abbrev pub is_pcr : Assertion → Bool
 is_pcr (Pcr parts) = true
 is_pcr _ = false
@@ -55,15 +56,15 @@ pub record AreQuietSince (handle : Handle) (history : History) : Type 0 where
   pub keeps : KeepsPcrs handle (since ++ Done first ∷ []) before
   pub quiet : AllByRecursion IsQuiet since
 
--- The claim of this assertion about PCRs holds after a history: the selected PCRs have the digest
--- that TPM2_PolicyPCR asserted, with the session's hash. Other assertions claim nothing about PCRs.
+-- After a history, the selected PCRs have the digest that this TPM2_PolicyPCR asserted, computed
+-- with the session's hash. Other assertions do not concern PCRs.
 abbrev pub HoldsOf : History → HashAlg → Assertion → Type 0
 HoldsOf history hash (Pcr parts) =
     (selection : List BankSelection) × (parts.selection ≡ selection_text selection)
     × (parts.digest ≡ digest_in history hash selection)
 HoldsOf history hash _ = Unit {0}
 
--- No PCR was updated since the first TPM2_PolicyPCR of the session at this handle. So all
+-- No PCR was updated since the first TPM2_PolicyPCR of the session at this handle. Therefore all
 -- assertions of the session about PCRs hold.
 pub record HoldsPcrs (handle : Handle) (history : History) (s : LiveSession) : Type 0 where
   pub quiet : AreQuietSince handle history
@@ -71,7 +72,7 @@ pub record HoldsPcrs (handle : Handle) (history : History) (s : LiveSession) : T
 
 -- ---- the update counter that a policy records
 
--- The update counter that the session recorded is not above that of the history. If the two are
+-- The update counter that the session recorded does not exceed that of the history. If the two are
 -- equal, the assertions of the session about PCRs hold.
 pub record RecordsUpdates (handle : Handle) (history : History) (s : LiveSession) : Type 0 where
   pub count : ℕ
@@ -79,7 +80,8 @@ pub record RecordsUpdates (handle : Handle) (history : History) (s : LiveSession
   pub within : count ≤ updates_of history
   pub hold : count ≡ updates_of history → HoldsPcrs handle history s
 
--- Each live policy session with an assertion by TPM2_PolicyPCR recorded such an update counter.
+-- Each live policy session with an assertion by TPM2_PolicyPCR recorded an update counter, which
+-- satisfies `RecordsUpdates`.
 abbrev pub AllRecordUpdates : History → Type 0
 AllRecordUpdates history =
     (handle : Handle) (s : LiveSession) → sessions_of history handle ≡ Some s

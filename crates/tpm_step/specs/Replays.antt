@@ -36,7 +36,7 @@ LivesThrough handle (event ∷ events) before =
 
 -- ---- a replay
 
--- One buffer encodes two accepted commands, the second after a longer history. Their entry at this
+-- The same buffer encodes two accepted commands, the first one and a later one. Their entry at this
 -- position, counted from 0, has an HMAC and names an HMAC session, which survives in between.
 pub record IsReplay (buffer : List ℕ) (before : History) (first : AcceptedCommand)
     (between : History) (second : AcceptedCommand) (place : ℕ) (e : Entry) (s : LiveSession)
@@ -51,22 +51,22 @@ pub record IsReplay (buffer : List ℕ) (before : History) (first : AcceptedComm
     pub is_hmac : s.kind ≡ type.Hmac
     pub lives_on : LivesThrough e.session (between ++ Done first ∷ []) before
 
--- The session's nonceTPM is the same as at an earlier time, and is among the nonces that the
--- session had before.
+-- The session's nonceTPM is the same as at the earlier time, and it is among the session's earlier
+-- nonces.
 abbrev pub HasNonceAgain : (earlier now : LiveSession) → Type 0
 HasNonceAgain earlier now =
     (now.nonce_tpm ≡ earlier.nonce_tpm) × IsAmong now.nonce_tpm now.earlier_nonces
 
--- The HMACs of the entry at the two events cover different texts and are equal, each with the key
--- at its event.
+-- The entry has the same HMAC at both events, each with the key at its event, but the two HMACs
+-- cover different texts.
 abbrev pub HaveOneHmac : (before : History) (first : AcceptedCommand) (after : History)
     (second : AcceptedCommand) (place : ℕ) (e : Entry) (s t : LiveSession) → Type 0
 HaveOneHmac before first after second place e s t =
     (text_in before first place e s ≢ text_in after second place e t)
     × (e.hmac ≡ hmac_in before first place e s) × (e.hmac ≡ hmac_in after second place e t)
 
--- At the second event of a replay, the session has the same hash and again the nonce of the first
--- event; or two texts have the same HMAC.
+-- At the second event of a replay, the session has the same hash as at the first. Its nonceTPM is
+-- again that of the first event, or two different texts have the same HMAC.
 pub record Repeats (before : History) (first : AcceptedCommand) (between : History)
     (second : AcceptedCommand) (place : ℕ) (e : Entry) (s : LiveSession) : Type 0 where
   pub now : LiveSession

@@ -14,8 +14,8 @@ use Rattle.tpm_step.specs.History.{AcceptedCommand, Done, History, recorded}
 use Rattle.tpm_step.specs.Replays.{LivesThrough, Repeats}
 use Rattle.tpm_step.specs.Sessions.{LiveSession, sessions_of}
 
--- The event is recorded as an accepted command, after any history, and this buffer encodes that
--- command.
+-- The event is recorded as an accepted command, whatever the history before it. This buffer encodes
+-- the command.
 pub record IsRecorded (old : Record) (event : PlainEvent) (x : Stepped) (buffer : List ℕ) : Type 0 where
   pub command : AcceptedCommand
   pub spelled : command_at buffer ≡ Ok (command.command, [])
@@ -48,8 +48,8 @@ pub record IsRunReplay (history : History) (earlier : List Execution) (one : Exe
     pub lives_on : LivesThrough e.session (history_after [] (one ∷ meanwhile))
         (history_after history earlier)
 
--- The commands that were accepted at the two events of a replay repeat a nonce, or two texts have
--- the same HMAC.
+-- The commands that were accepted at the two events of a replay repeat a nonce, or two different
+-- texts have the same HMAC.
 pub record RunRepeats (history : History) (earlier : List Execution) (one : Execution)
     (meanwhile : List Execution) (two : Execution) (place : ℕ) (e : Entry) (s : LiveSession) : Type 0
   where

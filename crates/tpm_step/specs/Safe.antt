@@ -12,15 +12,15 @@ use Rattle.tpm_step.specs.Entries.{DrawsFew}
 use Rattle.tpm_step.specs.Events.{PlainEvent, Given, Cycled, Placed}
 use Rattle.tpm_step.specs.Step.{Accepted, Stepped, accepted, counted_in}
 
--- the record after a command's elapsed time; a power cycle and a placed object leave it as it is
+-- the record after a command's elapsed time; unchanged by a power cycle and by a placed object
 abbrev pub only_ticked : Record → PlainEvent → Record
 only_ticked r (Given buffer locality elapsed random) = ticked r elapsed
 only_ticked r Cycled = r
 only_ticked r (Placed object) = r
 
--- A refusal has a response of ten bytes with its code, and the row reports its check. The record
--- changes only by the passing of time and by what the refusal counts. The command that the row
--- names is unspecified here.
+-- A refused command gets a response of ten bytes with the refusal's code, and the row reports the
+-- check. The record changes only by the elapsed time and by a failed try, if the refusal counts
+-- one. Which command the row names is unspecified here.
 abbrev pub IsHarmless : Record → PlainEvent → Stepped → Type 0
 IsHarmless r event x = x.row.check ≢ 0
     → (length x.response ≡ 10)
@@ -28,9 +28,9 @@ IsHarmless r event x = x.row.check ≢ 0
     × (x.row.check ≡ check_number refused.check)
     × (x.after ≡ counted_in refused.counted (only_ticked r event))
 
--- A success stays within the limits. Its row draws at most 96 of the event's 256 random bytes, and
--- at most 192 together with three nonces of 32 bytes after them. The parameters of its answer are
--- no longer than the limit.
+-- A success stays within the limits. Its row draws at most 96 of the event's 256 random bytes.
+-- Together with the new nonces after them, at most three of 32 bytes, it draws at most 192. The
+-- parameters of its answer are no longer than the limit.
 abbrev pub IsModest : List ℕ → Accepted → Type 0
 IsModest random a =
     (a.success.answer.drawn ≤ draw_limit) × (length (answer_body_text a.success.answer.body) ≤ answer_limit)

@@ -76,8 +76,8 @@ without_session handle live = with_at handle None live
 
 -- ---- the start of a session
 
--- the binding of a new session: the entity of the command's second handle, unless that is
--- TPM_RH_NULL
+-- the binding of a new session: the entity that the command's second handle names, unless this
+-- handle is TPM_RH_NULL
 abbrev pub bound_in : List Handle → List View → (auth_values : List (List ℕ)) → Option Bound
 bound_in (key ∷ bind ∷ handles) (key_view ∷ view ∷ views) (key_value ∷ value ∷ values) =
     if bind.number == null_handle.number then None
@@ -88,8 +88,8 @@ bound_in (key ∷ bind ∷ handles) (key_view ∷ view ∷ views) (key_value ∷
     })
 bound_in handles views values = None
 
--- the session key: KDFa(authHash, bind.authValue, "ATH", nonceTPM, nonceCaller, bits of a
--- digest), or empty for a session without a binding
+-- the session key: KDFa(authHash, bind.authValue, "ATH", nonceTPM, nonceCaller, size of a digest in
+-- bits); empty for a session without a binding
 unfoldable pub start_key : HashAlg → Option Bound → (nonce_tpm nonce_caller : List ℕ) → List ℕ
 start_key hash None nonce_tpm nonce_caller = []
 start_key hash (Some bound) nonce_tpm nonce_caller =
@@ -119,7 +119,8 @@ abbrev pub started_by : Result Parameters Refused → Option Bound → (random :
 started_by (Ok p) bound random = Some (started_with p bound (take (length p.nonce_caller) random))
 started_by (Err e) bound random = None
 
--- the session that a command starts, given the authorization values of its handles before it
+-- the session that a command starts, given the authorization values of its handles before the
+-- command
 unfoldable pub started : AcceptedCommand → (auth_values : List (List ℕ)) → Option LiveSession
 started c auth_values = started_by (parameters_in c.request.parameters)
     (bound_in c.request.handles c.views auth_values) c.request.random
@@ -203,8 +204,8 @@ entries_rolled live [] left = record { sessions = live; left = left }
 entries_rolled live (e ∷ es) left =
     let first = entry_rolled live e left in entries_rolled first.sessions es first.left
 
--- the session after it authorized a handle: a policy session loses its assertions, unless it is a
--- trial session
+-- the session after it authorized a handle: a policy session loses its assertions; an HMAC session
+-- and a trial session are unchanged
 abbrev pub used_by : SessionType → LiveSession → LiveSession
 used_by type.Hmac s = s
 used_by type.Policy s = restarted s

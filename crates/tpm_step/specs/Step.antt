@@ -59,7 +59,7 @@ request_in r c grants locality random = record {
   random = random;
 }
 
--- the acceptance of a command: first its authorization, then its row
+-- accepts or refuses a command: first by its authorization, then by its row
 unfoldable pub acceptance : Record → Whole → ℕ → List ℕ → Result Accepted Refused
 acceptance r c locality random = do
   grants ← authorize r c locality
@@ -67,8 +67,8 @@ acceptance r c locality random = do
   success ← row_of r c.code q
   Ok (record { command = c; grants = grants; request = q; success = success })
 
--- The refusal is that of the command's acceptance. Or an allocation can fail, and the refusal is
--- MEMORY instead of the success of a command that grows something.
+-- The command is refused as the definition says. Or an allocation can fail, and a command that
+-- would succeed and grows something is refused with MEMORY.
 abbrev pub RefusesOrWantsMemory : Bool → Whole → Result Accepted Refused → Refused → Type 0
 RefusesOrWantsMemory can c (Err refused) e = e ≡ refused
 RefusesOrWantsMemory can c (Ok a) e =
@@ -82,21 +82,21 @@ Succeeds (Ok a) c grants answer new =
     × (new ≡ a.success.after)
 Succeeds (Err refused) c grants answer new = ⊥
 
--- The code accepted or refused the command as the definition does, and with the same grants. A
+-- The code accepted or refused the command as the definition says, and with the same grants. A
 -- refusal leaves the record unchanged.
 abbrev pub Accepts : Bool → Result Accepted Refused → Whole → List (Option Grant)
     → Record → Result (Unit {0}) Refused → Answer → Record → Type 0
 Accepts can a c grants old (Ok done) answer new = Succeeds a c grants answer new
 Accepts can a c grants old (Err e) answer new = (new ≡ old) × RefusesOrWantsMemory can c a e
 
--- the accepted command of a buffer, or the first refusal; the command's elapsed time has already
--- passed
+-- the accepted command that a buffer encodes, or the first refusal. In the record, the command's
+-- elapsed time has already passed
 unfoldable pub accepted : Record → List ℕ → ℕ → List ℕ → Result Accepted RefusedCommand
 accepted r buffer locality random = do
   command ← general r buffer
   in_command command.code (acceptance r command locality random)
 
--- what a refusal counts against dictionary attacks: nothing; a failed try on a protected entity; or
+-- how a refusal changes the lockout state: not at all; by a failed try on a protected entity; or by
 -- a failed try on lockoutAuth, which disables lockoutAuth
 abbrev pub lockout_counted : Counted → LockoutState → LockoutState
 lockout_counted counted.None s = s
@@ -106,7 +106,7 @@ lockout_counted counted.Lockout s = closed_by_failure s
 abbrev pub counted_in : Counted → Record → Record
 counted_in counted r = with_lockout r (lockout_counted counted r.fixed.lockout)
 
--- the step of a refusal, which changes nothing in the record except what the refusal counts
+-- the step of a refused command, which changes nothing in the record except the lockout state
 abbrev pub refusal_step : Record → RefusedCommand → Stepped
 refusal_step r e = record {
   response = refusal_text e.refused;
@@ -137,7 +137,7 @@ stepped_of r random (Err e) = refusal_step r e
 abbrev pub outcome_step : Record → Outcome → Stepped
 outcome_step r o = record { response = o.response.items; row = o.row; after = r }
 
--- the step of a command for which an allocation fails: MEMORY, check M, and the record unchanged
+-- the step of a command if an allocation fails: MEMORY, check M, and the record unchanged
 abbrev pub refusal_without_memory : Record → Whole → Stepped
 refusal_without_memory r c =
     refusal_step r (record { code = code_number c.code; refused = memory_refusal })
@@ -174,12 +174,12 @@ step_where refused r (Placed object) =
 abbrev pub step : Record → PlainEvent → Stepped
 step r event = step_where false r event
 
--- This is the step of the command, and an allocation fails only if `can` is true.
+-- x is the step of the command. In it, an allocation fails only if `can` is true.
 abbrev pub Answers : Bool → Record → List ℕ → Result Accepted RefusedCommand → Stepped → Type 0
 Answers can r random a x =
     (refused : Bool) × (refused ≡ true → can ≡ true) × (x ≡ answer_where refused r random a)
 
--- This is the step of the event, and an allocation fails only if `can` is true.
+-- x is the step of the event. In it, an allocation fails only if `can` is true.
 abbrev pub Steps : Bool → Record → PlainEvent → Stepped → Type 0
 Steps can r event x =
     (refused : Bool) × (refused ≡ true → can ≡ true) × (x ≡ step_where refused r event)

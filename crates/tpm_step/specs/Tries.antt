@@ -59,20 +59,21 @@ fails_try r (Given buffer locality elapsed random) =
 fails_try r Cycled = false
 fails_try r (Placed object) = false
 
--- An entry touches the entity whose authorization value the device uses to check the entry. If this
--- value is compared with the password, or is part of the HMAC's key, it is the entity that the
--- entry has to authorize. Otherwise it is the entity to which the session was bound at its start.
--- If a session may not authorize the entity, nothing is compared and nothing is touched.
+-- An entry touches the entity whose authorization value the device uses to check the entry. This is
+-- the entity that the entry has to authorize, if its value is compared with the password or is part
+-- of the HMAC's key. Otherwise it is the entity to which the session was bound at its start. If a
+-- session may not authorize the entity, nothing is compared and nothing is touched.
 
 -- the protection of the entity that a session's entry touches, if the entry has to authorize this
--- handle. The last argument is what the session demands for it, or why it may not authorize it
+-- handle. The last argument is the policy's demand, or the refusal if the session may not authorize
+-- the handle
 abbrev pub touched_where : Record → Session → Handle → Result Demand Refused → Protection
 touched_where r s handle (Ok demand) =
     entry_protection r s (Some (record { handle = handle; demand = demand }))
 touched_where r s handle (Err e) = protection.None
 
--- the protection of the entity that entry n touches, if the entry names this session, and has to
--- authorize this handle or none
+-- the protection of the entity that entry n touches, if the entry names this session. The handle is
+-- the one that the entry has to authorize, if any
 abbrev pub touched_of_session : Record → Whole → (locality n : ℕ) → Option Handle → Session
     → Protection
 touched_of_session r c locality n (Some handle) s =
@@ -112,7 +113,7 @@ IsRefusedTry r (Given buffer locality elapsed random) =
 IsRefusedTry r Cycled = ⊥
 IsRefusedTry r (Placed object) = ⊥
 
--- ---- how a failed try is answered
+-- ---- the response to a failed try
 
 -- the check that refuses an entry with a wrong password or HMAC: G9 if the entry has to authorize a
 -- handle, and otherwise G10
@@ -183,8 +184,8 @@ FailsWithin can old executions new =
     → old.fixed.lockout.fields.recovery_time ≢ 0
     → failures_in executions ≤ tries_within old executions
 
--- a bound on the number of tries that fail in a stretch of events: maxTries, one more, and one for
--- each recoveryTime that passes
+-- a bound on the number of tries that fail in a stretch of events: maxTries plus one, and one more
+-- for each recoveryTime that passes
 abbrev pub tries_at_most : Record → List Execution → ℕ
 tries_at_most old executions =
     old.fixed.lockout.fields.max_tries + 1

@@ -38,19 +38,19 @@ view_protection (OfIndex public) =
     if index_has public.attributes mark.NoDa then protection.None else protection.Tries
 view_protection (OfHandle handle) = permanent_protection handle
 
--- whether an authPolicy is not empty, and so is a policy
+-- whether an authPolicy is a policy, that is, not empty
 abbrev pub is_policy : List ℕ → Bool
 is_policy digest = not (length digest == 0)
 
--- whether an object accepts this means of authorization: its authValue if it has userWithAuth, its
--- policy if its authPolicy is not empty
+-- whether an object accepts this means of authorization: its authValue if it has userWithAuth, or
+-- its policy if its authPolicy is not empty
 abbrev pub object_takes : Means → Public → Bool
 object_takes means.AuthValue public = has public.attributes attribute.UserWithAuth
 object_takes means.Policy public = is_policy public.auth_policy
 
 -- whether an NV index accepts this means of authorization for a command with this use. It accepts
--- its authValue if it has AUTHREAD or AUTHWRITE, but never in the role ADMIN. It accepts its
--- policy, if it has one, if it has POLICYREAD or POLICYWRITE, and always in the role ADMIN
+-- its authValue if it has AUTHREAD or AUTHWRITE, but never in the role ADMIN. If it has a policy,
+-- it accepts the policy if it has POLICYREAD or POLICYWRITE, and always in the role ADMIN
 abbrev pub index_takes : Means → NvUse → NvPublic → Bool
 index_takes means.AuthValue does.Read public = index_has public.attributes mark.AuthRead
 index_takes means.AuthValue does.Write public = index_has public.attributes mark.AuthWrite
@@ -72,8 +72,8 @@ abbrev pub view_written : View → Option Bool
 view_written (OfIndex public) = Some (index_has public.attributes mark.Written)
 view_written other = None
 
--- whether the viewed entity exists. A handle of the type of an object or an index that names no
--- entity has no public area
+-- whether the viewed entity exists. If a handle has the type of an object or an index but names no
+-- entity, its view has no public area
 abbrev pub is_there : View → Bool
 is_there (OfHandle handle) = not (names_kept handle)
 is_there _ = true

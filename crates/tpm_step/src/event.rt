@@ -1,5 +1,5 @@
-//! An event, which is a command or a power cycle, and its outcome: the response, and the row that
-//! is reported.
+//! An event, which is a command or a power cycle, and its outcome: the response and the reported
+//! row.
 
 ghost use Rattle.std.specs.Prelude.{◌≡◌};
 
@@ -9,7 +9,7 @@ use tpm_types::{BUFFER_LIMIT, Locality};
 /// All bytes of a response.
 pub type Response = ArrayVec<u8, BUFFER_LIMIT>;
 
-/// One event. The device changes by whole events only.
+/// An event. The device's state changes only by whole events.
 #[derive(Drop)]
 pub enum Event<'a> {
     /// A command: its buffer, which may contain any bytes; its locality; the milliseconds since the
@@ -28,7 +28,7 @@ impl<'a> Event<'a> {
     ghost use Rattle.tpm_step.specs.Events.{IsEvent, plain_event};
     ghost use Rattle.tpm_step.specs.declared.event.Event.TheVariants.{Command};
 
-    /// The event of a command.
+    /// Makes the event of a command.
     pub fn of_command(
         buffer: &'a [u8],
         locality: Locality,
@@ -37,7 +37,7 @@ impl<'a> Event<'a> {
     ) -> Event<'a>
         ensures value { result ≡ Command buffer.entry locality elapsed_ms random }
 
-        // The event of a command can happen: its locality is 0 to 4, its elapsed time has 32 bits,
+        // The event is one that can occur: its locality is 0 to 4, its elapsed time has 32 bits,
         // and it has 256 random bytes.
         ensures event { IsEvent (plain_event result) }
     {

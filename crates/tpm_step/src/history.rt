@@ -1,6 +1,6 @@
-//! The PCRs, sessions, policies, authorization values and counters of a device follow from what the
-//! device has accepted. This module also says on what grounds entities were used, what a replay
-//! repeats, and how many tries may fail.
+//! Laws about histories: the PCRs, sessions, policies, authorization values and counters of a
+//! device follow from what the device has accepted. Further laws say how each use of an entity was
+//! authorized, what a replay repeats, and how many tries may fail.
 //!
 //! Each law is the contract of a function that does nothing. The laws follow from the definitions
 //! of the step and from the laws about all rows in [`crate::rows`]. Apart from these, their proofs
@@ -59,8 +59,9 @@ ghost use Rattle.tpm_step.specs.Views.{TellsOf};
 
 use crate::event::Outcome;
 
-/// A manufactured device follows the empty history. Every execution of an event, and every power
-/// cycle, leads from a history to the same history with this event, if the event was accepted.
+/// A newly manufactured device follows the empty history. If a device follows a history, then after
+/// an event it follows the same history, to which the event is added if it was accepted. A power
+/// cycle is always added.
 #[inline(always)]
 pub fn following_laws()
     ensures manufactured { (random : List ℕ) → Follows (manufactured random) [] }
@@ -72,8 +73,8 @@ pub fn following_laws()
 
 /// A stretch of events is a list of executions, one after another. A power cycle is a stretch by
 /// itself, and so is placing an object that satisfies the invariant of loaded objects. Two
-/// stretches make one if the second begins where the first ended. A stretch in which no allocation
-/// can fail is also one in which allocations can fail.
+/// stretches make one if the second begins where the first ended. A stretch that is possible if no
+/// allocation can fail is also possible if allocations can fail.
 #[inline(always)]
 pub fn stretch_laws()
     ensures power_cycle { (can : Bool) (r : Record)
@@ -87,8 +88,8 @@ pub fn stretch_laws()
         → Leads false old executions new → Leads can old executions new }
 {}
 
-/// A stretch of events leads a device from a history to the same history with all accepted events
-/// of the stretch. The other properties of `StretchFollows` hold too.
+/// If a device follows a history, then after a stretch of events it follows the same history with
+/// all accepted events of the stretch added. The other properties of `StretchFollows` hold too.
 #[inline(always)]
 pub fn stretch_history_laws()
     ensures { (can : Bool) (old : Record) (executions : List Execution) (new : Record)
@@ -96,8 +97,9 @@ pub fn stretch_history_laws()
         → StretchFollows can old executions new history }
 {}
 
-/// A run executes its events one after another, and leads to the history with all accepted ones.
-/// Conversely, executions one after another are a run if a closure is called with each outcome.
+/// A run executes its events one after another. After the run, the device follows the history with
+/// all accepted events. Conversely, executions one after another are a run if a closure is called
+/// with each outcome.
 #[inline(always)]
 pub fn run_history_laws<F: FnMut(&Outcome)>()
     ensures follows { (can : Bool) (old : Record) (p : F) (events : List PlainEvent) (new : Record)
@@ -138,8 +140,8 @@ pub fn live_session_laws()
 {}
 
 /// An entity that exists has the authorization value that the history determines for its handle.
-/// The value is empty for a handle that is not of a hierarchy, lockout, an NV index or an object:
-/// for a PCR and for TPM_RH_NULL. No authorization value ends in a zero.
+/// The value is empty for PCRs, for TPM_RH_NULL, and for every other handle that is not of a
+/// hierarchy, lockout, an NV index or an object. No authorization value ends in a zero.
 #[inline(always)]
 #[tactic(auto, using(crate::proofs::DeviceAuthValues::present_auth_value, crate::proofs::TrimmedValues::told_values_are_trimmed))]
 pub fn auth_value_laws()
@@ -152,18 +154,18 @@ pub fn auth_value_laws()
         → trimmed (auth_of history handle) ≡ auth_of history handle }
 {}
 
-/// The history alone determines that the first value of a counter exceeds every value that any
-/// counter had before. It also determines that a counter does not go down as long as no index is
-/// defined again under its handle.
+/// Laws about counters in histories, without a device. The first value of a counter exceeds every
+/// value that any counter had before. A counter does not go down until an index is defined again
+/// with its handle.
 #[inline(always)]
 #[tactic(auto, using(crate::proofs::CountLaws::count_laws))]
 pub fn count_laws()
     ensures { CountLaws }
 {}
 
-/// No counter of a device goes down as long as no index is defined again under its handle. The
-/// first value of a counter exceeds every value that any counter had before, whether the counter
-/// was defined before the events in between or by one of them.
+/// No counter of a device goes down until an index is defined again with its handle. The first
+/// value of a counter exceeds every value that any counter had before, whether the counter was
+/// defined before a stretch of events or in it.
 #[inline(always)]
 pub fn counter_laws()
     ensures keeps { (old new : Record) (history meanwhile : History) (handle : Handle)
@@ -179,8 +181,8 @@ pub fn counter_laws()
         → ExceedsEarlier new history meanwhile handle after }
 {}
 
-/// If an execution with check 0 accepted a command, the history records the command, and the
-/// event's buffer encodes it.
+/// If the execution of a command reports check 0, the history records the command, and the event's
+/// buffer encodes it.
 #[inline(always)]
 pub fn recorded_laws()
     ensures { (can : Bool) (old : Record) (buffer : List ℕ) (locality elapsed : ℕ)
@@ -189,9 +191,8 @@ pub fn recorded_laws()
         → IsRecorded old (Given buffer locality elapsed random) x buffer }
 {}
 
-/// In every history of a device, each use of an entity was authorized on one of three grounds,
-/// given the history before the use: a password, an HMAC session, or a policy session whose
-/// conditions all hold.
+/// In every history of a device, each use of an entity was authorized by a password, an HMAC
+/// session, or a policy session whose conditions all hold, given the history before the use.
 #[inline(always)]
 pub fn grounds_laws()
     ensures { (can : Bool) (random : List ℕ) (executions : List Execution) (new : Record)
@@ -200,19 +201,20 @@ pub fn grounds_laws()
 {}
 
 /// If a buffer with an HMAC is accepted twice, and its HMAC session survives in between, the
-/// session has the nonceTPM of the first event again; or two texts have the same HMAC, each with
-/// the key at its event.
+/// session has the nonceTPM of the first event again, unless two different texts have the same
+/// HMAC, each with the key at its event.
 #[inline(always)]
 pub fn replay_laws()
     ensures { (can : Bool) (random : List ℕ) (executions : List Execution) (new : Record)
         → Leads can (manufactured random) executions new → RunReplaysRepeat [] executions }
 {}
 
-/// If TPM2_PolicyPCR is the only assertion of a policy session that uses an entity, the entity's
-/// policy is that the PCRs have certain values. They have these values at the use, unchanged since
-/// the first TPM2_PolicyPCR. If TPM2_PolicyCommandCode is the only assertion, the policy is the
-/// code of the command that uses the entity. If TPM2_PolicyNvWritten is the only assertion, the
-/// entity is an NV index, WRITTEN or not as the assertion says.
+/// Each of these laws is about a policy session with a single assertion, which authorizes the use
+/// of an entity. If the assertion is TPM2_PolicyPCR, the entity's policy requires the values that
+/// the PCRs have at the use, unchanged since the first TPM2_PolicyPCR. If it is
+/// TPM2_PolicyCommandCode, the policy requires the code of the command that uses the entity. If it
+/// is TPM2_PolicyNvWritten, the entity is an NV index, and it is WRITTEN or not as the assertion
+/// says.
 #[inline(always)]
 pub fn policy_laws()
     ensures pcrs { UsesPcrsAsTheyAre }
@@ -221,7 +223,7 @@ pub fn policy_laws()
     ensures command { UsesItsCommand }
 {}
 
-/// An event is a failed try exactly if its authorization is refused with AUTH_FAIL for an entry
+/// An event is a failed try if and only if its authorization is refused with AUTH_FAIL for an entry
 /// that touches a protected entity other than LOCKOUT. The response is AUTH_FAIL for that entry.
 #[inline(always)]
 pub fn failed_try_laws()
@@ -267,16 +269,17 @@ pub fn few_tries_laws()
 {}
 
 /// If two devices follow the same history, show the same views of each handle, and have the same
-/// failed tries, they authorize each command with the same grants, or refuse it with the same
+/// lockout state, they authorize each command with the same grants, or refuse it with the same
 /// refusal.
 #[inline(always)]
 pub fn alike_laws()
     ensures { AuthorizeAlike }
 {}
 
-/// In every history of a device, each use has a ground. Each use by a policy session meets every
-/// policy whose digest is the authPolicy of the used entity, along one branch at each
-/// TPM2_PolicyOR. Otherwise, texts of the policy and of the session break the hash.
+/// In every history of a device, each use of an entity was authorized by a password, an HMAC
+/// session or a policy session. Each use by a policy session met every policy whose digest is the
+/// authPolicy of the used entity, along one branch at each TPM2_PolicyOR, unless texts of the
+/// policy and of the session break the hash.
 #[inline(always)]
 pub fn auth_policy_laws()
     ensures { (can : Bool) (random : List ℕ) (executions : List Execution) (new : Record)
@@ -284,13 +287,14 @@ pub fn auth_policy_laws()
         → AllMeetPolicies (history_after [] executions) }
 {}
 
-/// Since a device was manufactured, only policy sessions used an object without userWithAuth, and
-/// each use met the object's policy. With a policy of PCRs, the object was used only while the PCRs
-/// had the policy's values. If the policy also requires a PIN, only someone with the PIN used the
-/// object. With a policy of a PIN or a recovery secret, only someone with one of the two used it.
-/// With a policy that compares a counter, it was used only after an accepted TPM2_PolicyNV. An NV
-/// index without AUTHWRITE whose policy is that it is not written was written only while it was
-/// not. Each of these claims holds, or the hash is broken.
+/// Since a device was manufactured, only policy sessions authorized the use of an object without
+/// userWithAuth, and each use met the object's policy. If the policy requires values of PCRs, the
+/// object was used only while the PCRs had these values. If it also requires a PIN, the object was
+/// used only with the PIN. If it requires a PIN or a recovery secret, the object was used only with
+/// one of the two. If it compares a counter, the object was used only after an accepted
+/// TPM2_PolicyNV. If the policy of an NV index without AUTHWRITE requires that the index is not
+/// written, commands wrote the index only while it was not written. Each of these claims holds
+/// unless the hash is broken.
 #[inline(always)]
 pub fn policy_review_laws()
     ensures every { OfEachAccepted NeedsItsPolicy }

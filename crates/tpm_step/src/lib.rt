@@ -2,15 +2,15 @@
 
 //! The events of the device, and the step of each. The definitions in `specs/` are the general
 //! checks, the table of all rows, the answer, the step of an event, runs of events, and what a
-//! history of such steps determines about a device. The code of this crate consists of four types:
-//! an [`event::Event`], its [`event::Outcome`], a [`refused_command::RefusedCommand`], and the
-//! [`direction::Direction`] in which a session passes a parameter.
+//! history of steps determines about a device. The code of this crate consists of four types:
+//! [`event::Event`], its [`event::Outcome`], [`refused_command::RefusedCommand`], and
+//! [`direction::Direction`], which says whether a session decrypts or encrypts a parameter.
 //!
 //! The laws about all rows are in [`rows`], and those about histories in [`history`].
 //!
 //! The crate uses the definitions of the rows, in tpm_record and the crates of the commands, and
-//! those of tpm_auth. tpm_machine is proved to compute the step. The laws use only definitions, and
-//! no code.
+//! the definitions of tpm_auth. tpm_machine is proved to compute the step. The laws are about
+//! definitions only, and not about code.
 
 pub mod direction;
 pub mod event;

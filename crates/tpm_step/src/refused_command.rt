@@ -14,7 +14,7 @@ pub struct RefusedCommand {
 }
 
 impl RefusedCommand {
-    /// The refusal of a command.
+    /// Adds the code of a command to its refusal.
     pub fn of(code: CommandCode, refused: Refused) -> RefusedCommand
         ensures { result ≡ record { code = code_number code; refused = refused } }
     {

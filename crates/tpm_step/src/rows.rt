@@ -1,7 +1,7 @@
 //! Laws about the rows of all commands. Each is the contract of a function that does nothing. The
 //! laws say which part of the record a success changes, what the command's shape determines, that
-//! sessions still exist, and what no row refuses. A row neither renews nor ends a session; the step
-//! does so after the row. Sessions keep their sizes through the whole step.
+//! sessions still exist, and what no row refuses. The step renews or ends the sessions of entries
+//! only after the row. The fields of sessions keep the right sizes through the whole step.
 //!
 //! The laws are about the definitions of the step. All laws of a row are one record, which is
 //! proved once, so that theorems about histories do not unfold the rows. Each law about all
@@ -68,8 +68,8 @@ pub fn index_change_laws()
         → IfOk (row_of r c q) (λ s. ChangesIndices (part_of c) q r.nv s.after.nv) }
 {}
 
-/// A success returns a handle exactly if its command's shape says so. The first parameter of its
-/// answer is a sized buffer exactly if the shape says so.
+/// A success returns a handle if and only if its command's shape says so. The first parameter of
+/// its answer is a sized buffer if and only if the shape says so.
 #[inline(always)]
 #[tactic(auto, using(crate::proofs::rows::Table::row_answers))]
 pub fn answer_shape_laws()
@@ -87,8 +87,8 @@ pub fn growth_laws()
         → IfOk (row_of r c q) (λ s. GrowsAsShaped c r s.after) }
 {}
 
-/// If a row refuses no handle, it refuses parameters exactly if they are not of the kinds in its
-/// command's shape, and then with the first fault.
+/// If a row refuses no handle, it refuses parameters if and only if they are not of the kinds in
+/// its command's shape. The refusal is then the first fault.
 #[inline(always)]
 #[tactic(auto, using(crate::proofs::rows::Table::row_reads))]
 pub fn parameter_laws()
@@ -126,8 +126,8 @@ pub fn row_secrecy_laws()
 {}
 
 /// A row refuses no handle if the handles fit the rules of its command's shape. The row is defined
-/// for every request, and so it refuses a handle that is missing or names no entity; but no command
-/// leads to such a request.
+/// for every request, and therefore it also refuses a handle that is missing or names no entity;
+/// but the general checks have already excluded these cases.
 #[inline(always)]
 #[tactic(auto, using(crate::proofs::rows::Table::row_passes))]
 pub fn row_handle_laws()
@@ -135,8 +135,8 @@ pub fn row_handle_laws()
         → HandlesFit r (shape_of c).handles q.handles → Passes check.Handles (row_of r c q) }
 {}
 
-/// If handles fit rules, the first handle fits the first rule, and the second handle fits the
-/// second rule.
+/// If a command's handles fit its rules, the first handle fits the first rule, and the second
+/// handle fits the second rule.
 #[inline(always)]
 #[tactic(auto, using(crate::proofs::rows::HandleRules::first_fits, crate::proofs::rows::HandleRules::second_fits))]
 pub fn handle_place_laws()
@@ -194,9 +194,9 @@ pub fn step_memory_laws()
         → Executes false old event x → x.row.check ≢ check_number check.Memory }
 {}
 
-/// If the entries' own checks pass, the checks of the grants find the session of each entry that is
-/// not a password. They may refuse an entry that is not authorized, but never because its session
-/// is missing.
+/// If the entries' own checks pass, the session of each entry that is not a password exists.
+/// Therefore the later checks may refuse an entry because it is not authorized, but never because
+/// its session is missing.
 #[inline(always)]
 #[tactic(auto, using(crate::proofs::rows::Grants::grants_refuse))]
 pub fn granted_session_laws()
@@ -242,7 +242,7 @@ pub fn started_laws()
         → (success_step a random).after.fixed.started ≡ true }
 {}
 
-/// Only the authorization counts anything against dictionary attacks. General checks and rows do
+/// Only the authorization counts failed tries or disables lockoutAuth. General checks and rows do
 /// not.
 #[inline(always)]
 #[tactic(auto, using(crate::proofs::rows::Table::row_plain, crate::proofs::rows::Uncounted::general_plain))]
@@ -253,8 +253,8 @@ pub fn uncounted_laws()
         → IfErr (general r buffer) (λ e. e.refused.counted ≡ counted.None) }
 {}
 
-/// All sessions of a manufactured device have their sizes, and so have those of a device after a
-/// power cycle. Neither device has a session.
+/// A newly manufactured device has no session, and neither has a device after a power cycle.
+/// Therefore the fields of all their sessions have the right sizes.
 #[inline(always)]
 #[tactic(auto, using(crate::proofs::rows::SizedSteps::manufactured_sized, crate::proofs::rows::SizedSteps::cycled_sized))]
 pub fn new_device_size_laws()
@@ -276,7 +276,8 @@ pub fn draw_laws()
         → ((shape_of c).forbids_sessions ≡ true) × (draws_of c q ≡ 0) }
 {}
 
-/// Sessions keep their sizes in a row's success, if there are enough random bytes for a nonce.
+/// After a row's success, the fields of all sessions still have the right sizes, if there are
+/// enough random bytes for a nonce.
 #[inline(always)]
 #[tactic(auto, using(crate::proofs::rows::Table::row_sized))]
 pub fn row_size_laws()
@@ -284,9 +285,9 @@ pub fn row_size_laws()
         → 32 ≤ length q.random → AreSized r → IfOk (row_of r c q) (λ s. AreSized s.after) }
 {}
 
-/// Sessions keep their sizes in the answer to a success, if there are enough random bytes for a
-/// nonce of each entry. The answer renews nonces, returns policies to their start and ends
-/// sessions.
+/// After the answer to a success, the fields of all sessions still have the right sizes, if there
+/// are enough random bytes for a nonce of each entry. The answer renews nonces, resets policies and
+/// ends sessions.
 #[inline(always)]
 pub fn answer_size_laws()
     ensures { (c : Whole) (grants : List (Option Grant)) (a : Written) (effect : Record)
@@ -294,30 +295,30 @@ pub fn answer_size_laws()
         → AreSized (answer_to c grants a effect random).after }
 {}
 
-/// Sessions keep their sizes in every event, whether or not allocations fail: 256 random bytes are
-/// enough for each command.
+/// After every event, the fields of all sessions still have the right sizes, whether or not
+/// allocations fail. The 256 random bytes of each command are enough.
 #[inline(always)]
 pub fn step_size_laws()
     ensures { (refused : Bool) (r : Record) (event : PlainEvent)
         → IsEvent event → AreSized r → AreSized (step_where refused r event).after }
 {}
 
-/// Sessions keep their sizes in every execution of an event.
+/// After every execution of an event, the fields of all sessions still have the right sizes.
 #[inline(always)]
 pub fn execution_size_laws()
     ensures { (can : Bool) (old : Record) (event : PlainEvent) (x : Stepped)
         → Executes can old event x → AreSized old → AreSized x.after }
 {}
 
-/// Sessions keep their sizes in every run of events.
+/// After every run of events, the fields of all sessions still have the right sizes.
 #[inline(always)]
 pub fn run_size_laws<F: FnMut(&Outcome)>()
     ensures { (can : Bool) (old : Record) (p : F) (events : List PlainEvent) (new : Record) (q : F)
         → Runs F.FnMut can old p events new q → AreSized old → AreSized new }
 {}
 
-/// The sessions of a device always have their sizes, whatever events happened since it was
-/// manufactured.
+/// The fields of a device's sessions always have the right sizes, whatever events happened since it
+/// was manufactured.
 #[inline(always)]
 pub fn history_size_laws()
     ensures { (random : List ℕ) (events : List PlainEvent)

@@ -12,7 +12,7 @@ module _ {X : Type 0} (Is : X → Type 0) where
   all_free (suc n) zero = tt
   all_free (suc n) (suc place) = all_free n place
 
-  -- a property of all values still holds after a slot gets a value with the property, or none
+  -- a property of all values still holds after a slot gets a value with the property, or is freed
   pub all_set : (places : List (Option X)) (place : ℕ) (cell : Option X) → IfSome cell Is → AreAll Is places → AreAll Is (slice_set places place cell)
   all_set [] place cell is are other = are other
   all_set (first ∷ places) zero cell is are zero = is

@@ -1,4 +1,4 @@
--- The row of TPM2_GetCapability satisfies the laws of rows.
+-- The row of TPM2_GetCapability satisfies the laws about rows.
 use Rattle.std.specs.Prelude.{◌/◌}
 use Rattle.std.proofs.Common.{◌^◌, arith, ℕ}
 use Rattle.tpm_commands.specs.CommandCode.{shape_of}

@@ -52,7 +52,7 @@ unfolding session_grant demanded
 session_refuses r c locality n None e s = search (rules, err_bind, err_if, failure_is)
 session_refuses r c locality n (Some handle) e s = search (rules, err_bind, err_if, failure_is, demand_refuses)
 
--- if the session of an entry exists, only G9 or G10 refuses the entry
+-- if the session of an entry exists, only check G9 or G10 refuses the entry
 there_refuses : (r : Record) (c : Whole) (locality n : ℕ) (used : Option Handle) (e : Entry) (o : Option Session) → is_some o ≡ true → RefusesAuthorization (session_grant_if r c locality n used e o)
 there_refuses r c locality n used e None there = absurd (false≢true there)
 there_refuses r c locality n used e (Some s) there = session_refuses r c locality n used e s
@@ -66,7 +66,7 @@ grant_refuses : (r : Record) (c : Whole) (locality n : ℕ) (used : Option Handl
 unfolding grant
 grant_refuses r c locality n used e has = kind_refuses (session_kind e.session) r c locality n used e has
 
--- if the sessions of all entries exist, only G9 or G10 refuses them
+-- if the sessions of all entries exist, only check G9 or G10 refuses the entries
 walk_refuses : (r : Record) (c : Whole) (locality : ℕ) (before : List (Option Grant)) (es : List Entry) → HaveSessions r es → RefusesAuthorization (grants_pass r c locality before es)
 walk_refuses r c locality before [] have = tt
 walk_refuses r c locality before (e ∷ es) have =
@@ -79,7 +79,8 @@ grants_refuse r c locality is = walk_refuses r c locality [] c.entries (entries_
 
 -- ---- the grant of an entry
 
--- An entry is granted the handle that it has to authorize, or none.
+-- On success, the entry is granted the handle that it has to authorize, or no handle if there is
+-- none.
 abbrev Grants : Option Handle → Result (Option Grant) Refused → Type 0
 Grants used result = IfOk result (λ granted. handle_in granted ≡ used)
 
@@ -110,8 +111,8 @@ grant_grants r c locality n used e = kind_grants (session_kind e.session) r c lo
 
 -- ---- the grants of all entries
 
--- There are no more handles that need authorization than entries. So the positions after the last
--- entry have neither a grant nor such a handle.
+-- There are at least as many entries as handles that need authorization. Therefore a position after
+-- the last entry has neither a grant nor a handle that needs authorization.
 all_fit : (r : Record) (c : Whole) (locality : ℕ) (grants : List (Option Grant)) → IsGranting r c locality grants → GrantsFit c grants
 all_fit r c locality grants all = record { entries = all.as_many; handles = fit_at }
   where

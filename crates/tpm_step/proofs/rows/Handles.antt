@@ -45,7 +45,7 @@ present_fits r n rule text =
     ok_then (λ x. is_of_kind rule.kind x.0 ≡ true) _ (allowed_handle_at n rule text) _ (allowed_fits n rule text) (λ handle kind.
     ok_bind_is _ (refused_if (not (is_present r handle.0)) _) _ (λ u is. (kind, asked _ _ u is)))
 
--- the handles that are read for a command fit the command's rules
+-- the handles that are parsed for a command fit the command's rules
 each_fits : (r : Record) (n : ℕ) (rules : List HandleRule) (text : List ℕ) → IfOk (each_at (present_handle_at r) n rules text) (λ x. HandlesFit r rules x.0)
 each_fits r n [] text = tt
 each_fits r n (rule ∷ rules) text =
@@ -69,7 +69,7 @@ general_fits r buffer =
 
 -- ---- refusals after the general checks
 
--- the authorization never refuses by the check of handles
+-- the authorization never refuses a command by the check of handles (G6)
 authorize_passes : (r : Record) (c : Whole) (locality : ℕ) → Passes check.Handles (authorize r c locality)
 unfolding authorize
 authorize_passes r c locality =

@@ -46,7 +46,7 @@ use Rattle.tpm_step.proofs.rows.Parts.{SameCount}
 
 -- ---- writing or locking an index
 
--- an index that a command may write has the type of the command
+-- an index that a command may write has the type that the command writes
 pub writable_type : (t : NvType) (index : NvIndex) → writable t index ≡ Ok tt
     → index_type index.public.attributes ≡ Some t
 writable_type type.Ordinary index may = rw (eqb-true _ 0 (type_of_writable type.Ordinary index may)) refl
@@ -54,7 +54,7 @@ writable_type type.Counter index may = rw (eqb-true _ 1 (type_of_writable type.C
 writable_type type.Bits index may = rw (eqb-true _ 2 (type_of_writable type.Bits index may)) refl
 writable_type type.Extend index may = rw (eqb-true _ 4 (type_of_writable type.Extend index may)) refl
 
--- writing data to an index that is not a counter is one of the changes of `Writes`
+-- writing data to an index that is not a counter satisfies `Writes`
 writes_data : (contents : NvContents) (handle : Handle) (index : NvIndex) (t : NvType)
     (bytes : List ℕ) → index_or_fault contents handle write_fault.Undefined ≡ Ok index
     → writable t index ≡ Ok tt
@@ -70,7 +70,7 @@ writes_data contents handle index t bytes is may other = record {
   is = refl;
 }
 
--- setting an attribute other than WRITTEN and CLEAR_STCLEAR is one of the changes of `Writes`
+-- setting an attribute other than WRITTEN and CLEAR_STCLEAR satisfies `Writes`
 marks : (contents : NvContents) (handle : Handle) (index : NvIndex) (one : NvAttribute)
     → index_or_fault contents handle lock_fault.Undefined ≡ Ok index
     → attribute_bit attribute.Written ≢ attribute_bit one
@@ -154,7 +154,7 @@ auth_changes contents handle value =
 
 -- ---- the number of indices
 
--- whether a change of this part keeps the number of indices
+-- whether a change of this part keeps the number of NV indices
 abbrev pub keeps_count : Part → Bool
 keeps_count NvData = true
 keeps_count NvCounter = true
@@ -199,7 +199,7 @@ pub none_is : (o : Option NvIndex) → is_some o ≡ false → o ≡ None
 none_is None is = refl
 none_is (Some index) is = absurd (false≢true (sym is))
 
--- an index that passes the checks of a definition has no wrong attribute
+-- the attributes of an index that passes the checks of TPM2_NV_DefineSpace do not conflict
 no_conflict : (by_platform : Bool) (p : NvPublic) (size : ℕ)
     → IfOk (definition_passes by_platform p size) (λ u. HasNoConflict by_platform p)
 unfolding definition_passes

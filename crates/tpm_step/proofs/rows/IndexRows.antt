@@ -1,4 +1,4 @@
--- The rows of NV indices satisfy the laws of rows.
+-- The rows of NV indices satisfy the laws about rows.
 use Rattle.std.specs.Prelude.{◌==◌, is_some, nat_lt, not, ok_or}
 use Rattle.std.proofs.Common.{◌∙◌, ◌∷◌, ◌≡◌, Bool, Err, IfOk, List, None, Ok, Option, Result, Some}
 use Rattle.std.proofs.Common.{[], ap, arith, false, length, refl, rules, subst, sym, true, ℕ}
@@ -86,8 +86,8 @@ late_if : {F : Type 0} (Fit : Type 0) (refusal : F → Refused) (b : Bool) (faul
 late_if Fit refusal true fault late = late
 late_if Fit refusal false fault late = tt
 
--- A command looks up the index that it changes. If the index is missing, the refusal comes late;
--- but the index exists if the handles fit.
+-- A command looks up the index that it changes. If the index is missing, a late check refuses; but
+-- the index exists if the handles fit.
 late_index : {X F : Type 0} (Fit : Type 0) (refusal : F → Refused) (nv : NvContents) (h : Handle)
     (absence : F) (f : NvIndex → Result X F) → refusal absence ≡ handle_refusal
     → (Fit → is_some (index_at nv h) ≡ true) → ((i : NvIndex) → Late Fit (or_refusal refusal (f i)))
@@ -136,8 +136,8 @@ late_read_locked : (Fit : Type 0) (nv : NvContents) (h : Handle)
 unfolding read_locked
 late_read_locked Fit nv h there = search changes
 
--- If a command sets a new authorization value of its only handle, an NV index, all refusals of this
--- step come late.
+-- If a command sets a new authorization value of its only handle, an NV index, only late checks
+-- refuse in this step.
 late_auth_value : (Fit : Type 0) (r : Record) (role : Option Role) (h : Handle) (value : List ℕ)
     → (Fit → FitsRule r (record { kind = handle_kind.NvIndex; role = role }) h)
     → Late Fit (or_refusal (λ absence. handle_refusal) (with_auth_value r.nv h value))
@@ -174,8 +174,8 @@ defined_grows : (r : Record) (h : Handle) (i : NvIndex)
     → Grows true r (record r { nv = with_index r.nv h i })
 defined_grows r h i = let more = put_length r.nv.indices h.number i in omega (arith, more)
 
--- TPM2_NV_DefineSpace reads parameters of these kinds. It reads its authorization value as a
--- buffer, and removes zeros at the end afterwards.
+-- TPM2_NV_DefineSpace parses parameters of these kinds. It parses its authorization value as a
+-- buffer, and removes trailing zeros afterwards.
 define_reads : (text : List ℕ)
     → outcome (parameters_in text) ≡ spelled 1 (kind.Buffer 32 ∷ kind.NvPublic ∷ []) text
 unfolding parameters_in

@@ -1,4 +1,4 @@
--- The rows of objects satisfy the laws of rows.
+-- The rows of objects satisfy the laws about rows.
 use Rattle.std.specs.Option.{option_map_or}
 use Rattle.std.specs.Prelude.{◌==◌, ◌||◌, if◌then◌else◌, is_some}
 use Rattle.std.proofs.Common.{◌+◌, ◌≡◌, ◌≤◌, Bool, IfOk, List, None, Ok, Option, Result, Some}

@@ -40,7 +40,7 @@ use Rattle.tpm_step.proofs.rows.Readings.{read_one, trimmed_read}
 
 -- ---- consequences of the order
 
--- a row that refuses in order refuses parameters exactly if they are not of their kinds
+-- a row that refuses in order refuses parameters if and only if they are not of their kinds
 pub in_order_reads : {X : Type 0} (Fit : Type 0) (s : Result (Unit {0}) Refused)
     (row : Result X Refused) → InOrder Fit s row → ReadsParameters s row
 in_order_reads Fit (Ok u) (Ok x) order = tt
@@ -89,7 +89,7 @@ spelled_faults n (kind ∷ kinds) text = err_bind _ (parameter n (behind_kind ki
 
 -- ---- steps that read a handle
 
--- the handles authHandle and nvIndex, as a row reads them
+-- authHandle, nvIndex and the index's attributes, as a row reads them
 abbrev target_at : Record → List Handle → Result Target Refused
 target_at r handles = do
   auth_handle ← first_handle handles
@@ -160,7 +160,7 @@ pub either : (a b : Bool) → (a || b) ≡ true → (a ≡ true) ⊎ (b ≡ true
 either true b is = inl refl
 either false b is = inr is
 
--- The session or the other entity that a handle of this type names exists.
+-- The entity that a handle of this type names exists: a session, or another entity.
 abbrev pub IsThere : ℕ → Bool → Entity → Type 0
 IsThere type session entity =
     (if (type == 0x02 || type == 0x03) then session

@@ -86,7 +86,7 @@ touched_grows _ old new keeps touches = absurd (false≢true keeps)
 
 -- ---- sessions
 
--- whether a change of this part keeps the sessions as they are
+-- whether a change of this part leaves the sessions unchanged
 abbrev pub leaves_sessions : Part → Bool
 leaves_sessions Sessions = false
 leaves_sessions SessionsAndObjects = false

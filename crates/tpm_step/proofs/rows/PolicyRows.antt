@@ -1,4 +1,4 @@
--- The rows of policies satisfy the laws of rows.
+-- The rows of policies satisfy the laws about rows.
 use Rattle.std.specs.Prelude.{◌==◌, ◌||◌, if◌then◌else◌, is_some}
 use Rattle.std.proofs.Common.{◌≡◌, Bool, Err, IfOk, List, Ok, Option, Result, Some, arith, length}
 use Rattle.std.proofs.Common.{refl, rules, subst, sym, true, ℕ}
@@ -79,8 +79,8 @@ checked_assertion hash trial assertion policy = by (asserted hash trial assertio
     by (Ok new) is = is
     by (Err fault) is = tt
 
--- There are as many sessions as before, each session that existed still exists, and all of them
--- have their sizes.
+-- There are as many sessions as before, each session that existed still exists, and the fields of
+-- all of them keep the right sizes.
 record KeepsSessions (r : Record) (sessions : List (Option Session)) : Type 0 where
   count : taken_count sessions ≡ taken_count r.sessions
   stay : SessionsStay r (record r { sessions = sessions })

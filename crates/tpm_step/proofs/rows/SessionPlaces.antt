@@ -1,5 +1,5 @@
--- Sessions still exist, with their sizes, after a session starts, changes its policy, or is
--- flushed.
+-- Sessions still exist, and their fields have the right sizes, after a session starts, changes its
+-- policy, or is flushed.
 use Rattle.std.specs.Prelude.{IfSome, is_some, option_and_then}
 use Rattle.std.proofs.Common.{◌∙◌, ◌≡◌, List, None, Option, Some, ap, inl, inr, length, refl}
 use Rattle.std.proofs.Common.{slice_set, subst, sym, true, ℕ}

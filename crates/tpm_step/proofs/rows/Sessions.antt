@@ -1,5 +1,5 @@
 -- The session of each entry exists if the entry passes its checks, and still exists after every row
--- that keeps sessions.
+-- that ends no session.
 use Rattle.std.specs.Prelude.{◌||◌, is_some, nat_lt}
 use Rattle.std.proofs.Common.{◌++◌, ◌+◌, ◌∷◌, ◌≡◌, List, None, Ok, Option, Some, [], false, is_none}
 use Rattle.std.proofs.Common.{length, refl, true, ℕ}

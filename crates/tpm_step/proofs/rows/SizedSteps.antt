@@ -1,4 +1,4 @@
--- A step, and a run, keep the sizes of sessions.
+-- The fields of sessions keep the right sizes in steps and runs.
 use Rattle.std.proofs.Common.{arith, ◌≡◌, ℕ, Bool, true, false, cond, List, [], ◌∷◌, length, take, Option, Some, None, Result, Ok, Err, IfOk, refl, ◌+◌, ◌*◌, drop, subst, sym, Bor, ◌≤◌}
 use Rattle.std.specs.Prelude.{IfSome, is_some, not}
 use Rattle.std.specs.Option.{option_map_or}
@@ -128,8 +128,8 @@ answer_sized c grants a effect random enough sized =
 
 -- ---- steps
 
--- An accepted command leaves a record whose sessions have their sizes, and it leaves enough of 256
--- random bytes for new nonces.
+-- An accepted command leaves a record in which the fields of all sessions have the right sizes, and
+-- it leaves enough of 256 random bytes for new nonces.
 abbrev Fits : Accepted → Type 0
 Fits a = AreSized a.success.after × (a.success.answer.drawn + 32 * length a.command.entries ≤ 256)
 
@@ -197,7 +197,8 @@ after_all_sized r (event ∷ events) happen sized = after_all_sized (step r even
 pub histories_sized : (random : List ℕ) (events : List PlainEvent) → AllByRecursion IsEvent events → AreSized (after_all (manufactured random) events)
 histories_sized random events happen = after_all_sized (manufactured random) events happen (manufactured_sized random)
 
--- Every run of events keeps the sizes of sessions, whether or not allocations can fail.
+-- After every run of events, the fields of all sessions still have the right sizes, whether or not
+-- allocations can fail.
 pub run_sized : {F : Type 0} (g : Mut F (Bor Outcome × Unit {0}) (Unit {0})) (can : Bool) (old : Record) (p : F) (events : List PlainEvent) (new : Record) (q : F) → Runs g can old p events new q → AreSized old → AreSized new
 run_sized g can old p [] new q run sized = subst AreSized (sym run.0) sized
 run_sized g can old p (event ∷ events) new q run sized =

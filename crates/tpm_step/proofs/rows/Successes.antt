@@ -1,4 +1,4 @@
--- A success satisfies the laws of rows, given the part of the state that it changes.
+-- A success satisfies the laws about rows, given the part of the state that it changes.
 use Rattle.std.proofs.Common.{◌≡◌, ◌≤◌, Ok, Result, ap, arith, false, rules, subst, sym, true, ℕ}
 use Rattle.tpm_types.specs.declared.refused.Refused.{Refused}
 use Rattle.tpm_commands.specs.declared.command_code.CommandCode.{CommandCode}
@@ -17,15 +17,15 @@ use Rattle.tpm_step.proofs.Binding.{ok_bind}
 use Rattle.tpm_step.proofs.rows.Parts.{keeps_places, leaves_sessions, sessions_same}
 use Rattle.tpm_step.proofs.rows.Parts.{touched_grows, touched_same}
 
--- A success that takes no more slots has the growth that the command's shape says.
+-- If a success takes no more slots, it grows as the command's shape says.
 abbrev pub GrowsNothing : CommandCode → Type 0
 GrowsNothing c = (old new : Record) → Grows false old new → GrowsAsShaped c old new
 
 abbrev pub GrowsByOne : CommandCode → Type 0
 GrowsByOne c = (old new : Record) → Grows true old new → GrowsAsShaped c old new
 
--- A success that keeps the sessions satisfies the laws of rows, if its changes, its answer and its
--- draws are those of its command.
+-- A success that leaves the sessions unchanged satisfies the laws about rows, if its changes, its
+-- answer and its draws are those of its command.
 pub beside_sessions : (c : CommandCode) (r : Record) (q : Request) (s : Success)
     → leaves_sessions (part_of c) ≡ true → Touches (part_of c) r s.after → GrowsAsShaped c r s.after
     → ChangesIndices (part_of c) q r.nv s.after.nv → AnswersItsShape c s → DrawsAsSaid c q s → SuccessLaws c r q s
@@ -42,8 +42,8 @@ beside_sessions c r q s leaves touches grows changes answers draws = record {
     same : s.after.sessions ≡ r.sessions
     same = touched_same (part_of c) r s.after leaves touches
 
--- A success that takes no more slots satisfies the laws of rows, if its changes, its answer and its
--- draws are those of its command.
+-- A success that takes no more slots satisfies the laws about rows, if its changes, its answer and
+-- its draws are those of its command.
 pub in_place : (c : CommandCode) (r : Record) (q : Request) (s : Success)
     → leaves_sessions (part_of c) ≡ true → keeps_places (part_of c) ≡ true → GrowsNothing c
     → Touches (part_of c) r s.after → ChangesIndices (part_of c) q r.nv s.after.nv

@@ -1,4 +1,5 @@
--- The row of every command satisfies the laws of rows. So each law holds for all commands.
+-- The row of every command satisfies the laws about rows. Therefore each law holds for all
+-- commands.
 use Rattle.std.proofs.Common.{◌≡◌, ◌≤◌, IfOk, false, length, true}
 use Rattle.tpm_types.specs.declared.check.Check.TheVariants as check
 use Rattle.tpm_commands.specs.CommandCode.{part_of, shape_of}
@@ -32,7 +33,7 @@ use Rattle.tpm_step.proofs.rows.Order.{spelled_faults}
 use Rattle.tpm_step.proofs.rows.Parts.{leaves_sessions, touched_same}
 use Rattle.tpm_step.proofs.rows.PolicyRows as policy
 
--- the row of each command satisfies the laws of rows
+-- the row of each command satisfies the laws about rows
 pub laws_of : (c : CommandCode) → RowLaws c (λ r q. row_of r c q)
 unfolding row_of
 laws_of command.EvictControl = object.evict_control_laws
@@ -122,7 +123,7 @@ pub row_sized : (r : Record) (c : CommandCode) (q : Request) → 32 ≤ length q
     → IfOk (row_of r c q) (λ s. AreSized s.after)
 row_sized r c q enough sized = of_success _ r c q (λ s laws. laws.sized enough sized)
 
--- a success that changes a part without sessions keeps the sessions as they were
+-- a success that changes a part without sessions leaves the sessions unchanged
 pub row_same : (r : Record) (c : CommandCode) (q : Request) → leaves_sessions (part_of c) ≡ true
     → IfOk (row_of r c q) (λ s. s.after.sessions ≡ r.sessions)
 row_same r c q leaves =

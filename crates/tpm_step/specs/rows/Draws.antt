@@ -17,7 +17,7 @@ use Rattle.tpm_actions_device.specs.StartAuthSession.{parameters_in as session_p
 use Rattle.tpm_actions_object.specs.Creation.{parameters_in as creation_parameters}
 use Rattle.tpm_step.specs.General.{is_startup}
 
--- the count for these parameters, or 0 if they could not be read
+-- the count for these parameters, or 0 if they could not be parsed
 abbrev pub read_or_none : {P : Type 0} → (P → ℕ) → Result P Refused → ℕ
 read_or_none count (Ok p) = count p
 read_or_none count (Err e) = 0
@@ -30,8 +30,8 @@ bytes_requested parameters =
 -- the number of random bytes that a command draws. TPM2_GetRandom draws the bytes that it returns,
 -- at most 32. TPM2_StartAuthSession draws a nonceTPM of the size of nonceCaller. TPM2_Create draws
 -- a key and a seedValue, and the 16 bytes of an initial vector. TPM2_Clear draws a seed and two
--- proofs of 32 bytes. TPM2_Startup may draw a seed and a proof. It counts as 0 here, since it has
--- no entries, and so no nonces are drawn after these bytes
+-- proofs of 32 bytes. TPM2_Startup may draw a seed and a proof. They count as 0 here, since
+-- TPM2_Startup has no entries, and therefore no nonces are drawn after them
 abbrev pub draws_of : CommandCode → Request → ℕ
 draws_of command.GetRandom q =
     read_or_none (λ requested. min requested 32) (bytes_requested q.parameters)

@@ -45,8 +45,8 @@ StartsNv old new = (new ≡ old) ⊎ (new ≡ started old)
 
 -- the fixed part f after TPM2_Clear. The owner's new seed and proof, and the endorsement
 -- hierarchy's new proof, are taken from the second argument. All authorization values are empty
--- except platformAuth. The failed tries are cleared, the PCRs count an update, and Clock and the
--- counts begin at 0
+-- except platformAuth. The failed tries are cleared, an update of the PCRs is counted, and Clock
+-- and the counts begin at 0
 abbrev pub emptied : Fixed → Fixed → Fixed
 emptied f after = record f {
   hierarchies = record f.hierarchies {

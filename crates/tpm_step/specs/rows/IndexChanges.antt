@@ -36,8 +36,8 @@ KeepsCount old new =
     × (stored_count new ≡ stored_count old)
     × (index_has new attribute.ClearStClear ≡ index_has old attribute.ClearStClear)
 
--- One index is locked, or one index that is not a counter is written. The index keeps its value as
--- a counter, and its authorization value.
+-- One index is locked, or one index that is not a counter is written. The index keeps its
+-- authorization value and, if it is a counter, its value.
 pub record Writes (old new : NvContents) : Type 0 where
   pub handle : Handle
   pub before : NvIndex
@@ -61,14 +61,14 @@ pub record ChangesAuth (old new : NvContents) : Type 0 where
   pub found : index_at old handle ≡ Some index
   pub is : new ≡ changed_index old handle (record index { auth_value = value })
 
--- A new index has no wrong attribute, given that the platform (true) or the owner (false) defines
--- it.
+-- The attributes of a new index do not conflict, given that the platform (true) or the owner
+-- (false) defines it.
 abbrev pub HasNoConflict : (by_platform : Bool) → NvPublic → Type 0
 HasNoConflict by_platform p =
     list_any (λ wrong. wrong) (index_attribute_conflicts by_platform p.attributes) ≡ false
 
--- The index that the parameters define is added at a handle that had none, and it has no wrong
--- attribute.
+-- The index that the parameters define is added. Its handle had no index before, and its attributes
+-- do not conflict.
 pub record Defines (q : Request) (old new : NvContents) : Type 0 where
   pub by_platform : Bool
   pub parameters : Parameters

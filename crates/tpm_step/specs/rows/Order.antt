@@ -1,4 +1,4 @@
--- The order of a row's refusals, and what the refusals count.
+-- The order of a row's refusals, and whether they count as failed tries.
 use Rattle.std.specs.Prelude.{◌≡◌, ◌⊎◌, ℕ, List, Result, Ok, Err, IfErr}
 use Rattle.tpm_types.specs.declared.check.Check.{Check}
 use Rattle.tpm_types.specs.declared.check.Check.TheVariants as check
@@ -11,25 +11,26 @@ use Rattle.tpm_record.specs.Record.{Record}
 use Rattle.tpm_step.specs.rows.Handles.{HandlesFit}
 use Rattle.tpm_step.specs.rows.Shapes.{spelled}
 
--- The check comes after the row's parameters. It is one of the command's own checks, or the check
--- of handles if the handles do not fit.
+-- The check comes after the row has parsed its parameters. It is one of the command's own checks,
+-- or the check of handles if the handles do not fit.
 abbrev pub IsLate : Type 0 → Check → Type 0
 IsLate Fit (check.Action own) = Unit {0}
 IsLate Fit check.Handles = Fit → ⊥
 IsLate Fit _ = ⊥
 
--- If the row refuses, a late check refused.
+-- If the row refuses, the check that refused is a late one.
 abbrev pub Late : {X : Type 0} → Type 0 → Result X Refused → Type 0
 Late Fit row = IfErr row (λ e. IsLate Fit e.check)
 
 -- The refusal comes in the right order. A handle is refused first, unless the handles fit. The
--- first fault of the parameters comes next. A late check comes last, if the parameters were read.
+-- first fault of the parameters comes next. A late check comes last, if the parameters could be
+-- parsed.
 abbrev pub IsInPlace : Type 0 → Result (Unit {0}) Refused → Refused → Type 0
 IsInPlace Fit spelling e =
     ((e.check ≡ check.Handles) × (Fit → ⊥))
     ⊎ ((spelling ≡ Err e) ⊎ ((spelling ≡ Ok tt) × IsLate Fit e.check))
 
--- A row succeeds only if its parameters were read, and refuses in the order of its checks.
+-- A row succeeds only if its parameters could be parsed, and refuses in the order of its checks.
 abbrev pub InOrder : {X : Type 0} → Type 0 → Result (Unit {0}) Refused → Result X Refused → Type 0
 InOrder Fit spelling (Ok x) = spelling ≡ Ok tt
 InOrder Fit spelling (Err e) = IsInPlace Fit spelling e
@@ -40,10 +41,10 @@ pub record Orders {X : Type 0} (r : Record) (rules : List HandleRule) (handles :
     (kinds : List ParameterKind) (text : List ℕ) (row : Result X Refused) : Type 0 where
   pub order : InOrder (HandlesFit r rules handles) (spelled 1 kinds text) row
 
--- The refusal counts nothing against dictionary attacks.
+-- The refusal neither counts as a failed try nor disables lockoutAuth.
 abbrev pub IsPlain : Refused → Type 0
 IsPlain e = e.counted ≡ counted.None
 
--- If there is a refusal, it counts nothing against dictionary attacks.
+-- If the result is a refusal, it neither counts as a failed try nor disables lockoutAuth.
 abbrev pub Plain : {X : Type 0} → Result X Refused → Type 0
 Plain result = IfErr result IsPlain

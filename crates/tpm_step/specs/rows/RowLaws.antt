@@ -19,8 +19,8 @@ use Rattle.tpm_step.specs.rows.Sizes.{AreSized}
 
 -- A success changes only its command's part of the state, and changes the NV indices as that part
 -- allows. It takes slots and returns values as the command's shape says. It draws as many random
--- bytes as `draws_of` says. If the command may have sessions, all sessions still exist. Sessions
--- keep their sizes.
+-- bytes as `draws_of` says. If the command may have sessions, all sessions still exist after it.
+-- The fields of sessions keep the right sizes.
 pub record SuccessLaws (c : CommandCode) (r : Record) (q : Request) (s : Success) : Type 0 where
   pub touches : Touches (part_of c) r s.after
   pub changes : ChangesIndices (part_of c) q r.nv s.after.nv
@@ -30,9 +30,9 @@ pub record SuccessLaws (c : CommandCode) (r : Record) (q : Request) (s : Success
   pub stays : (shape_of c).forbids_sessions ≡ false → SessionsStay r s.after
   pub sized : 32 ≤ length q.random → AreSized r → AreSized s.after
 
--- Each success of the row satisfies these laws. Its refusals come in order, and count nothing
--- against dictionary attacks. Unless the command reads a secret, the row has the same result on the
--- device and on the device without its secrets.
+-- Each success of the row satisfies these laws. Its refusals come in order. They neither count as
+-- failed tries nor disable lockoutAuth. Unless the command reads a secret, the row has the same
+-- result on the device and on the device without its secrets.
 pub record RowLaws (c : CommandCode) (row : Record → Request → Result Success Refused)
     : Type 0 where
   pub success : (r : Record) (q : Request) → IfOk (row r q) (SuccessLaws c r q)

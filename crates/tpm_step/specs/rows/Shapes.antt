@@ -33,31 +33,32 @@ use Rattle.tpm_record.specs.rows.Answer.{begins_sized}
 use Rattle.tpm_record.specs.rows.Rows.{Success, all_read, parameter}
 use Rattle.tpm_step.specs.rows.Refusals.{Passes}
 
--- A success returns a handle exactly if the command's shape says so. The first parameter of its
--- answer is a sized buffer exactly if the shape says so.
+-- A success returns a handle if and only if the command's shape says so. The first parameter of its
+-- answer is a sized buffer if and only if the shape says so.
 abbrev pub AnswersItsShape : CommandCode → Success → Type 0
 AnswersItsShape c s =
     (is_some s.answer.handle ≡ (shape_of c).answers_handle)
     × (begins_sized s.answer.body ≡ (shape_of c).sized_answer)
 
--- the number of slots and entries of a record that are taken, by sessions, by transient and
--- persistent objects, and by NV indices
+-- the number of slots and list entries that a record uses for sessions, transient and persistent
+-- objects, and NV indices
 abbrev pub taken_in : Record → ℕ
 taken_in r =
     taken_count r.sessions + taken_count r.objects + length r.persistent + length r.nv.indices
 
--- If the command grows something, one more slot is taken, and otherwise no more slots are taken.
+-- If the command grows something, it takes one more slot. Otherwise, no more slots are taken than
+-- before.
 abbrev pub Grows : Bool → Record → Record → Type 0
 Grows true old new = taken_in new ≡ taken_in old + 1
 Grows false old new = taken_in new ≤ taken_in old
 
 -- A success of TPM2_EvictControl takes or frees one slot. A success of any other command takes one
--- more slot exactly if its shape says that it grows.
+-- more slot if and only if its shape says that it grows.
 abbrev pub GrowsAsShaped : CommandCode → Record → Record → Type 0
 GrowsAsShaped command.EvictControl old new = Grows true old new ⊎ Grows true new old
 GrowsAsShaped c old new = Grows (shape_of c).grows old new
 
--- the bytes after a parameter that was read, or the parameter's fault
+-- the bytes after a parsed parameter, or the parameter's fault
 abbrev pub behind : {X : Type 0} → Result (X × List ℕ) Rc → Result (List ℕ) Rc
 behind (Ok p) = Ok p.1
 behind (Err rc) = Err rc
@@ -84,8 +85,8 @@ behind_kind kind.Operation text = behind (operation_at text)
 behind_kind kind.YesNo text = behind (yes_no_at text)
 behind_kind kind.PersistentHandle text = behind (persistent_handle_at text)
 
--- success if the bytes are parameters of these kinds, the first with this number, and nothing after
--- them; otherwise the first fault
+-- parses parameters of these kinds up to the end of the bytes; the first parameter has number n.
+-- The result is the first fault, if there is one
 abbrev pub spelled : ℕ → List ParameterKind → List ℕ → Result (Unit {0}) Refused
 spelled n [] text = all_read text
 spelled n (kind ∷ kinds) text = do
@@ -97,8 +98,8 @@ abbrev pub ParametersFail : {X : Type 0} → Refused → Result X Refused → Ty
 ParametersFail fault (Ok s) = ⊥
 ParametersFail fault (Err e) = (e ≡ fault) ⊎ (e.check ≡ check.Handles)
 
--- The row refuses the parameters exactly if they are not of their kinds, and then it refuses with
--- the first fault.
+-- The row refuses the parameters if and only if they are not of these kinds, and then it refuses
+-- with the first fault.
 abbrev pub ReadsParameters : {X : Type 0} → Result (Unit {0}) Refused → Result X Refused → Type 0
 ReadsParameters (Ok done) row = Passes check.Parameters row
 ReadsParameters (Err fault) row = ParametersFail fault row

@@ -14,6 +14,6 @@ pub record IsSized (session : Session) : Type 0 where
   pub key : (session.key ≡ []) ⊎ (length session.key ≡ digest_size session.hash)
   pub nonce_tpm : is_nonce_size session.hash (length session.nonce_tpm) ≡ true
 
--- Every session of the record has these sizes.
+-- In every session of the record, the fields have these sizes.
 abbrev pub AreSized : Record → Type 0
 AreSized r = AreAll IsSized r.sessions
