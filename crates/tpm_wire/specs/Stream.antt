@@ -63,7 +63,7 @@ with_byte c byte =
 abbrev pub uncut : List (List ℕ) → Bool → Cutting
 uncut buffers ended = record { buffers = buffers; rest = []; ended = ended }
 
--- the cut of a stream with these bytes, taken byte by byte
+-- the cut of a stream with these bytes, computed byte by byte
 abbrev pub cut_of : List ℕ → Cutting
 cut_of bytes = fold with_byte (uncut [] false) bytes
 
@@ -79,7 +79,7 @@ pub record Stream : Type 0 where
 abbrev pub opened : Stream
 opened = record { taken = []; ended = false }
 
--- how many of `count` bytes fit into a stream
+-- the number of bytes, out of `count`, that fit into a stream
 abbrev pub fitting : Stream → ℕ → ℕ
 fitting s count = min count (buffer_limit - length s.taken)
 

@@ -138,7 +138,7 @@ fn serve_connection<K: Keep, R: Read, W: Write, H: FnMut() -> Result<Host, HostF
 }
 
 /// Executes all complete buffers of a connection, notifies a witness of each, writes their
-/// responses, and returns their number. All executions reuse one outcome.
+/// responses, and returns their number. All executions reuse the memory of one outcome.
 fn answer_whole<K: Keep, W: Write, H: FnMut() -> Result<Host, HostFault>, S: Witness>(
     machine: &mut Machine<K>,
     connection: &mut Connection,

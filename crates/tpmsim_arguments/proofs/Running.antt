@@ -1,4 +1,4 @@
--- The command `run` with a script after its settings.
+-- The command `run` with a script after its options.
 use Rattle.std.proofs.Common.{◌≡◌, ◌∙◌, ◌++◌, ap, refl, sym, subst, true, false, codes, fold, List, [], ◌∷◌, Some, None, inl, inr, is_some, find, unwrap_or}
 use Rattle.clap.specs.Words.{Rule, Shape, Text}
 use Rattle.clap.specs.Kinds.{or_else}
@@ -149,7 +149,7 @@ entropy_turn : (image entropy : Text) → turn_fault run_shape [] (walk_from (im
 unfolding clap_on_literals
 entropy_turn image entropy = refl
 
--- the request of a run with its trace on the device of an image
+-- the request of a run with a trace, on the device of an image
 abbrev run_kept : (image entropy script : Text) → Invocation
 run_kept image entropy script = run script true (Some (record { place = in_image image; entropy = Some entropy }))
 

@@ -221,8 +221,8 @@ fn restore_of<'a>(options: &ArgMatches<'a>) -> Option<Arguments<'a>>
     })
 }
 
-/// Returns where the matches of `run` keep the device, which may be nowhere. If they give neither
-/// an image nor a folder, a file of random bytes and a number of journals are refused.
+/// Returns where the device of `run` is kept, from the matches; it may be kept nowhere. Without an
+/// image or a folder, a file of random bytes and a number of journals are refused.
 fn storage_of<'a>(options: &ArgMatches<'a>) -> Option<Option<Storage<'a>>>
     ensures { option_map (option_map stored) result ≡ storage_in (rows_of (found_of options.now)) }
 {
@@ -263,8 +263,8 @@ fn place_by<'a>(
     }
 }
 
-/// Returns the number of finished journals that stay in a folder, from the digits of `--keep`; 0
-/// without them.
+/// Returns the number of finished journals that stay in a folder, from the digits of `--keep`, or 0
+/// without `--keep`.
 fn past_by(keep: Option<&str>) -> Option<u32>
     ensures { result ≡ past_by (option_map (λ text. text.now) keep.entry) }
 {
@@ -281,7 +281,7 @@ fn past_of(number: u32) -> Option<u32>
     if number <= 99 { Some(number) } else { None }
 }
 
-/// Returns the place where the matches of `serve` keep the device.
+/// Returns the place where the device of `serve` is kept, from the matches.
 fn place_of<'a>(options: &ArgMatches<'a>) -> Option<Place<'a>>
     ensures { option_map kept result ≡ place_in (rows_of (found_of options.now)) }
 {

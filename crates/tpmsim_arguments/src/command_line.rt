@@ -1,5 +1,5 @@
 //! The command line as clap's types define it: the program's subcommands, with their options and
-//! helps.
+//! help texts.
 
 ghost use Rattle.std.specs.Prelude.{◌≡◌, ◌∷◌, [], codes, false, IfOk, IsOkAnd};
 ghost use Rattle.clap.specs.Words.{AddsSubcommand, app_of, new_app, rule_of, shape_of};
@@ -53,7 +53,8 @@ fn with_command<'a>(
     program?.subcommand(command?)
 }
 
-/// The command `run` without its options. Its help has a text before and after that of the options.
+/// The command `run` without its options. Its help has one text before the options and one after
+/// them.
 fn run_without_options<'a>(alloc: Global) -> Command<'a>
     ensures { app_of result ≡ new_app (codes "run") }
 {
@@ -238,8 +239,8 @@ fn code_command<'a>(alloc: Global) -> Result<Command<'a>, AllocError>
     )
 }
 
-/// The command `serve` without its options. Its help has a text before and after that of the
-/// options.
+/// The command `serve` without its options. Its help has one text before the options and one after
+/// them.
 fn serve_without_options<'a>(alloc: Global) -> Command<'a>
     ensures { app_of result ≡ new_app (codes "serve") }
 {

@@ -16,8 +16,8 @@ ghost use Rattle.tpmsim_arguments.specs.Lines.{run_line, saving_line, script_lin
 ghost use Rattle.tpmsim_arguments.specs.Lines.{short_line, snapshot_line, state_line, trace_line};
 
 /// Each usual command line has the expected request, if no word except the names of settings begins
-/// with a hyphen. A script may be a single hyphen. A value that is joined to its name may be any
-/// text.
+/// with a hyphen. A script may be a single hyphen. A value that is joined to its name by `=` may be
+/// any text.
 #[inline(always)]
 pub fn usual_line_laws()
     ensures asm { (name line : List ℕ) → begins_with_hyphen line ≡ false

@@ -20,8 +20,8 @@ rest_of lines = slice_range lines.bytes.items lines.next lines.filled
 abbrev pub IsUnbroken : List ℕ → Type 0
 IsUnbroken bytes = All (λ byte. (byte == 10) ≡ false) bytes
 
--- the result of a search after the last byte that was read: more bytes may follow; or the reader
--- has ended, at the end of a line or within one
+-- the result of a search that found no end of a line: more bytes may follow; or the reader has
+-- ended, either after a whole line or within the last one
 abbrev pub next_at : Bool → List ℕ → Next
 next_at false line = Incomplete
 next_at true [] = End

@@ -8,19 +8,19 @@ use Rattle.tpmsim_script.specs.Script.{IsOutput, Playing, play}
 use Rattle.tpmsim_script.specs.declared.fault.ScriptFault.{ScriptFault}
 use Rattle.tpmsim_script.specs.declared.fault.ScriptFault.TheVariants as fault
 
--- P holds for None if a run ended well, and for the number of the bad line if the run stopped at a
--- bad line. If the run ended with another fault, P is not claimed.
+-- If a run ended well, P holds for None. If it stopped at a bad line, P holds for the number of
+-- that line. After any other fault, nothing is claimed.
 abbrev pub Ran : (Option ℕ → Type 0) → Result (Unit {0}) ScriptFault → Type 0
 Ran P (Ok done) = P None
 Ran P (Err (fault.Line number)) = P (Some number)
 Ran P (Err other) = Unit {0}
 
--- If the reader failed, a fact holds.
+-- If the reader failed, `fact` holds.
 abbrev pub OnUnread : {X : Type 0} → Result X ScriptFault → Type 0 → Type 0
 OnUnread (Err fault.Read) fact = fact
 OnUnread other fact = Unit {0}
 
--- If the writer failed, a fact holds.
+-- If the writer failed, `fact` holds.
 abbrev pub OnUnwritten : {X : Type 0} → Result X ScriptFault → Type 0 → Type 0
 OnUnwritten (Err fault.Write) fact = fact
 OnUnwritten other fact = Unit {0}
@@ -30,12 +30,12 @@ abbrev pub is_unsaved : Result (Unit {0}) ScriptFault → Bool
 is_unsaved (Err fault.Save) = true
 is_unsaved other = false
 
--- If there were too many lines, a fact holds.
+-- If there were too many lines, `fact` holds.
 abbrev pub OnTooMany : {X : Type 0} → Result X ScriptFault → Type 0 → Type 0
 OnTooMany (Err fault.TooManyLines) fact = fact
 OnTooMany other fact = Unit {0}
 
--- If there was not enough memory, a fact holds.
+-- If there was not enough memory, `fact` holds.
 abbrev pub OnNoMemory : {X : Type 0} → Result X ScriptFault → Type 0 → Type 0
 OnNoMemory (Err fault.NoMemory) fact = fact
 OnNoMemory other fact = Unit {0}
@@ -59,8 +59,8 @@ PlaysUpTo (Some text) old new p number next rest =
     (played : List (List ℕ)) × (lines_of text ≡ played ++ rest)
     × (next ≡ number + length played) × IsOutput old new None (play p number played)
 
--- The reader failed, and has not returned `left`. It had returned the lines that were played, none
--- of them bad, and the start of one more.
+-- The reader failed before it returned the text `left`. It had returned the lines that were played,
+-- none of which is bad, and the start of one more line.
 abbrev pub PlaysToFailure : Option (List ℕ) → Option (List ℕ)
     → Option (List ℕ) → Option (List ℕ) → Playing → Type 0
 PlaysToFailure None left old new p = Unit {0}
@@ -86,7 +86,7 @@ NextFound number old (Err fault.Read) line new = Unit {0}
 NextFound number old (Err fault.Write) line new = Unit {0}
 NextFound number old (Err other) line new = ⊥
 
--- If a run ended well, at a bad line, or because the reader failed, a fact holds.
+-- If a run ended well, at a bad line, or because the reader failed, `fact` holds.
 abbrev pub UnlessFailed : {X : Type 0} → Result X ScriptFault → Type 0 → Type 0
 UnlessFailed (Ok x) fact = fact
 UnlessFailed (Err (fault.Line number)) fact = fact
