@@ -29,7 +29,7 @@ const BINDING: Binding = Binding {
     restart_count: 5,
 };
 
-/// The first context with this binding, that of the key without stClear.
+/// The first context with this binding: the context of the key without stClear.
 const CONTEXT: &[u8] =
     b"\x00\x00\x00\x00\x00\x00\x00\x01\x80\x00\x00\x00\x40\x00\x00\x01\x00\x6d\x00\x20\
     \x23\x88\x53\xda\x72\x7c\xd4\x32\x90\xcd\xb0\xb6\x4d\xa7\x59\x7f\xbb\xc3\x6e\x6b\
@@ -39,7 +39,7 @@ const CONTEXT: &[u8] =
     \xff\xb6\xc5\xab\xde\x8d\x91\x17\x5c\xee\xb8\xc9\x63\xde\x88\x7b\x87\xea\x88\x7c\
     \xce\xd9\xf5\xc0\xd2\x1d\xbb";
 
-/// The second context with this binding, that of the key with stClear.
+/// The second context with this binding: the context of the key with stClear.
 const ST_CLEAR_CONTEXT: &[u8] =
     b"\x00\x00\x00\x00\x00\x00\x00\x02\x80\x00\x00\x02\x40\x00\x00\x01\x00\x6d\x00\x20\
     \xe7\xd1\xc0\x48\x7c\xbf\xb1\xa1\x0f\xaf\x18\x26\x9e\xec\x10\x3f\xd4\xc4\xb5\x23\
@@ -49,8 +49,8 @@ const ST_CLEAR_CONTEXT: &[u8] =
     \x00\xef\x50\xcd\x1b\x77\x3e\x75\xa7\x76\x1d\x87\x03\xa4\x80\x41\x12\xb6\x6e\xbd\
     \x99\x77\x09\xe0\x21\xf8\x4e";
 
-/// The hierarchies of a device that is manufactured with random bytes that all have this value: so
-/// has each byte of each proof.
+/// The hierarchies of a device that is manufactured with random bytes that all have this value.
+/// Each byte of each proof has this value too.
 fn hierarchies(value: u8) -> Hierarchies {
     Hierarchies::manufactured(&[value; 256])
 }
@@ -63,7 +63,7 @@ pub fn key_of(public: &[u8]) -> Option<Object> {
     Some(Object::loaded(owner, public, &sensitive, b"\x40\0\0\x01"))
 }
 
-/// Whether this is the context of the key, with this sequence.
+/// Whether this is the context of the key, with this sequence number.
 fn is_sealed(public: &[u8], sequence: u64, context: &[u8]) -> bool {
     let Some(object) = key_of(public) else {
         return false;
@@ -132,7 +132,7 @@ fn a_context_is_bound_to_the_start_and_the_counts(rt: HostRuntime) {
     }
 }
 
-/// Returns the fault of opening the key's context with this byte changed.
+/// Returns the fault of opening the key's context after the byte at `place` was replaced.
 fn fault_with(place: usize, byte: u8) -> Option<ContextFault> {
     let mut bytes = [0; 127];
     bytes.copy_from_slice(CONTEXT);

@@ -9,7 +9,7 @@ use tpmsim_image::{Cause, Subject};
 /// The environment variable that requests a second line, if it is 1.
 const VARIABLE: &str = "TPMSIM_VERBOSE";
 
-/// A path in two parts.
+/// A path in two parts, which are printed one after the other.
 #[derive(Clone, Copy)]
 struct Path<'a> {
     front: &'a str,

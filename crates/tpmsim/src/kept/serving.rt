@@ -64,8 +64,8 @@ pub fn serve<R: Read, W: Write, B: RandomBytes>(
     Err(ServeFault::Client)
 }
 
-/// Executes the complete buffers that a connection has received, at most one for each byte, and
-/// writes their responses.
+/// Executes the complete buffers that a connection has received, and writes their responses. There
+/// are fewer buffers than bytes.
 fn answer_whole<W: Write, B: RandomBytes>(
     kept: &mut Kept<'_>,
     terms: Terms,
