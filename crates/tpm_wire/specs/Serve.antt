@@ -126,9 +126,9 @@ AreFirst done buffers = (others : List (List ℕ)) × (buffers ≡ done ++ other
 abbrev pub room_left : Cutting → ℕ
 room_left cut = buffer_limit - length cut.rest
 
--- One read delivered a piece, of at least one byte and at most the bytes that fit. The stream had
--- not ended with the bytes read before. All complete buffers in the bytes read before are among
--- those executed.
+-- One read returned a piece of the stream: at least one byte, and at most the bytes that fit. The
+-- stream had not ended with the bytes read before. All complete buffers in the bytes read before
+-- are among those executed.
 abbrev pub ReadsPiece : (done : List (List ℕ)) → (old piece new : List ℕ) → Type 0
 ReadsPiece done old piece new =
     (new ≡ old ++ piece) × (0 < length piece) × (length piece ≤ room_left (cut_of old))

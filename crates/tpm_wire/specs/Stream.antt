@@ -45,8 +45,8 @@ pub record Cutting : Type 0 where
   pub rest : List ℕ
   pub ended : Bool
 
--- a cut with these bytes after its buffers; they become one more buffer if they are a complete
--- one
+-- a cut with these bytes after its buffers; if they form a complete buffer, they become one more
+-- buffer of the cut
 abbrev pub with_rest : Cutting → List ℕ → Cutting
 with_rest c rest =
     if is_whole rest

@@ -27,7 +27,7 @@ use tpm_record::Keep;
 use tpm_step::Outcome;
 use tpm_types::BUFFER_LIMIT;
 
-/// The limit on a connection's reads that return bytes.
+/// The largest number of reads that return bytes, for one connection.
 const READS: u32 = 1_048_576;
 
 /// Serves one connection: reads buffers, executes each complete buffer with the host's values,

@@ -90,7 +90,7 @@ fn front_of<'a>(arguments: &Arguments<'a>, subject: Subject) -> Option<&'a str> 
     }
 }
 
-/// Returns the place of the device of a run or of a service.
+/// Returns where the device of `run` or `serve` is kept.
 fn place_of<'a>(arguments: &Arguments<'a>) -> Option<Place<'a>> {
     match arguments {
         Arguments::Serve(service) => Some(service.place),

@@ -40,7 +40,7 @@ pub enum Fault {
     /// The file of random bytes could not be opened, or has too few bytes left.
     Entropy(Cause),
     Memory,
-    /// A task of the device in a folder failed.
+    /// An action on the device in a folder failed.
     Kept(KeptFault),
     /// A journal could not be executed again to its end.
     Journal(JournalFault),

@@ -16,7 +16,7 @@ use tpm_record::Keep;
 pub struct ImageSaver<'a> {
     rt: &'a HostRuntime,
     file: ImageFile<'a>,
-    /// What the device in the file keeps, without its clock, if that is known.
+    /// The contents of the image in the file, without the clock, if they are known.
     kept: KeptText,
     /// The clock of the device that was written last, if no save has failed since then.
     clock: Option<u64>,

@@ -42,7 +42,7 @@ pub struct Log<W> {
     /// The checksum of the marks so far.
     pub(crate) sum: u64,
     pub(crate) failed: bool,
-    /// The buffer for the text of an entry, which is written to the writer in one write.
+    /// The buffer for the text of an entry. The text is written in one write.
     pub(crate) room: [u8; ENTRY_ROOM],
 }
 

@@ -5,7 +5,8 @@ use Rattle.std.specs.Io.KnownBytes.{Appends, Keeps, append_known}
 use Rattle.tpm_bytes.specs.Tap.{AppendsFront}
 use Rattle.tpmsim_script.specs.Answers.{CutOff}
 
--- If a part of the buffered output was written and the rest dropped, the whole output is truncated.
+-- If only a prefix of the buffered output was written and the rest was dropped, the output is
+-- truncated.
 pub cut_writing : (old new : Option (List ℕ)) (held : List ℕ) → AppendsFront old new held → CutOff (append_known old held) (append_known new [])
 cut_writing None new held h = tt
 cut_writing (Some old) None held h = absurd h.3

@@ -37,8 +37,8 @@ BeginsTooLong text =
     (line : List ℕ) × (rest : List (List ℕ))
     × (lines_of text ≡ line ∷ rest) × (65536 < length line)
 
--- The next line is found as follows, whatever the reader returns from now on: the next line is this
--- one; or it is too long; or it is incomplete; or there is no next line.
+-- The result of a search for the next line, which is right whatever the reader returns from now on:
+-- the next line is this one, or is too long, or is incomplete, or does not exist.
 abbrev pub Finds : Lines → Next → Lines → Type 0
 Finds old Line new = (more : List ℕ) → MayFollow old more
     → lines_of (line_of old ++ (rest_of old ++ more))

@@ -1,4 +1,4 @@
--- How a run of a script ends, and what its steps find.
+-- How a run of a script ends, and the effects of its steps.
 use Rattle.std.specs.Prelude.{◌≡◌, ℕ, ◌+◌, Bool, true, false, List, [], ◌∷◌, ◌++◌, length}
 use Rattle.std.specs.Prelude.{Option, Some, None, IfSome, Result, Ok, Err}
 use Rattle.tpm_bytes.specs.Tap.{Marks}
@@ -75,8 +75,9 @@ abbrev pub PlaysAllAllowed : Option (List ℕ) → Option (List ℕ) → Option 
 PlaysAllAllowed text old new p =
     (line : List ℕ) × (rest : List (List ℕ)) × PlaysUpTo text old new p 1 1048577 (line ∷ rest)
 
--- The text's first line is this line; or the text is empty; or its first line is too long and has
--- this number; or the reader or the writer failed. There is no other fault.
+-- The result of a search for the next line: the text's first line is this line; or the text is
+-- empty; or its first line, which has this number, is too long; or the reader or the writer failed.
+-- There is no other fault.
 abbrev pub NextFound : ℕ → Option (List ℕ)
     → Result Bool ScriptFault → List ℕ → Option (List ℕ) → Type 0
 NextFound number old (Ok true) line new = LosesFirstLine old line new

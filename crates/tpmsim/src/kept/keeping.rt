@@ -29,8 +29,8 @@ pub struct Kept<'a> {
     keeper: Keeper<KeptDevice>,
     /// The text of the journal when it was last opened.
     journal: Vec<u8>,
-    /// The part of the old journal that the device did not execute, when a new journal replaces the
-    /// old one.
+    /// When a new journal replaces the old one: the part of the old one that the device did not
+    /// execute.
     tail: Tail,
     /// Whether the latest call began a new journal.
     has_begun: bool,
