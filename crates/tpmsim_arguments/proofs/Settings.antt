@@ -172,7 +172,7 @@ given₅ s i e l n p = value_walked serve_shape.rules (rows₄ s i e l) (codes "
 abbrev ended : (s i e l n : Text) → Walk
 ended s i e l n = walk_at (rows₄ s i e l) (codes "connections") (n ∷ []) idle
 
--- after the walk reads one word, one word fewer remains
+-- a walk over several words is the step over the first word, and then the walk over the others
 ahead : (w v : Walk) (word : Text) (rest : List Text) → W w word ≡ v → fold W w (word ∷ rest) ≡ fold W v rest
 ahead w v word rest e = ap (λ x. fold W x rest) e
 
