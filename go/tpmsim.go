@@ -313,8 +313,8 @@ func (tpm *TPM) written(text func(*native) []byte) ([]byte, error) {
 	return text(&tpm.native), nil
 }
 
-// Restore replaces the state by that of a state text, of any device in any process. Other bytes change
-// nothing. The log restarts.
+// Restore replaces the state by that of a state text, of any device in any process. Other bytes
+// change nothing. The log restarts.
 func (tpm *TPM) Restore(text []byte) error {
 	tpm.lock.Lock()
 	defer tpm.lock.Unlock()

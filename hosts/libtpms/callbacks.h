@@ -11,7 +11,7 @@ bool begin_callbacks(void);
 
 enum kept { KEPT, NOT_KEPT, NOT_READ };
 
-/* Reads the state that swtpm stores by this name, if there is one. The caller has to free the bytes. */
+/* Reads the state that swtpm stores by this name, if there is one. The caller frees the bytes. */
 enum kept load_state(const char *name, uint8_t **bytes, size_t *size);
 
 /* Makes swtpm store a state by this name. */
