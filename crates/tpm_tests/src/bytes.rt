@@ -63,7 +63,7 @@ fn a_sink_takes_what_fits(rt: HostRuntime) {
     );
 }
 
-/// What a device does when it is called.
+/// What a tap's device does when it is called.
 #[derive(Clone, Copy)]
 enum Conduct {
     /// The device reads or writes one byte, if the buffer has space for it.

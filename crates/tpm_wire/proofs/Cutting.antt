@@ -91,7 +91,7 @@ completes done rest byte is = rw is refl
 length-one : (rest : List ℕ) (byte : ℕ) → length (rest ++ byte ∷ []) ≡ length rest + 1
 length-one rest byte = length-append rest (byte ∷ [])
 
--- If more bytes complete no buffer, the buffers of the cut are unchanged.
+-- If more bytes of a stream complete no buffer, its cut contains the same buffers as before.
 grows : (done : List (List ℕ)) (rest more all : List ℕ) → rest ++ more ≡ all → ((n : ℕ) → buffer_size all ≡ Some n → length all < n) → fold with_byte (begun done rest) more ≡ begun done all
 grows done rest [] all is less = ap (begun done) (sym (append-nil rest) ∙ is)
 grows done rest (byte ∷ more) all is less =
@@ -121,7 +121,8 @@ ends_here done grown more all n same here six =
     let last : is_last all ≡ is_last grown = rw (← same) (last_shorter grown more (omega (arith, here, six))) in
     rw (front, behind, last) refl
 
--- If more bytes complete a buffer, the cut gets this buffer and the buffers after it.
+-- If more bytes of a stream complete a buffer, its cut also contains that buffer and the buffers
+-- after it.
 completed : (done : List (List ℕ)) (rest more all : List ℕ) (n : ℕ) → rest ++ more ≡ all → buffer_size all ≡ Some n → length rest < n → n ≤ length all → fold with_byte (begun done rest) more ≡ fold with_byte (uncut (done ++ take n all ∷ []) (is_last all)) (drop n all)
 completed done rest [] all n is size less fits = absurd (omega (arith, ap length is, length-append rest []))
 completed done rest (byte ∷ more) all n is size less fits =
@@ -198,7 +199,8 @@ too_few n taken is = by (nat_le n (length taken)) refl is
 waits_for : (taken : List ℕ) → next_of (record { taken = taken; ended = false }) ≡ None → (n : ℕ) → buffer_size taken ≡ Some n → length taken < n
 waits_for taken none n size = too_few n taken (next_is taken (Some n) None size none)
 
--- If the next buffer of a stream is not complete, all bytes of the stream are the rest of its cut.
+-- If the next buffer of a stream is not complete, the cut of the stream has no further buffer, and
+-- all bytes of the stream are its rest.
 pub cut_last : (done : List (List ℕ)) (s : Stream) → next_of s ≡ None → cut_with done s ≡ record { buffers = done; rest = s.taken; ended = s.ended }
 cut_last done s none = by s.ended s.taken none
   where

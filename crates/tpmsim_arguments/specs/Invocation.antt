@@ -1,4 +1,4 @@
--- The request of a command line, from what clap finds in its words.
+-- What a command line requests, from what clap finds in its words.
 use Rattle.std.specs.Prelude.{ℕ, Bool, false, List, Option, Some, None, codes, nat_le, if◌then◌else◌}
 use Rattle.std.specs.Prelude.{option_and_then, option_map}
 use Rattle.std.specs.Option.{option_map_or}
@@ -33,13 +33,13 @@ pub record Served : Type 0 where
   pub saves_each : Bool
   pub completes : Bool
 
--- the files of a device on which a script is played: where the device is kept, and the file of the
--- random bytes that make a new device
+-- the files of a device on which a script is played: where the device is kept, and the file with
+-- the random bytes from which a new device is made
 pub record Stored : Type 0 where
   pub place : Kept
   pub entropy : Option Text
 
--- the request of a command line: run a script, with or without its trace, on a device that is or is
+-- what a command line requests: run a script, with or without its trace, on a device that is or is
 -- not kept; check the lines of a script; print the buffer of a line; print the line of a buffer;
 -- print the form in words of one command or of all; print the meaning of a response code; serve a
 -- device; power-cycle the device in a folder, with or without dropping the journal after damage;
@@ -182,7 +182,7 @@ restore_in rows = do
   past ← past_in rows
   Some (restore state text past)
 
--- the request of the command with this name, from clap's matches
+-- what the command with this name requests, from clap's matches
 abbrev pub asked_of : Text → List Row → Option Invocation
 asked_of name rows = if bytes_eq name (codes "run") then run_in rows
     else (if bytes_eq name (codes "check") then option_map check (first_of (codes "script") rows)
@@ -201,7 +201,7 @@ asked_of name rows = if bytes_eq name (codes "run") then run_in rows
 abbrev pub asked_in : Option (Text × List Row) → Option Invocation
 asked_in = option_and_then (λ command. asked_of command.0 command.1)
 
--- the request of these words, the first of which is the program's name
+-- what these words request; the first of them is the program's name
 abbrev pub asked_by : List Text → Option Invocation
 asked_by words = asked_in (subcommand_of program words)
 

@@ -70,7 +70,7 @@ pub record Effect : Type 0 where
 abbrev pub printed_response : List ℕ → List ℕ
 printed_response response = encode_lower response ++ 10 ∷ []
 
--- the effect of a line that prints nothing
+-- the effect of a line that prints nothing; the script continues in this state
 abbrev pub silence : Playing → Effect
 silence p = record { text = []; next = p }
 
@@ -116,7 +116,7 @@ set_entropy p entropy =
     if nat_lt 0 (length entropy) && nat_le (length entropy) 256
     then Some (silence (record p { random = repeated entropy })) else None
 
--- the effect of the meaning of a line; None if it cannot be performed
+-- the effect of a line with this meaning; None if it cannot be performed
 abbrev pub perform : Playing → Meaning → Option Effect
 perform p (Executes digits) = option_map (execute p) (bytes_of digits)
 perform p (ExecutesWords words) = option_map (execute p) (result_ok (assembled words))
