@@ -37,7 +37,7 @@ wire_of record_of mux = record {
 abbrev pub new_wire : Record → Wire
 new_wire r = record { machine = r; streams = free 8 }
 
--- the machine and its connections, with the stream at a number replaced, or removed by None
+-- a machine and its connections, after the stream with this number was replaced; None removes it
 abbrev pub with_stream : Wire → ℕ → Option Stream → Wire
 with_stream w number stream = record w { streams = slice_set w.streams number stream }
 

@@ -4,7 +4,7 @@ use Rattle.clap.specs.Words.{App, Rule, Shape, Text, new_rule, with_subcommand}
 use Rattle.clap.specs.Simple.{new_shape}
 use Rattle.clap.specs.declared.builder.action.ArgAction.TheVariants.{Set, SetTrue}
 
--- the rule for an optional flag --NAME
+-- the rule for the optional flag --NAME
 abbrev pub flag : Text → Rule
 flag name = record (new_rule name) { long = Some name; action = Some SetTrue }
 
@@ -16,11 +16,11 @@ operand name = record (new_rule name) {
   required = true;
 }
 
--- the rule for a required option --NAME with a value
+-- the rule for the required argument --NAME VALUE
 abbrev pub setting : Text → Rule
 setting name = record (operand name) { long = Some name }
 
--- the rule for an optional option --NAME with a value
+-- the rule for the optional argument --NAME VALUE
 abbrev pub choice : Text → Rule
 choice name = record (setting name) { required = false }
 

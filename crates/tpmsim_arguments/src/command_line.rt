@@ -85,7 +85,7 @@ fn run_command<'a>(alloc: Global) -> Result<Command<'a>, AllocError>
         .arg(optional_operand(alloc, "script", "SCRIPT", SCRIPT))
 }
 
-/// An option that has no value, and may be left out.
+/// Creates the optional flag `--NAME`.
 fn flag<'a>(alloc: Global, name: &'a str, help: &'a str) -> Arg<'a>
     ensures rule { rule_of result ≡ flag name.entry.now }
     ensures local { result.global ≡ false }
@@ -96,7 +96,7 @@ fn flag<'a>(alloc: Global, name: &'a str, help: &'a str) -> Arg<'a>
         .help(help)
 }
 
-/// A positional argument, which is required.
+/// Creates a required positional argument.
 fn operand<'a>(alloc: Global, name: &'a str, value: &'a str, help: &'a str) -> Arg<'a>
     ensures rule { rule_of result ≡ operand name.entry.now }
     ensures local { result.global ≡ false }
@@ -108,7 +108,7 @@ fn operand<'a>(alloc: Global, name: &'a str, value: &'a str, help: &'a str) -> A
         .help(help)
 }
 
-/// A positional argument, which may be left out.
+/// Creates an optional positional argument.
 fn optional_operand<'a>(alloc: Global, name: &'a str, value: &'a str, help: &'a str) -> Arg<'a>
     ensures rule { rule_of result ≡ optional_operand name.entry.now }
     ensures local { result.global ≡ false }
@@ -119,7 +119,7 @@ fn optional_operand<'a>(alloc: Global, name: &'a str, value: &'a str, help: &'a 
         .help(help)
 }
 
-/// An option that has a value, and may be left out.
+/// Creates the optional argument `--NAME VALUE`.
 fn choice<'a>(alloc: Global, name: &'a str, value: &'a str, help: &'a str) -> Arg<'a>
     ensures rule { rule_of result ≡ choice name.entry.now }
     ensures local { result.global ≡ false }
@@ -293,7 +293,7 @@ fn serve_command<'a>(alloc: Global) -> Result<Command<'a>, AllocError>
         .arg(flag(alloc, "save-each", SAVE_EACH))
 }
 
-/// An option that has a value, and is required.
+/// Creates the required argument `--NAME VALUE`.
 fn setting<'a>(alloc: Global, name: &'a str, value: &'a str, help: &'a str) -> Arg<'a>
     ensures rule { rule_of result ≡ setting name.entry.now }
     ensures local { result.global ≡ false }
