@@ -89,8 +89,8 @@ impl Lines {
         self.line.clear();
     }
 
-    /// Appends bytes that were read to the line, up to the end of the line or, if they contain
-    /// none, all of them.
+    /// Appends bytes that were read to the line: up to the end of the line, or all of them if they
+    /// do not contain it.
     pub fn find(&mut self) -> Next
         requires { IsUnbroken (line_of self.old) }
         ensures found { Finds self.old result self.new }
