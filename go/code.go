@@ -67,7 +67,7 @@ type Refusal struct {
 	check   uint8
 }
 
-// Check returns the check that refused, by its name in traces and in docs/table, such as G9.
+// Check returns the check that refused the command, such as G9, as traces and docs/table name it.
 func (it *Refusal) Check() string {
 	switch {
 	case it.check == 255:

@@ -313,8 +313,8 @@ func (tpm *TPM) written(text func(*native) []byte) ([]byte, error) {
 	return text(&tpm.native), nil
 }
 
-// Restore sets the device to a state text, which may be of any device in any process. Other bytes change
-// nothing. The log restarts.
+// Restore replaces the state by that of a state text, of any device in any process. Other bytes
+// change nothing. The log restarts.
 func (tpm *TPM) Restore(text []byte) error {
 	tpm.lock.Lock()
 	defer tpm.lock.Unlock()

@@ -16,7 +16,7 @@ fn kind_in(folder: &Path) -> Option<&'static str> {
     has("libtpmsim.so").then_some("dylib")
 }
 
-/// Returns a variable that cargo sets for a build script, if it is set.
+/// Returns a variable that cargo sets for a build script; empty if it is not set.
 fn told(name: &str) -> String {
     env::var(name).unwrap_or_default()
 }

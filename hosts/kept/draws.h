@@ -12,7 +12,7 @@ enum { DRAWS_BYTES = 256 };
 struct draws {
     uint8_t bytes[DRAWS_BYTES];
     bool are_told;
-    /* The number of bytes, from the front, that must not be used again. */
+    /* The number of bytes at the front that were drawn and must not be used again. */
     size_t drawn;
     /* Set by the process that filled the bytes. A forked child must not use the same bytes. */
     struct fork_mark mark;

@@ -184,7 +184,7 @@ static uint8_t do_task(struct keeping *keeping, const tpmsim_ask *ask, struct re
 
 /* ---- the loop */
 
-/* Sets the reason why the journal does not open, which needs a look at the whole file. */
+/* Reads the whole journal to find out why it cannot be opened, and sets the reason. */
 static bool refuse_damage(struct keeping *keeping, struct reason *reason) {
     tpmsim device = {0};
     size_t taken;

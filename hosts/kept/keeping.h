@@ -22,7 +22,7 @@ struct keeping {
     tpmsim_ask made;
     /* The number of past journals to keep. */
     unsigned keep;
-    /* The bytes to write, or those that were read: `read` of them. */
+    /* The bytes to write, or the `read` bytes that were read. */
     uint8_t *buffer;
     size_t buffer_size, read;
     /* A sentence about what the last call cut off the journal; empty if it cut nothing. */

@@ -3,9 +3,9 @@
  * FOLDER/journal contains the device's state at the start of the journal, followed by a record
  * of each command since then: the command, the random bytes that it drew, its time and its
  * locality. Opening the device executes these commands again. A command's record is in the file
- * before its response is released. So a process may be killed at any moment, and no answered
- * command is lost. FOLDER/lock is locked while a command is executed. Several processes may use
- * the device at once: each executes what the others have added before its own command. The
+ * before its response is released. Therefore no answered command is lost, even if a process is
+ * killed at any moment. FOLDER/lock is locked while a command is executed. Several processes may
+ * use the device at once: before its own command, each executes what the others have added. The
  * library's keeper decides what to do when, and keeping.c does it.
  *
  * A call that fails returns false or NULL, with a sentence that names the path. Only one call at

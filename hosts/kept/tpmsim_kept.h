@@ -1,8 +1,8 @@
 /* libtpmsim-kept: a TPM 2.0 that is kept in a folder, which several processes may use at once.
 
    The record of each command is in the folder's journal before the command's response is returned.
-   So a process may be killed at any moment, and no answered command is lost. docs/ATTACHED.md says
-   what may be lost if the host crashes.
+   Therefore no answered command is lost, even if a process is killed at any moment.
+   docs/ATTACHED.md says what may be lost if the host crashes.
 
        tpmsim_kept_device kept = {0};
        tpmsim_kept_options options = {.folder = "state", .force = TPMSIM_FORCE_POWER};

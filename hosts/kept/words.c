@@ -91,13 +91,13 @@ static bool read_word(struct words *words, bool seen[WORDS], const char *text,
     return refuse_word(text, "is none of the words " WORDS_WANTED, reason);
 }
 
-/* Whether `word`, which is only useful with a folder, comes with one if it is there. */
+/* Returns false with the reason if `word`, which needs a folder, was read without state=DIR. */
 static bool has_folder(const bool seen[WORDS], enum word word, struct reason *reason) {
     return !seen[word] || seen[STATE] ||
            refuse(reason, NAMES[word], NULL, "is allowed only with state=DIR", 0);
 }
 
-/* Whether the words do not both request the completing layer and turn it off. */
+/* Returns false with the reason if the words both request the completing layer and turn it off. */
 static bool has_one_layer(const bool seen[WORDS], struct reason *reason) {
     return !seen[COMPLETE] || !seen[DEVICE] ||
            refuse(reason, NAMES[COMPLETE], NULL, "cannot be combined with device", 0);

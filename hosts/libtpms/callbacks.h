@@ -6,15 +6,15 @@
 #include <stddef.h>
 #include <stdint.h>
 
-/* Makes swtpm prepare. */
+/* Makes swtpm prepare its storage of states and its channel of commands. */
 bool begin_callbacks(void);
 
 enum kept { KEPT, NOT_KEPT, NOT_READ };
 
-/* Whether swtpm stores a state under a name. If so, the caller has to free the bytes. */
+/* Reads the state that swtpm stores by this name, if there is one. The caller frees the bytes. */
 enum kept load_state(const char *name, uint8_t **bytes, size_t *size);
 
-/* Makes swtpm store a state under a name. */
+/* Makes swtpm store a state by this name. */
 bool store_state(const char *name, const uint8_t *bytes, size_t size);
 
 /* Returns swtpm's current locality, 0 to 4; another number if it reports none. */

@@ -61,8 +61,8 @@ bool write_last(void) {
     return !is_behind;
 }
 
-/* Executes a command with its record, with the completing layer but no record, or only by the
-   device. */
+/* Executes a command: with its record, if recording was requested; otherwise with the completing
+   layer, if that is on; otherwise by the device alone. */
 static uint8_t run(const uint8_t *buffer, size_t size, uint8_t locality, uint32_t elapsed,
                    const uint8_t *random, uint8_t *response, tpmsim_answered *answered) {
     if (is_recorded())

@@ -7,7 +7,7 @@
 /* Whether there was a launch that has not been revoked. */
 bool was_launched(void);
 
-/* Sets that from now on. */
+/* Sets whether there was a launch that has not been revoked. */
 void tell_launch(bool was_launched);
 
 #endif

@@ -14,7 +14,7 @@ bool make_permanent_state(tpmsim *device, struct state *state);
 /* Opens the device of a permanent state, in the state after power-on. */
 bool open_permanent_state(tpmsim *device, const struct state *state);
 
-/* Notes that the image of this device is the stored one. */
+/* Remembers that the image of this device is the stored one. */
 void take_as_permanent(tpmsim *device);
 
 /* Whether the stored state is the state that the device keeps without power, except for its clock. */
@@ -26,7 +26,7 @@ bool store_permanent(tpmsim *device);
 /* Makes swtpm store the image of a device if more than the clock differs from the stored one. */
 bool keep_permanent(tpmsim *device);
 
-/* Clears what was noted, which contains secrets. */
+/* Clears the remembered state, which contains secrets. */
 void forget_permanent(void);
 
 #endif

@@ -50,7 +50,7 @@ static bool open_permanent(bool *is_to_be_stored) {
     return is_open;
 }
 
-/* Continues the device where it stopped. What it keeps without power has to be what is stored. */
+/* Continues the device where it stopped. Its permanent state must equal the stored one. */
 static bool resume(const struct state *state) {
     struct moment moment;
     if (!open_volatile_state(the_device(), state, &moment)) return false;

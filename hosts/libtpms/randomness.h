@@ -10,10 +10,10 @@ enum { RANDOM_BYTES = 256 };
 /* Returns RANDOM_BYTES bytes that nothing has drawn yet; NULL if the system provides none. */
 const uint8_t *random_bytes(void);
 
-/* Notes that this many bytes were drawn, from the front of the last ones. */
+/* Notes that this many of the bytes returned last were drawn, from the front on. */
 void random_bytes_were_drawn(size_t count);
 
-/* Clears all of them. */
+/* Clears all random bytes. */
 void forget_random_bytes(void);
 
 #endif

@@ -13,7 +13,7 @@
 enum { PATH_BYTES = 4096, MOST_FILES = 1000 * 1000 };
 
 static int descriptor = -1;
-/* The size of the file, and that of the complete texts in it. */
+/* The size of the file, and the size of the complete texts in it. */
 static off_t present, whole;
 
 void end_record(void) {

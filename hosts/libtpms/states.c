@@ -67,7 +67,7 @@ static bool is_state(enum TPMLIB_StateType type, const struct state *state) {
     return is;
 }
 
-/* A device of TPM 2.0 has no state of the third type. */
+/* A TPM 2.0 has no state of the third type, TPMLIB_STATE_SAVE_STATE. */
 static TPM_RESULT look_at(enum TPMLIB_StateType type, const struct state *state) {
     if (type == TPMLIB_STATE_SAVE_STATE) {
         report("there is no TPM 1.2, and no state that it saved");

@@ -12,7 +12,7 @@
 struct state {
     uint8_t *bytes;
     size_t size;
-    /* Whether it was set by TPMLIB_SetState. */
+    /* Whether the state was set by TPMLIB_SetState. */
     bool is_set;
 };
 

@@ -22,7 +22,8 @@ static void write_tail(uint8_t *tail, const struct moment *moment) {
     end_digests(&digests, sha1, tail + DIGEST_AT);
 }
 
-/* Reads the tail after a text of at least 32 bytes. Only bytes as the writer writes them are a tail. */
+/* Reads the tail after a text of at least 32 bytes. Returns false for bytes that write_tail would
+   not write. */
 static bool read_tail(const uint8_t *tail, struct moment *moment) {
     uint8_t written[SHA256_BYTES + TAIL_BYTES];
     *moment = (struct moment){.was_launched = tail[LAUNCH_AT] != 0};

@@ -9,7 +9,7 @@
 #include <stdint.h>
 #include <tpmsim.h>
 
-/* When the device stopped, and what swtpm asks about it. */
+/* When the device stopped, and whether there was a launch, which swtpm asks for. */
 struct moment {
     /* The host's clock at the last command, in milliseconds. */
     uint64_t time;

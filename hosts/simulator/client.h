@@ -12,7 +12,7 @@ struct client *client_of(int socket, struct board *board, bool is_of_platform);
 
 int client_socket(const struct client *client);
 
-/* Whether the client waits until it can write, and not for something to read. */
+/* Whether client_go_on needs the socket to be writable next, and not readable. */
 bool client_writes(const struct client *client);
 
 /* Reads and writes what is possible now. ENDS: the client closed the connection, or must be closed.

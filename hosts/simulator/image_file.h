@@ -15,7 +15,7 @@ struct image_file {
     /* The last written state that the device keeps without power, except its clock. */
     uint8_t *kept;
     size_t kept_size;
-    /* Memory for the current value of the same, and for an image. */
+    /* Memory for the current value of that state, and for an image. */
     uint8_t *now;
     uint8_t *image;
 };

@@ -15,8 +15,8 @@ struct random {
     uint8_t bytes[RANDOM_BYTES];
 };
 
-/* Initializes it. `seed` must exist as long as this; size 0 selects the system's bytes. No other device
-   with this seed has the same number `stream`. */
+/* Initializes `random`. `seed` must exist as long as `random`; size 0 selects the system's bytes.
+   Devices with the same seed must have different numbers `stream`. */
 void random_begin(struct random *random, const uint8_t *seed, size_t seed_size, unsigned stream);
 
 /* Replaces all bytes. False if the system provides none. */

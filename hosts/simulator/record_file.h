@@ -14,7 +14,7 @@ struct record_file {
     uint64_t size;
 };
 
-/* No file has been started yet. */
+/* Returns a record of which no file has been started yet. */
 struct record_file record_file_of(const char *folder);
 
 /* Starts a file with a head. False with the reason. */

@@ -50,8 +50,8 @@ static enum outcome done(struct answer *answer) {
     return GOES_ON;
 }
 
-/* Returns the end of a request whose size is at an offset. A request that is too long is not read: only
-   the head of a command, and nothing of data. */
+/* Returns the end of a request whose size field is at an offset. If the request is too long, only
+   the head of a command is read, and none of the data of HASH_DATA. */
 static size_t sized_end(const uint8_t *bytes, size_t size, size_t size_at, size_t most_head) {
     size_t start = size_at + NUMBER;
     if (size < start) return start;

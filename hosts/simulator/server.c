@@ -17,7 +17,7 @@ enum { FILES_LEFT = 8, MILLISECONDS_TO_NEXT_TRY = 1000, MOST_IN_A_TURN = 64 };
 struct source {
     struct client *client;
     size_t number;
-    /* The events of the client for which the server waits. */
+    /* The events on the client's socket for which the server waits. */
     uint32_t events;
 };
 
@@ -103,7 +103,7 @@ static void remove_client(struct server *server, struct source *source) {
     free(source);
 }
 
-/* Waits for what the client has to do next. */
+/* Changes the events for which the server waits to those that the client needs next. */
 static bool wait_for(const struct server *server, struct source *source) {
     uint32_t events = client_writes(source->client) ? EPOLLOUT : EPOLLIN;
     if (events == source->events) return true;
@@ -137,7 +137,7 @@ static void accept_client(struct server *server, size_t listener) {
     }
 }
 
-/* Waits for clients at all ports, or for none. */
+/* Starts or stops waiting for clients at all ports. */
 static bool wait_for_clients(struct server *server, int how, uint32_t events) {
     for (size_t i = 0; i < server->listeners->count; i++) {
         server->of_listeners[i] = (struct source){.number = i};

@@ -12,7 +12,7 @@ enum { LOADED_MOST = 64 };
 struct loaded {
     uint32_t handles[LOADED_MOST];
     size_t count;
-    /* Set by the process that loaded them. */
+    /* Set by the process that loaded the handles. */
     struct fork_mark mark;
 };
 

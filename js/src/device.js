@@ -26,7 +26,7 @@ import { Words } from "./words.js";
 
 /**
  * The circumstances of a command: its locality (default 0); the milliseconds since the last command (default
- * 0); 256 random bytes of its own; whether the completing layer is above the device.
+ * 0); 256 random bytes for it alone; whether the completing layer is above the device.
  * @typedef {{
  *   locality?: number,
  *   elapsed?: number,
@@ -37,7 +37,7 @@ import { Words } from "./words.js";
 
 /**
  * What a device is made from: a seed, for the same random bytes in each run; its 256 bytes of secrets; an
- * image or a state text of another device; and a module, if the package is not to look for one.
+ * image or a state text of another device; and a module, if the package should not look for one.
  * @typedef {{
  *   seed?: string | Uint8Array,
  *   manufactured?: Uint8Array,

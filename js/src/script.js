@@ -18,7 +18,7 @@ const NEWLINE = 0x0a;
 const encoder = new TextEncoder();
 
 /**
- * Returns the lines of a text without their newlines; the last line need not have one.
+ * Returns the lines of a text without their newlines. The last line may lack its newline.
  * @param {Uint8Array} text
  */
 function* lines(text) {

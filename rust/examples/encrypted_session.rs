@@ -21,7 +21,7 @@ fn area(attributes: u32) -> Vec<u8> {
         .concat()
 }
 
-/// What cpHash contains for the owner and for the index.
+/// The Names of the owner and of the index, which are part of cpHash.
 fn names(attributes: u32) -> Vec<u8> {
     [&number(OWNER)[..], &[0, 0x0b], &sha256(&area(attributes))].concat()
 }

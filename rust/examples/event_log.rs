@@ -26,7 +26,7 @@ fn boot(tpm: &mut Device) -> Result<Log, Refusal> {
 /// The values of the PCRs.
 fn values(tpm: &mut Device) -> Result<Vec<Vec<u8>>, Refusal> {
     let answer = send(tpm, 0x17e, &[], None, &selection(&PCRS))?;
-    // The update counter, the selection and the number of values come before them.
+    // The update counter, the selection and the number of values come before the values.
     let values = &answer.parameters[4 + 10 + 4..];
     Ok(values.chunks_exact(2 + 32).map(|it| it[2..].to_vec()).collect())
 }

@@ -57,7 +57,7 @@ impl ResponseCode {
         }
     }
 
-    /// The handle, parameter or entry that it is about.
+    /// The handle, parameter or entry that the code is about.
     pub fn place(self) -> Option<Place> {
         self.with_a_place()?;
         let number = (self.0 >> 8 & 0x0f) as u8;
@@ -95,7 +95,7 @@ impl fmt::Display for ResponseCode {
 /// ```
 #[derive(Clone, Copy, Debug, PartialEq, Eq, Hash)]
 pub enum Check {
-    /// No check refused.
+    /// No check refused the command.
     Passed,
     /// A check for all commands, G1 to G11.
     General(u8),

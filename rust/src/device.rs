@@ -8,7 +8,7 @@ use crate::response::Response;
 use std::fmt;
 use std::time::Duration;
 
-/// The first numbers of the header's faults of images and of state texts.
+/// The numbers of the first fault of an image, and of a state text, in the library's header.
 const FIRST_IMAGE_FAULT: u8 = 4;
 const FIRST_STATE_FAULT: u8 = 13;
 
@@ -113,7 +113,7 @@ impl Device {
     ///
     /// # Panics
     ///
-    /// As [`Device::execute`].
+    /// Like [`Device::execute`].
     ///
     /// ```
     /// # fn main() -> tpmsim::Result<()> {
@@ -188,7 +188,7 @@ impl Device {
         self.native.state_text()
     }
 
-    /// Sets the device to a state text, which may be of any device in any process. The log restarts.
+    /// Replaces the state by that of a state text, of any device in any process. The log restarts.
     ///
     /// # Errors
     ///
@@ -277,7 +277,7 @@ impl Device {
 }
 
 impl fmt::Debug for Device {
-    /// Shows no secret.
+    /// Writes no secrets.
     fn fmt(&self, out: &mut fmt::Formatter<'_>) -> fmt::Result {
         let Device { locality, elapsed, .. } = self;
         out.debug_struct("Device")

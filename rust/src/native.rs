@@ -21,11 +21,11 @@ const RESPONSE_BYTES: usize = 4096;
 /// A buffer size that is enough for every image and every state text.
 const TEXT_BYTES: usize = 36_195;
 
-/// `tpmsim` of the header. It is not `Sync`, since a pointer is not.
+/// The type `tpmsim` of the header. It is not `Sync`, since a pointer is not.
 #[repr(C)]
 struct Holder(*mut c_void);
 
-/// `tpmsim_answered` of the header.
+/// The type `tpmsim_answered` of the header.
 #[repr(C)]
 #[derive(Clone, Copy, Default)]
 struct Answered {

@@ -92,7 +92,7 @@ impl Refusal {
         self.code
     }
 
-    /// The check that refused.
+    /// The check that refused the command.
     pub fn check(&self) -> Check {
         self.check
     }

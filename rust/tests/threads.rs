@@ -20,7 +20,7 @@ fn test(number: usize) -> Vec<u8> {
     device.execute(&read).accepted().expect("PCR 7 may be read")[4..].to_vec()
 }
 
-/// How long all devices take, on all threads of the machine.
+/// Measures the time that all devices take, on all threads of the machine.
 fn a_round() -> Duration {
     let began = Instant::now();
     let next = AtomicUsize::new(0);

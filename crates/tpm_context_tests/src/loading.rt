@@ -1,4 +1,4 @@
-//! A device with the completing layer saves the key, and loads it again.
+//! A device with the completing layer saves a key, and loads it again.
 
 use crate::contexts::{KEY, check, key_of};
 use std::alloc::Global;
@@ -22,8 +22,8 @@ const FLUSH: &[u8] = b"\x80\x01\0\0\0\x0e\0\0\x01\x65\x80\0\0\0";
 /// The header of TPM2_ContextLoad of the key's context, which has 127 bytes.
 const LOAD_HEADER: &[u8] = b"\x80\x01\0\0\0\x89\0\0\x01\x61";
 
-/// The responses with the first transient handle, without parameters, and the refusals OBJECT_MEMORY
-/// and INTEGRITY for parameter 1.
+/// Responses: with the first transient handle; without parameters; the refusal OBJECT_MEMORY; and
+/// the refusal INTEGRITY for parameter 1.
 const LOADED: &[u8] = b"\x80\x01\0\0\0\x0e\0\0\0\0\x80\0\0\0";
 
 const DONE: &[u8] = b"\x80\x01\0\0\0\x0a\0\0\0\0";

@@ -57,7 +57,7 @@ handle_form rule =
 abbrev pub parameter_form : ParameterKind → List ℕ
 parameter_form kind = codes " " ++ parameter_word kind
 
--- a command in words; its entries, which the form omits, follow its handles
+-- the form of a command in words; the form omits the entries, which follow the handles
 abbrev pub form_of : CommandCode → List ℕ
 form_of code = code_name code ++ flat_map handle_form (shape_of code).handles
     ++ flat_map parameter_form (shape_of code).parameters

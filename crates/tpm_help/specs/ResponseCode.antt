@@ -83,7 +83,8 @@ warnings = (0x901, codes "CONTEXT_GAP")
     ∷ (0x923, codes "NV_UNAVAILABLE")
     ∷ []
 
--- the codes that can name a handle, a parameter or a session (RC_FMT1), without the bits for it
+-- the codes that can name a handle, a parameter or a session (RC_FMT1), without the bits that name
+-- one
 unfoldable pub located : List (ℕ × List ℕ)
 located = (0x081, codes "ASYMMETRIC")
     ∷ (0x082, codes "ATTRIBUTES")

@@ -1,4 +1,4 @@
--- The word that is expected at the first error in words that are not a command.
+-- The word for what is expected at the first fault of a line that is not a command.
 use Rattle.std.specs.Prelude.{ℕ, ◌+◌, ◌-◌, ◌==◌, List, [], ◌++◌, length, map, take, drop, replicate, codes, get_or}
 use Rattle.std.specs.Prelude.{Option, Some, None}
 use Rattle.std.specs.List.{count_by, take_while}
@@ -10,13 +10,14 @@ use Rattle.tpm_text.specs.declared.fault.AsmFault.{AsmFault}
 use Rattle.tpm_text.specs.declared.fault.AsmFault.TheVariants as fault
 use Rattle.tpm_help.specs.Form.{handle_word, parameter_word}
 
--- the number of entries in these tokens of a command: at most three after the handles, up to the
--- first token that does not begin like an entry
+-- the number of entries among the tokens of a command: they follow the handles, are at most three,
+-- and end before the first token that does not begin like an entry
 abbrev pub entry_count : CommandCode → (tokens : List (List ℕ)) → ℕ
 entry_count code tokens =
     length (take_while begins_entry (take 3 (drop (handle_count code + 1) tokens)))
 
--- the words for the parts after the name of a command that has this many entries, in order
+-- the words for the parts of a command after its name, in order, if the command has this many
+-- entries
 abbrev pub words_behind : CommandCode → (entries : ℕ) → List (List ℕ)
 words_behind code entries = map (λ rule. handle_word rule.kind) (shape_of code).handles
     ++ (replicate entries (codes "entry") ++ map parameter_word (shape_of code).parameters)

@@ -78,7 +78,7 @@ pub fn form_text(code: CommandCode) -> Form
     form
 }
 
-/// Returns the form of a command in words, in new memory, as [`form_text`] does.
+/// Returns the form of a command in words, like [`form_text`], but as a `String`.
 pub fn form_of(alloc: Global, code: CommandCode) -> Result<String, AllocError>
     ensures { IfOk result (λ form. form.bytes.items ≡ form_of code) }
 {

@@ -1,7 +1,7 @@
 #![tactic(auto)]
 
 //! Help for the author of a script: the form of a command in words ([`form`]), an example of each
-//! ([`example`]), what is expected at a fault in words ([`wanted`]), and the meaning of a
+//! ([`example`]), what is expected at the fault of a line ([`wanted`]), and the meaning of a
 //! response code ([`response_code`]).
 //!
 //! The crate uses `tpm_commands` for the shapes of commands, and `tpm_text` for faults. Each call

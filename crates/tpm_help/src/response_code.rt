@@ -9,7 +9,7 @@ use std::fmt;
 use tpm_types::rc::Place;
 
 /// The meaning of a response code: its name without TPM_RC_, and the handle, parameter or session
-/// with the fault.
+/// that it identifies.
 #[derive(Clone, Copy)]
 pub struct CodeMeaning {
     pub name: &'static str,
@@ -33,7 +33,7 @@ impl fmt::Display for CodeMeaning {
     }
 }
 
-/// The name of an error code that names no handle, parameter or session.
+/// The name of an error code that identifies no handle, parameter or session.
 #[tactic(auto, unfolding(crate::specs::ResponseCode::errors))]
 fn error_name(number: u32) -> Option<&'static str>
     ensures { option_map (λ name. name.now) result ≡ name_in errors number }
@@ -117,8 +117,8 @@ fn warning_name(number: u32) -> Option<&'static str>
     }
 }
 
-/// The name of a code that can name a handle, a parameter or a session, from its number without the
-/// bits for it.
+/// The name of a code that can identify a handle, a parameter or a session. The number is the code
+/// without the bits that identify one.
 #[tactic(auto, unfolding(crate::specs::ResponseCode::located))]
 fn located_name(number: u32) -> Option<&'static str>
     ensures { option_map (λ name. name.now) result ≡ name_in located number }
@@ -161,7 +161,7 @@ fn located_name(number: u32) -> Option<&'static str>
     }
 }
 
-/// The handle, parameter or session that a code names, from its bits 6 and 8 to 11.
+/// The handle, parameter or session that a code identifies by its bits 6 and 8 to 11.
 #[tactic(auto, unfolding(crate::specs::ResponseCode::place_in))]
 fn place_in(code: u32) -> Place
     requires { code < 0x1000 }

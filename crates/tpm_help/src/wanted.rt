@@ -1,4 +1,4 @@
-//! The word that is expected at the first error in words that are not a command.
+//! The word for what is expected at the first fault of a line that is not a command.
 
 ghost use Rattle.std.specs.Prelude.{◌≡◌, ◌-◌, [], codes, get_or, take};
 ghost use Rattle.tpm_text.specs.Entry.{begins_entry};

@@ -55,7 +55,8 @@ pub fn put_area<W: Write>(fields: &mut Cursor, line: &mut W) -> Result<(), Spell
     Ok(())
 }
 
-/// Adds an entry to the line: a password, if it has exactly the form of one, or a session.
+/// Adds an entry to the line: as a password if it has exactly the form of one, and otherwise as a
+/// session.
 fn put_entry<W: Write>(entry: &AuthEntry, line: &mut W) -> fmt::Result {
     let attributes = entry.attributes.octet;
     if entry.session == Handle::PASSWORD && entry.nonce.is_empty() && attributes == 1 {

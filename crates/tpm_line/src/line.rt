@@ -1,4 +1,4 @@
-//! The line of a buffer: it is written from the buffer, then assembled again and compared with the
+//! Finds the line of a buffer: writes a line, assembles it again, and compares the result with the
 //! buffer.
 
 ghost use Rattle.std.specs.Prelude.{◌≡◌, IfOk, Ok, OnOk, true};

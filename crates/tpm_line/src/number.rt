@@ -1,4 +1,4 @@
-//! Numbers in words: decimal, except for codes, sets of bits and handles.
+//! Numbers in words: decimal, except that codes, sets of bits and handles are hexadecimal.
 
 use std::fmt::{self, Write};
 use tpm_commands::CommandCode;

@@ -23,13 +23,13 @@ const SECOND: &[u8] = &[
     0, 0, 0, 12, 0, 0, 1, 0x7b, 0, 5,
 ];
 
-/// The responses to the first buffers: success, one random byte, and two random bytes.
+/// The responses to the buffers in `FIRST`: success, one random byte, and two random bytes.
 pub const FIRST_ANSWERS: &[u8] = &[
     0x80, 1, 0, 0, 0, 10, 0, 0, 0, 0, 0x80, 1, 0, 0, 0, 13, 0, 0, 0, 0, 0, 1, 7, 0x80, 1, 0, 0, 0,
     14, 0, 0, 0, 0, 0, 2, 7, 7,
 ];
 
-/// The responses to the second buffers: three, four and five random bytes.
+/// The responses to the buffers in `SECOND`: three, four and five random bytes.
 const SECOND_ANSWERS: &[u8] = &[
     0x80, 1, 0, 0, 0, 15, 0, 0, 0, 0, 0, 3, 7, 7, 7, 0x80, 1, 0, 0, 0, 16, 0, 0, 0, 0, 0, 4, 7, 7,
     7, 7, 0x80, 1, 0, 0, 0, 17, 0, 0, 0, 0, 0, 5, 7, 7, 7, 7, 7,

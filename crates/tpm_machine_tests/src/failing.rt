@@ -4,7 +4,8 @@
 use std::io;
 use std::io::{ErrorKind, Read, Write};
 
-/// Reads from a text: at most `size` bytes at a time. It succeeds `reads` times and then fails.
+/// A reader of a text. It reads at most `size` bytes at a time, succeeds `reads` times, and then
+/// fails.
 #[derive(Drop)]
 pub struct Source<'a> {
     pub left: &'a [u8],

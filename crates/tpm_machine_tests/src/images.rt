@@ -244,14 +244,15 @@ const READ: Exchange = (
     ],
 );
 
-/// TPM2_PolicyGetDigest for the former session: REFERENCE_H0.
+/// TPM2_PolicyGetDigest for the session that existed before the power cycle. The response is
+/// REFERENCE_H0.
 const POLICY: Exchange = (
     "80010000000e0000018903000000",
     &[("80010000000a00000910", 0)],
 );
 
-/// TPM2_StartAuthSession, which allocates memory if the state is stored in lists: the handle is
-/// free again.
+/// TPM2_StartAuthSession, which allocates memory if the state is stored in lists. The new session
+/// gets the handle of the earlier one, which is free again.
 const START: Exchange = (
     "80010000002b0000017640000007400000070010000000000000000000000000000000000000010010000b",
     &[("80010000002000000000030000000010", 16)],

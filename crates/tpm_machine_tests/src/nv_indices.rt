@@ -79,7 +79,7 @@ fn is_read<N: Indices>(indices: &N, handle: Handle, size: u16, bytes: &[u8]) -> 
     }
 }
 
-/// The fault when the first byte of an index is read, if there is one.
+/// The fault of reading the first byte of an index, if there is one.
 fn read_fault<N: Indices>(indices: &N, handle: Handle) -> Option<ReadFault> {
     indices.read(handle, 0, 1).err()
 }

@@ -40,7 +40,7 @@ struct End {
     executed: u64,
 }
 
-/// Serves the first three buffers to a new device.
+/// Serves a connection that sends the three buffers in `FIRST` to a new device.
 fn serve_first<K: Keep>(alloc: Global, limits: Limits) -> Result<End, Fail> {
     let mut mux: Mux<K> = mux(alloc)?;
     let mut reader = Tap::new(Source {
@@ -86,7 +86,7 @@ fn check_end<R: Abort>(
     check(rt, end.executed, executed);
 }
 
-/// The total size of the responses to the first buffers.
+/// The total size of the responses to the first `buffers` buffers.
 fn length_of_answers(buffers: usize) -> usize {
     match buffers {
         0 => 0,

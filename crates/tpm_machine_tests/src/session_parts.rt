@@ -52,8 +52,8 @@ const ENCRYPTED: &[u8] = b"\xa2\x50\xc0\xbe\x24\xaf\x83\xc1\xd4\x33\x10\xe8\x13\
 const MASKED: &[u8] = b"\xb9\xa7\x60\x5e\xe4\x00\x34\x4b\xa2\xa5\x9c\x4f\x9c\x9d\xc9\x93\
     \x3c\xd9\x6c\x50\x40\xb3\xcc\x47\x08";
 
-/// Returns the same bytes from a call, so that the prover knows only their size and computes
-/// nothing.
+/// Returns its argument. The prover knows only the size of bytes that a call returns, and therefore
+/// computes nothing with them.
 fn short(bytes: &[u8]) -> &[u8]
     requires { length bytes.now ≤ 32 }
     ensures { length result.now ≡ length bytes.now }
@@ -145,7 +145,7 @@ const POLICY: Handle = Handle {
     number: 0x0300_0001,
 };
 
-/// Replaces the nonceTPM of a session, unless the sizes differ.
+/// Replaces the nonceTPM of the policy session, unless the sizes differ.
 fn roll<S: Slots<Session, SESSION_LIMIT>>(sessions: &mut Sessions<S>, nonce: &[u8]) -> bool
     requires { length nonce.now ≤ 32 }
 {

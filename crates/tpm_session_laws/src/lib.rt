@@ -3,7 +3,7 @@
 //! Laws of sessions, based on what a device accepted: which events discard a policy session's
 //! assertions, which command a cpHash policy allows, and which nonces a session had.
 //!
-//! These are laws of tpm_step's definitions; each is the contract of a function that has no
+//! These are laws about tpm_step's definitions. Each is the contract of a function that has no
 //! effect at run time. No crate depends on this one.
 
 ghost use Rattle.tpm_session_laws.specs.Assertions.{NoneStandsThrough};

@@ -9,8 +9,8 @@ use tpm_machine::Machine;
 use tpm_record::Keep;
 use tpm_state_text::{RestoreFault, StateFault, restored};
 
-/// The same body in the frame of version 1. Without a layer, the bodies of both versions are the
-/// same.
+/// The body of this state text in the frame of version 1. Without a layer, the bodies of both
+/// versions are the same.
 fn earlier(alloc: Global, text: &[u8]) -> Result<Vec<u8>, Fail> {
     if text.len() != 1_733 {
         return Err(Fail::new("no such text"));

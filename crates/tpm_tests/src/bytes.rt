@@ -9,8 +9,8 @@ use tpm_bytes::{Cursor, Full, Short, Sink, SizedFault, Tap};
 /// one more byte.
 const TEXT: &[u8] = b"\x10\x21\x32\x43\x54\x65\x76\x87\x98\xa9\xba\xcb\xdc\xed\xfe\x0f";
 
-/// Returns the same bytes from a call, so that the prover knows nothing about them and computes
-/// nothing.
+/// Returns its argument. The prover knows nothing about bytes that a call returns, and therefore
+/// computes nothing with them.
 fn unknown(bytes: &[u8]) -> &[u8] {
     bytes
 }
@@ -63,7 +63,7 @@ fn a_sink_takes_what_fits(rt: HostRuntime) {
     );
 }
 
-/// What a device does when it is called.
+/// What a tap's device does when it is called.
 #[derive(Clone, Copy)]
 enum Conduct {
     /// The device reads or writes one byte, if the buffer has space for it.
@@ -83,8 +83,8 @@ impl Conduct {
     }
 }
 
-/// A reader and writer that behaves in each of these ways in turn, and then reads or writes
-/// nothing.
+/// A reader and writer that behaves at each call as the next of `conducts` says, and then reads or
+/// writes nothing.
 #[derive(Drop)]
 struct Device {
     conducts: &'static [Conduct],
@@ -235,8 +235,8 @@ impl Write for CountedDevice {
     }
 }
 
-/// The number of calls of a device that behaves in this way, for a read, for a write, and for a
-/// flush.
+/// How often a tap calls its device, which behaves in this way, for one read, for one write, and
+/// for one flush.
 fn calls_of(conduct: Conduct, bytes: &[u8]) -> [u32; 3] {
     let calls = 0;
     let mut read = Tap::new(CountedDevice { conduct, calls });

@@ -74,7 +74,7 @@ fn blocks_of_published_keys(rt: HostRuntime) {
     }
 }
 
-/// The S-box has the printed values for 00 and 53 (figure 7).
+/// The S-box has the values that figure 7 prints for 00 and 53.
 fn printed_bytes()
     ensures first { sub_byte 0x00 ≡ 0x63 }
     ensures other { sub_byte 0x53 ≡ 0xed }

@@ -23,15 +23,13 @@ const KEY: &[u8] = b"\0\x10\0\x08\0\x0b\0\x04\x04\x40\0\0\0\x05\0\x0b\0\0";
 /// The public area of a storage key, in a sized buffer.
 const STORAGE: &[u8] = b"\0\x12\0\x25\0\x0b\0\x03\0\x72\0\0\0\x06\0\x80\0\x43\0\0";
 
-/// The input that accompanies a template, in a sized buffer: no authorization value, and the key
-/// "Jefe".
+/// The inSensitive of a template, in a sized buffer: no authorization value, and the key "Jefe".
 const JEFE: &[u8] = b"\0\x08\0\0\0\x04Jefe";
 
-/// The input that accompanies a template, in a sized buffer: neither an authorization value nor a
-/// key.
+/// The inSensitive of a template, in a sized buffer: neither an authorization value nor a key.
 const NOTHING: &[u8] = b"\0\x04\0\0\0\0";
 
-/// The Name of the HMAC key, derived from that seed.
+/// The Name of the HMAC key that is derived from `SEED`.
 const NAME: &[u8] = b"\x00\x0b\x42\xa3\x3b\x43\xc0\xf6\x6b\x39\x4f\x97\x10\x5e\x96\x92\x5d\x1f\
     \xa1\xd9\xf0\x3f\x3a\xa8\xf2\xaf\x35\xa5\xfe\x87\x06\x03\x1f\x5e";
 
@@ -43,7 +41,7 @@ fn given_of(text: &[u8]) -> Option<SensitiveCreate> {
     SensitiveCreate::read_sized(&mut Cursor::new(text)).ok()
 }
 
-/// The primary object that is made from a template and its other input.
+/// The primary object that is derived from a template and its inSensitive.
 fn primary_of(template: &[u8], given: &[u8]) -> Option<Object> {
     let (template, given) = (public_of(template)?, given_of(given)?);
     Some(derive_primary(HierarchyHandle::Owner, SEED, &template, &given))
@@ -105,7 +103,7 @@ fn a_primary_object_has_the_name_that_was_computed_outside(rt: HostRuntime) {
     check(&rt, is_named(primary_of(STORAGE, NOTHING), NAME), false);
 }
 
-/// Whether the template is refused, and whether its other input is refused.
+/// Whether the template is refused, and whether its inSensitive is refused.
 fn faults_of(template: &[u8], given: &[u8]) -> Option<(bool, bool)> {
     let (template, given) = (public_of(template)?, given_of(given)?);
     let is_fixed_wrongly = check_template(&template, false) == Err(TemplateFault::Attributes);

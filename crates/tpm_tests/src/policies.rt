@@ -38,14 +38,14 @@ const PCR: &[u8] = b"\x09\x3c\xeb\x41\x18\x1d\x47\x80\x88\x62\xd7\x94\x62\x68\xe
 const ZEROS_HASH: &[u8] = b"\x66\x68\x7a\xad\xf8\x62\xbd\x77\x6c\x8f\xc1\x8b\x8e\x9f\x8e\x20\
     \x08\x97\x14\x85\x6e\xe2\x33\xb3\x90\x2a\x59\x1d\x0d\x5f\x29\x25";
 
-/// The digests of the command code and of the locality, as parameters of TPM2_PolicyOR.
+/// The policy digests `COMMAND_CODE` and `LOCALITY`, as the list in TPM2_PolicyOR.
 const BRANCHES: &[u8] = b"\x00\x00\x00\x02\
     \x00\x20\x5b\xe1\x5b\x50\xc0\x23\x8a\x19\xfb\x28\x12\xee\x10\xf5\xed\xa0\
     \x6b\x24\xd8\x8f\xd4\xdf\x45\x14\xe4\xba\xdf\x55\x15\xa6\xdc\x11\
     \x00\x20\x77\x64\x49\x1d\x5a\xfe\x71\x90\x35\xc0\xc0\x9f\xaa\x90\xc3\x49\
     \x0a\x74\x75\xd6\xdf\x42\x2b\x80\x4e\x8f\x68\xaa\x65\xf8\x93\x4f";
 
-/// The policy digest of TPM2_PolicyOR over the command code and the locality.
+/// The policy digest of TPM2_PolicyOR over `BRANCHES`.
 const OR: &[u8] = b"\x5c\xd8\x1d\x2a\xc9\x60\x77\x5e\x3d\x72\xf3\x00\x07\xe7\xb0\x40\
     \x46\x21\x3b\x08\x17\xc4\x88\x82\x09\x81\x75\xbd\xb3\x05\xb3\xb5";
 
@@ -129,7 +129,7 @@ fn assert_all(state: &mut PolicyState, selection: &PcrSelection) -> Result<(), A
     state.locality(HashAlg::Sha256, 0x01)
 }
 
-/// A use of that policy in which every condition from this number on fails.
+/// A use of the policy of `assert_all`, in which every condition from this number on fails.
 fn spoiled_from(condition: u8, digest: &[u8], locality: Locality) -> Use<'_> {
     let entity = EntityPolicy {
         hash: HashAlg::Sha256,
@@ -162,7 +162,7 @@ fn spoiled_from(condition: u8, digest: &[u8], locality: Locality) -> Use<'_> {
     }
 }
 
-/// The refusals if every condition from this number on fails.
+/// For each condition by number: the refusal if it and every later condition fail.
 fn refusals() -> [(u8, Rc); 8] {
     let policy_fail = ResponseCode::PolicyFail.anywhere().at_session(1);
     [
@@ -184,7 +184,7 @@ fn pcr_0<R: Abort>(rt: &R) -> PcrSelection {
         .expect(rt, "PCR 0")
 }
 
-/// The policy with all of these assertions.
+/// A policy with all assertions of `assert_all`.
 fn asserted<R: Abort>(rt: &R) -> PolicyState {
     let mut state = PolicyState::new(HashAlg::Sha256);
     check(rt, assert_all(&mut state, &pcr_0(rt)), Ok(()));

@@ -222,7 +222,7 @@ fn rewritten_digests(text: &[u8]) -> Option<ArrayVec<u8, 62>> {
     Some(sink.into_bytes())
 }
 
-/// Whether a text is present and equals this one.
+/// Whether `bytes` exists and equals this text.
 fn is_text<const N: usize>(bytes: Option<ArrayVec<u8, N>>, text: &[u8]) -> bool {
     match bytes {
         Some(bytes) => bytes.as_slice() == text,

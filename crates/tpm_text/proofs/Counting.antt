@@ -1,4 +1,4 @@
--- The number of pieces of a text has the same four-byte encoding modulo 2^32.
+-- The four-byte encoding of a number of pieces is that of the number modulo 2^32.
 use Rattle.std.proofs.Common.{◌≡◌, ℕ, ◌+◌, ◌/◌, ◌%◌, ◌==◌, List, length, refl, sym, ap, ◌∙◌, arith}
 use Rattle.std.specs.Int.{w32, to_be_bytes}
 use Rattle.std.specs.List.{count_by}

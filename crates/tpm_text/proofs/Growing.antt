@@ -44,7 +44,7 @@ drafted_behind front (Ok bytes) old middle (Err fault) new m h = absurd h
 drafted_behind front (Err fault) old middle (Ok done) new m h = absurd h
 drafted_behind front (Err fault) old middle (Err found) new m h = h
 
--- If a size is written, and then as many bytes, a sized buffer is written.
+-- If a size is written, followed by that many bytes, a sized buffer is written.
 pub sized_behind : {E : Type 0} (count : ℕ) (rest : Result (List ℕ) E) (old middle : Option (List ℕ)) (result : Result (Unit {0}) E) (new : Option (List ℕ))
     → ((bytes : List ℕ) → rest ≡ Ok bytes → count ≡ length bytes) → middle ≡ grown old (to_be_bytes w16 count) → Drafts rest middle result new
     → Drafts (rest >>= λ bytes. Ok (sized_text bytes)) old result new

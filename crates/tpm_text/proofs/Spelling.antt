@@ -58,7 +58,8 @@ octet_below piece octet e =
 
 -- ---- entries
 
--- The numbers of an entry that was read fit their fields; the lemma after it covers its sizes.
+-- The handle and the attributes of an entry fit their fields. The lemma `sized_entries` covers the
+-- sizes of its nonce and HMAC.
 abbrev Spells : Entry → Type 0
 Spells entry = (entry.session.number < 2 ^ 32) × (entry.attributes.octet < 2 ^ 8)
 
@@ -103,7 +104,8 @@ entries_spell (suc most) (token ∷ tokens) x e = by (entries_spell most tokens)
         subst (λ (x : List Entry × List Token). (length x.0 ≤ suc most) × AllByRecursion Spells x.0) (ok_is (first.0 ∷ others.0.0, others.0.1) x others.2) (omega (arith, rest.0), (one, rest.1))
     by fewer false e = subst (λ (x : List Entry × List Token). (length x.0 ≤ suc most) × AllByRecursion Spells x.0) (ok_is ([], token ∷ tokens) x e) (omega arith, tt)
 
--- If the text of all entries fits in its size field, the fields of each entry fit in theirs.
+-- If the size of all entries together fits in 16 bits, so do the sizes of each entry's nonce and
+-- HMAC.
 sized_entries : (entries : List Entry) → AllByRecursion Spells entries → length (entries_text entries) < 2 ^ 16 → AllByRecursion IsEntry entries
 sized_entries [] each small = tt
 sized_entries (entry ∷ entries) each small =

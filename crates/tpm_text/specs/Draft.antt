@@ -30,8 +30,8 @@ unfoldable pub finished : Tag → CommandCode → Option (List ℕ) → Result (
 finished tag code None = Err TooLong
 finished tag code (Some text) = Ok (header_text tag (length text) code ++ drop 10 text)
 
--- A write added the text of its definition to the draft, or failed with the fault of its
--- definition.
+-- A call appended to the draft the text that its definition returns, or failed with the
+-- definition's fault.
 abbrev pub Drafts : {E : Type 0}
     → Result (List ℕ) E → Option (List ℕ) → Result (Unit {0}) E → Option (List ℕ) → Type 0
 Drafts (Ok text) old (Ok done) new = new ≡ grown old text

@@ -10,7 +10,7 @@ abbrev pub fault_at : ℕ → TokenFault → AsmFault
 fault_at column token.Bad = line.BadField column
 fault_at column token.Range = line.Range column
 
--- the result of reading a token at this column
+-- the result of reading a token, with the token's column added to a fault
 abbrev pub at_column : {A : Type 0} → ℕ → Result A TokenFault → Result A AsmFault
 at_column column (Ok x) = Ok x
 at_column column (Err fault) = Err (fault_at column fault)

@@ -16,8 +16,8 @@ bytes_in token =
     if is_word (codes "-") token then Ok []
     else (if length token == 0 then Err Bad else hex_in token)
 
--- A check succeeded, and its definition returns a value; or it failed with the fault of its
--- definition.
+-- A check succeeded if its definition returns a value, and otherwise failed with the definition's
+-- fault.
 abbrev pub IsChecked : {X E : Type 0} → Result X E → Result (Unit {0}) E → Type 0
 IsChecked (Ok x) (Ok done) = Unit {0}
 IsChecked (Err fault) (Err found) = found ≡ fault

@@ -26,8 +26,8 @@ token_in read (token ∷ tokens) = do
   value ← at_column token.column (read token.text)
   Ok (value, tokens)
 
--- the command that the first token names; an unknown name has a fault of its own. Each line has a
--- first token, which may be empty
+-- the command that the first token names; the fault BadName if there is no such command. Each line
+-- has a first token, which may be empty
 abbrev pub name_in : List Token → Result (CommandCode × List Token) AsmFault
 name_in [] = Err fault.BadName
 name_in (token ∷ tokens) = do
@@ -68,7 +68,7 @@ abbrev pub ended : List Token → Result (Unit {0}) AsmFault
 ended [] = Ok tt
 ended (token ∷ tokens) = Err (fault.BadField token.column)
 
--- the command that a line encodes, or the first fault from the left
+-- the command that a line encodes, or the line's first fault from the left
 unfoldable pub spelled : List ℕ → Result Whole AsmFault
 spelled line = do
   name ← name_in (tokens_of line)

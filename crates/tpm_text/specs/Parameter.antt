@@ -50,7 +50,8 @@ symmetric_in word =
     else (if is_word (codes "xor-sha256") word then Ok (symmetric.Xor Sha256)
     else Err Bad)))
 
--- the encoding of a symmetric definition, from the word for how a session encrypts parameters
+-- the encoding of a symmetric definition, from its word, which says how a session encrypts
+-- parameters
 unfoldable pub symmetric_word_text : List ℕ → Result (List ℕ) TokenFault
 symmetric_word_text word = do
   definition ← symmetric_in word

@@ -51,7 +51,7 @@ each_in read (piece ∷ pieces) = do
   others ← each_in read pieces
   Ok (first ∷ others)
 
--- The first element was taken, or nothing remained.
+-- The first element was removed from the list and returned, or the list was empty.
 abbrev pub TakesFirst : {X Y : Type 0} → (X → Y) → List Y → Option X → List Y → Type 0
 TakesFirst view old None new = (old ≡ []) × (new ≡ [])
 TakesFirst view old (Some x) new = old ≡ view x ∷ new

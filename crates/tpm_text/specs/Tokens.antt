@@ -1,4 +1,4 @@
--- The tokens of a line that its reader has not yet taken.
+-- The tokens of a line that are not read yet.
 use Rattle.std.specs.Prelude.{◌+◌, ◌-◌, List, [], length}
 use Rattle.std.specs.Option.{option_map_or}
 use Rattle.tpm_text.specs.declared.token.Tokens.{Tokens}

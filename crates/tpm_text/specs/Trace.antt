@@ -1,5 +1,5 @@
--- The trace of an event: one line with the command, its locality, the time before it, the row of
--- the table that it took, and the response code.
+-- The trace of an event: one line with the command, its locality, the time before it, the check
+-- that refused it, and the response code.
 use Rattle.std.specs.Prelude.{◌≡◌, ℕ, ◌-◌, ◌≤◌, ◌==◌, nat_le, if◌then◌else◌, ◌⊎◌}
 use Rattle.std.specs.Prelude.{List, ◌++◌, length, codes, option_map, unwrap_or}
 use Rattle.std.specs.List.{slice_range}

@@ -14,7 +14,8 @@ use tpm_number::TokenFault;
 use tpm_types::BUFFER_LIMIT;
 use tpm_types_command::{HEADER_SIZE, Tag};
 
-/// The encoding of a command that is being written, or the fact that it has become too long.
+/// The encoding of a command that is being written. If the command becomes too long, only that is
+/// recorded.
 #[derive(Drop)]
 pub struct Draft {
     bytes: [u8; BUFFER_LIMIT],

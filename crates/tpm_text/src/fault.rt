@@ -12,7 +12,7 @@ use tpm_number::TokenFault;
 pub enum AsmFault {
     /// The first token is not the name of a command.
     BadName,
-    /// The token at this column is not the expected one, or no token is expected there.
+    /// The token at this column is not of the expected kind, or no token is expected there.
     BadField { column: usize },
     /// The line ends before an expected token.
     Missing,

@@ -21,7 +21,7 @@ use std::alloc::Global;
 use tpm_commands::{CommandCode, ParameterKind};
 use tpm_types_command::Tag;
 
-/// Writes `count` handles, one for each token.
+/// Writes `count` handles, each from one token.
 fn put_handles(count: usize, tokens: &mut Tokens, draft: &mut Draft) -> Result<(), AsmFault>
     ensures { DraftsRead handles_text (handles_in count (tokens_left tokens.old))
         (drafted draft.old) result (drafted draft.new) (tokens_left tokens.new) }
@@ -50,7 +50,7 @@ fn put_entries(most: usize, tokens: &mut Tokens, draft: &mut Draft) -> Result<()
     put_entries(most - 1, tokens, draft)
 }
 
-/// Writes a parameter of each kind, one for each token.
+/// Writes one parameter of each of these kinds, each from one token.
 fn put_parameters(
     kinds: &[ParameterKind],
     tokens: &mut Tokens,
@@ -67,8 +67,8 @@ fn put_parameters(
     put_parameters(others, tokens, draft)
 }
 
-/// Writes the authorization area if the next token begins like an entry. Returns the tag that
-/// says whether it did.
+/// Writes the authorization area if the next token begins like an entry. Returns the command's tag,
+/// which says whether there is an authorization area.
 fn put_authorization(tokens: &mut Tokens, draft: &mut Draft) -> Result<Tag, AsmFault>
     ensures { DraftsSessions (entry_tokens_in 3 (tokens_left tokens.old)) (drafted draft.old)
         result (drafted draft.new) (tokens_left tokens.new) }
@@ -82,7 +82,7 @@ fn put_authorization(tokens: &mut Tokens, draft: &mut Draft) -> Result<Tag, AsmF
     Ok(Tag::Sessions)
 }
 
-/// The command that the first token names.
+/// Parses the first token, which names the command.
 fn read_name(tokens: &mut Tokens) -> Result<CommandCode, AsmFault>
     ensures { ReadsTokens (λ code. code) (name_in (tokens_left tokens.old)) result
         (tokens_left tokens.new) }

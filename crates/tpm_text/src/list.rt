@@ -113,8 +113,8 @@ fn separator_count(separator: u8, text: &[u8]) -> usize
     text.iter().filter(|byte| **byte == separator).count()
 }
 
-/// The number of pieces between separators in a text, modulo 2^32. If a text has more pieces than
-/// fit in 32 bits, its command is too long.
+/// The number of pieces between separators in a text, modulo 2^32. The remainder is enough: if a
+/// text has more pieces than fit in 32 bits, the command is too long anyway.
 fn piece_count(separator: u8, text: &[u8]) -> u32
     ensures { to_be_bytes w32 result ≡ to_be_bytes w32 (length (pieces_of separator text.now)) }
 {

@@ -43,7 +43,7 @@ pub struct Token<'a> {
 pub struct Tokens<'a> {
     /// The size of the whole line.
     size: usize,
-    /// The text after the last space that was passed; None after the last token was taken.
+    /// The text of the remaining tokens; None if no token remains.
     rest: Option<&'a [u8]>,
     ghost within: { ForSome rest (λ text. length text.now ≤ size) },
     ghost small: { size < 2 ^ 63 },
@@ -52,7 +52,7 @@ pub struct Tokens<'a> {
 impl<'a> Token<'a> {
     ghost use Rattle.tpm_text.specs.Fault.{at_column};
 
-    /// Returns the result of reading the token. A fault becomes a fault at the token's column.
+    /// Returns the result of reading this token. Adds the token's column to a fault.
     pub fn told<T>(self, read: Result<T, TokenFault>) -> Result<T, AsmFault>
         ensures { result ≡ at_column self.entry.column read }
     {
@@ -79,14 +79,14 @@ impl<'a> Tokens<'a> {
         }
     }
 
-    /// Takes the next token, or fails if there is none.
+    /// Removes and returns the next token, or fails if there is none.
     pub fn wanted(&mut self) -> Result<Token<'a>, AsmFault>
         ensures { Takes token_of (tokens_left self.old) result (tokens_left self.new) }
     {
         self.next().ok_or(AsmFault::Missing)
     }
 
-    /// Takes the next token, if it begins like an entry.
+    /// Removes and returns the next token if it begins like an entry.
     pub fn next_entry(&mut self) -> Option<Token<'a>>
         ensures { TakesEntry token_of (tokens_left self.old) result (tokens_left self.new) }
     {
@@ -107,7 +107,7 @@ impl<'a> Tokens<'a> {
         ahead.next_entry().is_some()
     }
 
-    /// Takes the next token.
+    /// Removes and returns the next token.
     pub fn next(&mut self) -> Option<Token<'a>>
         ensures { TakesFirst token_of (tokens_left self.old) result (tokens_left self.new) }
     {

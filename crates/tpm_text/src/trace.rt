@@ -1,5 +1,5 @@
-//! The trace of an event: one line with the command, its locality, its row in the table and its
-//! response code.
+//! The trace of an event: one line with the command, its locality, the elapsed time, the check that
+//! refused it, and its response code.
 
 ghost use Rattle.std.specs.Prelude.{◌≡◌, ℕ, ◌+◌, ◌≤◌, ◌++◌, ◌⊎◌, Bool, length, codes, IfOk};
 ghost use Rattle.std.specs.Fmt.{decimal};
@@ -25,7 +25,7 @@ use tpm_step::{Event, Outcome, Row};
 /// A line that traces an event.
 pub type Trace = ArrayString<64>;
 
-/// Returns the trace of an event and its outcome, in new memory, as [`trace_text`] does.
+/// Returns the trace of an event and its outcome, like [`trace_text`], but as a `String`.
 pub fn trace_line(alloc: Global, event: &Event, outcome: &Outcome) -> Result<String, NoMemory>
     requires row { IsRow outcome.now.row }
     requires response { IsAnswered (plain_event event.now) outcome.now.response.items }

@@ -58,8 +58,8 @@ size_bounds size =
 some_is : {X : Type 0} (x y : X) → Some x ≡ Some y → x ≡ y
 some_is x y e = cc
 
--- a buffer is between 6 and 4,096 bytes long; until its first six bytes are complete, its size is
--- unknown
+-- A buffer of known size is between 6 and 4,096 bytes long. The size is known as soon as the first
+-- six bytes are.
 buffer_bounds : (bytes : List ℕ) (n : ℕ) → buffer_size bytes ≡ Some n → (6 ≤ n) × (n ≤ buffer_limit)
 unfolding command_size
 buffer_bounds (t ∷ u ∷ a ∷ b ∷ c ∷ d ∷ bytes) n is = rw (← some_is _ _ is) (size_bounds (from_be_bytes w32 (a ∷ b ∷ c ∷ d ∷ [])))
@@ -91,7 +91,7 @@ completes done rest byte is = rw is refl
 length-one : (rest : List ℕ) (byte : ℕ) → length (rest ++ byte ∷ []) ≡ length rest + 1
 length-one rest byte = length-append rest (byte ∷ [])
 
--- If more bytes complete no buffer, the buffers of the cut are unchanged.
+-- If more bytes of a stream complete no buffer, its cut contains the same buffers as before.
 grows : (done : List (List ℕ)) (rest more all : List ℕ) → rest ++ more ≡ all → ((n : ℕ) → buffer_size all ≡ Some n → length all < n) → fold with_byte (begun done rest) more ≡ begun done all
 grows done rest [] all is less = ap (begun done) (sym (append-nil rest) ∙ is)
 grows done rest (byte ∷ more) all is less =
@@ -121,7 +121,8 @@ ends_here done grown more all n same here six =
     let last : is_last all ≡ is_last grown = rw (← same) (last_shorter grown more (omega (arith, here, six))) in
     rw (front, behind, last) refl
 
--- If more bytes complete a buffer, the cut gets this buffer and the buffers after it.
+-- If more bytes of a stream complete a buffer, its cut also contains that buffer and the buffers
+-- after it.
 completed : (done : List (List ℕ)) (rest more all : List ℕ) (n : ℕ) → rest ++ more ≡ all → buffer_size all ≡ Some n → length rest < n → n ≤ length all → fold with_byte (begun done rest) more ≡ fold with_byte (uncut (done ++ take n all ∷ []) (is_last all)) (drop n all)
 completed done rest [] all n is size less fits = absurd (omega (arith, ap length is, length-append rest []))
 completed done rest (byte ∷ more) all n is size less fits =
@@ -194,12 +195,12 @@ too_few n taken is = by (nat_le n (length taken)) refl is
     by true fits e = absurd cc
     by false fits e = leb-false n (length taken) fits
 
--- If the next buffer is not complete, there are fewer bytes than its size, provided that the size
--- is known.
+-- If the next buffer is not complete but its size is known, fewer bytes than that were received.
 waits_for : (taken : List ℕ) → next_of (record { taken = taken; ended = false }) ≡ None → (n : ℕ) → buffer_size taken ≡ Some n → length taken < n
 waits_for taken none n size = too_few n taken (next_is taken (Some n) None size none)
 
--- If the next buffer of a stream is not complete, all bytes of the stream are the rest of its cut.
+-- If the next buffer of a stream is not complete, the cut of the stream has no further buffer, and
+-- all bytes of the stream are its rest.
 pub cut_last : (done : List (List ℕ)) (s : Stream) → next_of s ≡ None → cut_with done s ≡ record { buffers = done; rest = s.taken; ended = s.ended }
 cut_last done s none = by s.ended s.taken none
   where
@@ -252,14 +253,14 @@ next_shorter s c is = by s.ended s.taken (buffer_size s.taken) refl is
 pub cut_fed : (done : List (List ℕ)) (s : Stream) (bytes : List ℕ) → fold with_byte (cut_with done s) bytes ≡ cut_with done (fed s bytes)
 cut_fed done s bytes = sym (fold-append with_byte (uncut done s.ended) s.taken bytes)
 
--- If the bytes that were read consist of these executed buffers and the bytes of this stream, this
--- still holds after one more read, which adds to the stream.
+-- Suppose that the bytes read so far consist of the executed buffers `done` and the stream `s`.
+-- After one more read, they consist of `done` and `s` with the new bytes.
 pub read_more : (read bytes : List ℕ) (done : List (List ℕ)) (s : Stream) → cut_of read ≡ cut_with done s → cut_of (read ++ bytes) ≡ cut_with done (fed s bytes)
 read_more read bytes done s is =
     fold-append with_byte (uncut [] false) read bytes ∙ ap (λ (c : Cutting). fold with_byte c bytes) is ∙ cut_fed done s bytes
 
--- If one more buffer is cut off a stream from which buffers were cut off, all of them are cut off
--- the original stream.
+-- If some buffers were cut off a stream, and then one more, all of them were cut off the original
+-- stream.
 pub cuts_one : (s t : Stream) (done : List (List ℕ)) (u : Stream) (c : Cut) → CutsTo s done t → next_of t ≡ Some c → u ≡ c.after → CutsTo s (done ++ c.buffer ∷ []) u
 cuts_one s t done u c to is same before =
     to before ∙ cut_next (before ++ done) t c is

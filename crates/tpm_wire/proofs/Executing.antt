@@ -68,7 +68,7 @@ pub written_one : (held mid holds : Option (List ℕ)) (executions : List Execut
 written_one held mid holds executions r new buffer host outcome written also =
     subst (Appends held holds) (sym (responses_one executions (execution_of r buffer host new outcome))) (Appends-trans _ _ _ _ _ written also)
 
--- If the writer fails at one more response, a prefix of this last response was written.
+-- If the writer fails while writing one more response, only a prefix of that response was written.
 pub lost_last : (held mid holds : Option (List ℕ)) (executions : List Execution) (r new : Record) (buffer : List ℕ) (host : Host) (outcome : Outcome) → Appends held mid (responses_of executions) → AppendsFront mid holds outcome.response.items → LosesLast held holds (executions ++ execution_of r buffer host new outcome ∷ [])
 lost_last held mid holds executions r new buffer host outcome written cut =
     (executions, execution_of r buffer host new outcome, refl, cut.0, cut.1, cut.2, Appends-trans _ _ _ _ _ written cut.3)
@@ -106,8 +106,8 @@ holds_back_behind held mid holds first more written (answered, last, are, also) 
   written_more held mid holds first answered written also,
 )
 
--- If serving ended with a fault after further executions, all executions together ended with this
--- fault.
+-- If serving continues with further executions and these end with a fault, serving as a whole ends
+-- with that fault.
 pub ends_so : {F : Type 0} (g : Asking F) (held mid holds : Option (List ℕ)) (before after reader : Marks) (cut : Cutting) (asked at : F) (first more : List Execution) (asking : F) (left : Stream) (e : ServeFault) → cut ≡ cut_with (buffers_of (first ++ more)) left → AsksForEach g asked first at → Appends held mid (responses_of first) → Finishes g mid holds before after at more asking left (Err e) → Ends g held holds reader after cut asked (first ++ more) asking (Err e)
 ends_so g held mid holds before after reader cut asked at first more asking left fault.Write is asks written f =
     (are_first cut (buffers_of (first ++ more)) left is, f.1, asks_more g asked at asking first more asks f.0, loses_behind held mid holds first more written f.2)
@@ -127,7 +127,7 @@ notes_one notes old mid new executions one told also = FoldsTo-push notes old ex
 pub notes_more : {S : Type 0} (notes : S → Execution → S → Type 0) (old mid new : S) (first more : List Execution) → NotesEach notes old first mid → NotesEach notes mid more new → NotesEach notes old (first ++ more) new
 notes_more notes old mid new first more told also = folds_on notes old mid new first more told also
 
--- If the response of one more execution is not delivered, serving ends with that fault.
+-- If the response of one more execution cannot be delivered, serving ends with that fault.
 pub unanswered : {F S : Type 0} (g : Asking F) (notes : S → Execution → S → Type 0) (failed : S → Bool) (held mid holds : Option (List ℕ)) (before at after : Marks) (asked asking : F) (witness told new : S) (executions : List Execution) (r left : Record) (buffer : List ℕ) (host : Host) (outcome : Outcome) (stream : Stream) (e : ServeFault) → AsksForEach g asked (executions ++ execution_of r buffer host left outcome ∷ []) asking → Appends held mid (responses_of executions) → NotesEach notes witness executions told → Delivers notes failed mid holds at after (execution_of r buffer host left outcome) told (Err e) new → Finishes g held holds before after asked (executions ++ execution_of r buffer host left outcome ∷ []) asking stream (Err e) × Notes notes failed witness (executions ++ execution_of r buffer host left outcome ∷ []) new (Err e)
 unanswered g notes failed held mid holds before at after asked asking witness told new executions r left buffer host outcome stream fault.Write asks written noted delivers =
     ((asks, delivers.2, lost_last held mid holds executions r left buffer host outcome written delivers.1), notes_one notes witness told new executions (execution_of r buffer host left outcome) noted delivers.0)
@@ -139,8 +139,8 @@ unanswered g notes failed held mid holds before at after asked asking witness to
 unanswered g notes failed held mid holds before at after asked asking witness told new executions r left buffer host outcome stream fault.Read asks written noted delivers = absurd delivers
 unanswered g notes failed held mid holds before at after asked asking witness told new executions r left buffer host outcome stream fault.Host asks written noted delivers = absurd delivers
 
--- If a witness was notified of further executions, and this ended with a fault, notifying it of all
--- executions ended with this fault.
+-- If notifying a witness of further executions ends with a fault, then notifying it of all
+-- executions ends with that fault.
 pub notes_so : {S : Type 0} (notes : S → Execution → S → Type 0) (failed : S → Bool) (old mid new : S) (first more : List Execution) (e : ServeFault) → NotesEach notes old first mid → Notes notes failed mid more new (Err e) → Notes notes failed old (first ++ more) new (Err e)
 notes_so notes failed old mid new first more fault.Save told (others, last, are, at, also, fails) =
     (first ++ others, last, ap (λ (l : List Execution). first ++ l) are ∙ sym (append_assoc first others (last ∷ [])), at, notes_more notes old mid at first others told also, fails)

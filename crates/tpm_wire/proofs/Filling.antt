@@ -1,4 +1,4 @@
--- Lemmas about the effects of a single read on a reader and its marks.
+-- Lemmas about the effect of one read on a reader and its flags (`Marks`).
 use Rattle.std.proofs.Common.{◌≡◌, ◌≢◌, ℕ, ◌+◌, ◌<◌, List, [], ◌∷◌, ◌++◌, length, Option, Ok, true, subst, append-nil, arith}
 use Rattle.std.proofs.lemmas.Grind.{common_steps}
 use Rattle.std.specs.Io.KnownBytes.{Consumes}

@@ -29,7 +29,7 @@ use Rattle.tpm_wire.specs.declared.turn.Turn.TheVariants.{Answer, Ended, Wants}
 use Rattle.tpm_wire.proofs.Cutting.{buffers_stay, cut_next, read_more}
 use Rattle.tpm_wire.proofs.Folds.{folds_on}
 
--- The lists of lives and of streams have the same size, and each connection is served.
+-- There are as many lives as streams, and `IsServed` holds for each connection.
 record Serve (streams : List (Option Stream)) (lives : List (Option Life)) : Type 0 where
   pub many : length lives ≡ length streams
   pub each : (number : ℕ) → IsServed (at_place streams number) (at_place lives number)
@@ -67,7 +67,7 @@ abbrev Happens : Bool → Record → Event → Record → Type 0
 Happens can old (Executed plain_event outcome) new = Executes can old plain_event (outcome_step new outcome)
 Happens can old PowerCycled new = new ≡ cycled old
 
--- A call led the machine through these events, and each connection is served after the call.
+-- A call caused these events on the machine, and `Serve` holds after the call.
 record Led (can : Bool) (old new : Wire) (lives : List (Option Life)) (events : List Event) : Type 0 where
   pub machine : FoldsTo (Happens can) old.machine events new.machine
   pub served : Serve new.streams lives
@@ -220,12 +220,13 @@ none_served (suc n) (suc number) = none_served n number
 new_served : (r : Record) → Serve (new_wire r).streams (free 8)
 new_served r = record { many = refl; each = none_served 8 }
 
--- After every schedule of calls on a new mux, the schedule's events have led to the present state,
--- and each connection is served.
+-- After every schedule of calls on a new mux, the machine has the state to which the schedule's
+-- events lead, and `Serve` holds for its connections.
 led_anew : (can : Bool) (r : Record) (calls : List Call) (new : Wire) → Schedules can (new_wire r) calls new → Led can (new_wire r) new (lives_after_all (free 8) calls) (events_in (free 8) calls)
 led_anew can r calls new run = schedule_led can (new_wire r) new (free 8) calls (new_served r) run
 
--- After every schedule, each connection is served.
+-- After every schedule, each connection has executed its buffers in order, one for each of its
+-- answers.
 pub schedules_served : SchedulesAreServed
 schedules_served can r calls new run = (led_anew can r calls new run).served.each
 
@@ -243,7 +244,7 @@ executions_of can old new (PowerCycled ∷ events) is run =
     let (executions, are, leads) = executions_of can (cycled old) new events executes.is_record others in
     (power_cycle old ∷ executions, (refl, are), (refl, executes, leads))
 
--- The machine has the record to which the events of a schedule lead.
+-- After every schedule of calls, the machine has the record to which the schedule's events lead.
 pub schedules_lead : SchedulesLead
 schedules_lead can r calls new is run =
     let (executions, are, leads) = executions_of can r new.machine (events_in (free 8) calls) is (led_anew can r calls new run).machine in
@@ -262,8 +263,8 @@ happens_run r new (Executed plain_event outcome ∷ events) run =
 happens_run r new (PowerCycled ∷ events) run =
     happens_run run.0 new events run.2 ∙ ap (λ (m : Record). after_all m (map plain_event_of events)) run.1
 
--- If no allocation can fail, the machine has the record to which a run of the schedule's events
--- leads.
+-- If no allocation can fail, running the schedule's events one after another results in the
+-- machine's record.
 pub schedules_run : SchedulesAreRuns
 schedules_run r calls new run =
     happens_run r new.machine (events_in (free 8) calls) (led_anew false r calls new run).machine

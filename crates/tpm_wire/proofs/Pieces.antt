@@ -28,8 +28,7 @@ one_piece done more pieces read bytes s run is none lives some fits =
     FoldsTo-push (ReadsPiece (done ++ more)) [] pieces read bytes (read ++ bytes) (pieces_stay done more [] pieces read run)
     (refl, some, omega (arith, rest, fits, length-append s.taken bytes), ap (λ (c : Cutting). c.ended) whole ∙ lives, first_still _ done more first)
 
--- The pieces read so far still meet `ReadsPiece` after one more piece is read and more buffers are
--- executed.
+-- After one more piece is read and more buffers are executed, all pieces satisfy `ReadsPiece`.
 pub piece_more : (first more : List Execution) (pieces : List (List ℕ)) (read bytes : List ℕ) (s : Stream) → FoldsTo (ReadsPiece (buffers_of first)) [] pieces read → cut_of read ≡ cut_with (buffers_of first) s → next_of s ≡ None → s.ended ≡ false → 0 < length bytes → length (fed s bytes).taken ≤ buffer_limit → FoldsTo (ReadsPiece (buffers_of (first ++ more))) [] (pieces ++ bytes ∷ []) (read ++ bytes)
 piece_more first more pieces read bytes s run is none lives some fits =
     subst (λ (done : List (List ℕ)). FoldsTo (ReadsPiece done) [] (pieces ++ bytes ∷ []) (read ++ bytes)) (sym (buffers_more first more))

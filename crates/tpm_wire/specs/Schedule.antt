@@ -86,7 +86,7 @@ pub data Event : Type 0 where
   Executed : (plain_event : PlainEvent) (outcome : Outcome) → Event
   PowerCycled : Event
 
--- the events of a call: a turn that returned an answer executed the connection's due buffer
+-- the events of a call: if a turn returned an answer, it executed the buffer that was due
 abbrev pub executed : Option Life → Host → Outcome → List Event
 executed None host outcome = []
 executed (Some l) host outcome = Executed (given (buffer_due l) host) outcome ∷ []
@@ -111,8 +111,8 @@ IsOf (Executed plain_event outcome) one =
     (one.event ≡ plain_event) × (one.seen ≡ outcome_step one.seen.after outcome)
 IsOf PowerCycled one = one.event ≡ Cycled
 
--- These events were executed in order, and led from the old record to the new one. If a history
--- leads to the old record, they are a stretch of events after that history.
+-- These events were executed in order, and led from the old record to the new one. If the old
+-- record follows a history, they satisfy `StretchFollows` after that history.
 pub record EventsLead (can : Bool) (old : Record) (events : List Event) (new : Record) : Type 0
   where
     pub executions : List Execution
@@ -148,7 +148,8 @@ abbrev pub plain_event_of : Event → PlainEvent
 plain_event_of (Executed plain_event outcome) = plain_event
 plain_event_of PowerCycled = Cycled
 
--- If no allocation can fail, the machine has the record to which the run of the events leads.
+-- If no allocation can fail, running the schedule's events one after another results in the
+-- machine's record.
 abbrev pub SchedulesAreRuns : Type 0
 SchedulesAreRuns = (r : Record) (calls : List Call) (new : Wire)
     → Schedules false (new_wire r) calls new

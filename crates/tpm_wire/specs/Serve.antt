@@ -51,8 +51,8 @@ Asks g old one new =
 abbrev pub AsksForEach : {F : Type 0} → Asking F → F → List Execution → F → Type 0
 AsksForEach g old executions new = FoldsTo (Asks g) old executions new
 
--- The host was asked once for each of these executions, in order, and then once more, when it
--- returned a fault.
+-- The host was asked once for each of these executions, in order, and then once more. The last time
+-- it returned a fault.
 abbrev pub AsksInVain : {F : Type 0} → Asking F → F → List Execution → F → Type 0
 AsksInVain {F} g old executions new =
     (last : F) × AsksForEach g old executions last × (e : HostFault) × Called g last tt (Err e) new
@@ -122,13 +122,13 @@ Finishes g held holds before after asked executions asking left (Err e) = ⊥
 abbrev pub AreFirst : List (List ℕ) → List (List ℕ) → Type 0
 AreFirst done buffers = (others : List (List ℕ)) × (buffers ≡ done ++ others)
 
--- how many more bytes fit into a connection after all of its complete buffers were executed
+-- the number of bytes that still fit into a connection after all its complete buffers were executed
 abbrev pub room_left : Cutting → ℕ
 room_left cut = buffer_limit - length cut.rest
 
--- One read delivered a piece, of at least one byte and at most the bytes that fit. The stream had
--- not ended with the bytes read before. All complete buffers in the bytes read before are among
--- those executed.
+-- One read returned a piece of the stream: at least one byte, and at most the bytes that fit. The
+-- stream had not ended with the bytes read before. All complete buffers in the bytes read before
+-- are among those executed.
 abbrev pub ReadsPiece : (done : List (List ℕ)) → (old piece new : List ℕ) → Type 0
 ReadsPiece done old piece new =
     (new ≡ old ++ piece) × (0 < length piece) × (length piece ≤ room_left (cut_of old))
@@ -182,11 +182,11 @@ Ends g held holds reader writer cut asked executions asking (Err fault.Host) =
     × AsksInVain g asked executions asking × Appends held holds (responses_of executions)
 Ends g held holds reader writer cut asked executions asking (Err fault.Full) = ⊥
 
--- A connection was served: pieces were read from the reader, each in one read, and no more than
--- the limit for one connection. The pieces are joined and cut into buffers, and the first of
--- these buffers were executed. The executions lead from the old record to the new one. If a
--- history leads to the old record, they are a stretch of events after that history. `Ends`
--- defines how serving ended.
+-- A connection was served: pieces were read from the reader, each in one read, and no more than the
+-- limit for one connection. The pieces are joined and cut into buffers, and the first of these
+-- buffers were executed. The executions lead from the old record to the new one. If the old record
+-- follows a history, the executions satisfy `StretchFollows` after it. `Ends` defines how serving
+-- ended.
 pub record Serves {F : Type 0} (g : Asking F) (can : Bool) (had has held holds : Option (List ℕ))
     (reader writer : Marks) (old : Record) (asked : F) (result : Result ℕ ServeFault)
     (new : Record) (asking : F) : Type 0

@@ -45,8 +45,8 @@ pub record Cutting : Type 0 where
   pub rest : List ℕ
   pub ended : Bool
 
--- a cut with these bytes after its buffers; they become one more buffer if they are a complete
--- one
+-- a cut with these bytes after its buffers; if they form a complete buffer, they become one more
+-- buffer of the cut
 abbrev pub with_rest : Cutting → List ℕ → Cutting
 with_rest c rest =
     if is_whole rest
@@ -63,7 +63,7 @@ with_byte c byte =
 abbrev pub uncut : List (List ℕ) → Bool → Cutting
 uncut buffers ended = record { buffers = buffers; rest = []; ended = ended }
 
--- the cut of a stream with these bytes, taken byte by byte
+-- the cut of a stream with these bytes, computed byte by byte
 abbrev pub cut_of : List ℕ → Cutting
 cut_of bytes = fold with_byte (uncut [] false) bytes
 
@@ -79,7 +79,7 @@ pub record Stream : Type 0 where
 abbrev pub opened : Stream
 opened = record { taken = []; ended = false }
 
--- how many of `count` bytes fit into a stream
+-- the number of bytes, out of `count`, that fit into a stream
 abbrev pub fitting : Stream → ℕ → ℕ
 fitting s count = min count (buffer_limit - length s.taken)
 

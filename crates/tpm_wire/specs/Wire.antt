@@ -37,7 +37,7 @@ wire_of record_of mux = record {
 abbrev pub new_wire : Record → Wire
 new_wire r = record { machine = r; streams = free 8 }
 
--- the machine and its connections, with this stream, or no stream, at a number
+-- a machine and its connections, after the stream with this number was replaced; None removes it
 abbrev pub with_stream : Wire → ℕ → Option Stream → Wire
 with_stream w number stream = record w { streams = slice_set w.streams number stream }
 
@@ -77,8 +77,8 @@ execution_of old buffer host new outcome =
 abbrev pub Waits : Stream → Wire → Result Turn NoConnection → Wire → Type 0
 Waits s old result new = (result ≡ Ok (if s.ended then Ended else Wants)) × (new ≡ old)
 
--- The cut buffer was executed with the host's values, and the stream after it is left. `can` says
--- whether an allocation can fail.
+-- The buffer that was cut off was executed with the host's values, and only the bytes after it are
+-- left in the stream. `can` says whether an allocation can fail.
 abbrev pub AnswersTurn : Bool → Cut → Wire → ℕ → Host → Result Turn NoConnection → Wire → Type 0
 AnswersTurn can c old number host (Ok (Answer outcome)) new =
     Executes can old.machine (given c.buffer host) (outcome_step new.machine outcome)

@@ -46,14 +46,14 @@ impl Connection {
         self.ended
     }
 
-    /// Returns the number of bytes that the connection can still take.
+    /// Returns the number of bytes that still fit into the connection.
     pub fn room(&self) -> usize
         ensures { result + length self.now.taken ≡ buffer_limit }
     {
         self.taken.remaining_capacity()
     }
 
-    /// Takes as many bytes of the piece as fit into the connection, and returns their number.
+    /// Appends as many bytes of `piece` as fit into the connection, and returns their number.
     pub fn feed(&mut self, piece: &[u8]) -> usize
         ensures count { result ≡ fitting self.old (length piece.now) }
         ensures after { self.new

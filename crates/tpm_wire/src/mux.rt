@@ -71,7 +71,7 @@ impl<K: Keep> Mux<K> {
         Ok(ConnectionNumber::of(place))
     }
 
-    /// Takes as many bytes of the piece as fit into the connection, and returns their number.
+    /// Appends as many bytes of `piece` as fit into the connection, and returns their number.
     pub fn feed(
         &mut self,
         connection: ConnectionNumber,
@@ -102,7 +102,7 @@ impl<K: Keep> Mux<K> {
         self.take_turn(connection, host)
     }
 
-    /// Takes a turn like [`Mux::turn`]. This contract does not mention histories.
+    /// Takes a turn like [`Mux::turn`], but its contract does not mention histories.
     #[inline(always)]
     fn take_turn(&mut self, connection: ConnectionNumber, host: Host) -> Result<Turn, NoConnection>
         ensures { Turns K.can_refuse (wire_of K.record_of self.old) (number_of connection) host
@@ -180,7 +180,7 @@ fn waiting(connection: &Connection) -> Turn
     }
 }
 
-/// Executes the next buffer of a connection where it is stored, notifies a witness, and removes the
+/// Executes the next buffer of a connection without copying it, notifies a witness, and removes the
 /// buffer.
 pub(crate) fn execute_front<K: Keep, S: Witness>(
     machine: &mut Machine<K>,

@@ -1,12 +1,12 @@
-//! What holds for every schedule: whatever the order of the calls, each connection's buffers are
-//! executed in order, each once, and the machine's history consists of these buffers.
+//! Laws about every schedule of calls: each connection's buffers are executed in order, each once,
+//! and the machine's history consists of these buffers.
 
 ghost use Rattle.tpm_wire.specs.Schedule.{SchedulesAreRuns, SchedulesAreServed, SchedulesLead};
 
-/// Whatever calls are made on a new mux, in whatever order, each connection's turns execute the
-/// buffers that its own bytes are cut into, in order, each once. The machine's state is the one to
-/// which these buffers and the power cycles lead, and the laws of a stretch of events hold for
-/// them. A proof only: it has no effect at run time.
+/// For any calls on a new mux, in any order: each connection's turns execute the buffers that its
+/// own bytes are cut into, in order, each once. The machine's state is the one to which these
+/// buffers and the power cycles lead, and the laws about sequences of events hold for them. The
+/// function is only a proof, and has no effect at run time.
 pub fn schedule_laws()
     ensures leads { SchedulesLead }
     ensures served { SchedulesAreServed }

@@ -27,7 +27,7 @@ use tpm_record::Keep;
 use tpm_step::Outcome;
 use tpm_types::BUFFER_LIMIT;
 
-/// The limit on a connection's reads that return bytes.
+/// The largest number of reads that return bytes, for one connection.
 const READS: u32 = 1_048_576;
 
 /// Serves one connection: reads buffers, executes each complete buffer with the host's values,
@@ -138,7 +138,7 @@ fn serve_connection<K: Keep, R: Read, W: Write, H: FnMut() -> Result<Host, HostF
 }
 
 /// Executes all complete buffers of a connection, notifies a witness of each, writes their
-/// responses, and returns their number. All executions reuse one outcome.
+/// responses, and returns their number. All executions reuse the memory of one outcome.
 fn answer_whole<K: Keep, W: Write, H: FnMut() -> Result<Host, HostFault>, S: Witness>(
     machine: &mut Machine<K>,
     connection: &mut Connection,

@@ -55,8 +55,7 @@ abbrev pub given_or : {A : Type 0} → Fault → Result A Error → Result A Fau
 given_or otherwise (Ok value) = Ok value
 given_or otherwise (Err error) = Err (fault_or otherwise error)
 
--- the fault of words that are refused: they are not a command line of the program, or memory ran
--- out
+-- the fault of a command line that is refused: its words are not valid, or memory ran out
 abbrev pub fault_of_arguments : ArgumentFault → Fault
 fault_of_arguments words.Usage = Usage
 fault_of_arguments words.NoMemory = Memory
@@ -92,8 +91,8 @@ abbrev pub fault_of_play : PlayFault → Fault
 fault_of_play (play.Script fault) = fault_of fault
 fault_of_play (play.Kept fault) = Kept fault
 
--- the exit status: 2 if the request makes no sense, 3 if a file, a socket, a stream or memory
--- caused the failure, 4 if a file that should be an image, a state text or a journal is not
+-- the exit status: 2 if the request is not valid, 3 if a file, a socket, a stream or memory caused
+-- the failure, 4 if a file that should be an image, a state text or a journal is not
 abbrev pub status_of : Fault → ℕ
 status_of Usage = 2
 status_of (ScriptLine number) = 2
@@ -108,7 +107,7 @@ status_of Memory = 3
 status_of (Kept fault) = if is_of_contents fault.said then 4 else 3
 status_of (Journal fault) = 4
 
--- the name of a line's fault, with the column of the token at fault
+-- the name of a line's fault, with the column of the wrong token
 abbrev pub asm_text : AsmFault → List ℕ
 asm_text line.BadName = codes "BadName"
 asm_text (line.BadField column) = codes "BadField " ++ decimal column

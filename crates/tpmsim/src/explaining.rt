@@ -9,7 +9,7 @@ use tpmsim_image::{Cause, Subject};
 /// The environment variable that requests a second line, if it is 1.
 const VARIABLE: &str = "TPMSIM_VERBOSE";
 
-/// A path in two parts.
+/// A path in two parts, which are printed one after the other.
 #[derive(Clone, Copy)]
 struct Path<'a> {
     front: &'a str,
@@ -90,7 +90,7 @@ fn front_of<'a>(arguments: &Arguments<'a>, subject: Subject) -> Option<&'a str> 
     }
 }
 
-/// Returns the place of the device of a run or of a service.
+/// Returns where the device of `run` or `serve` is kept.
 fn place_of<'a>(arguments: &Arguments<'a>) -> Option<Place<'a>> {
     match arguments {
         Arguments::Serve(service) => Some(service.place),

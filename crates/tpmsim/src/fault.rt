@@ -40,7 +40,7 @@ pub enum Fault {
     /// The file of random bytes could not be opened, or has too few bytes left.
     Entropy(Cause),
     Memory,
-    /// A task of the device in a folder failed.
+    /// An action on the device in a folder failed.
     Kept(KeptFault),
     /// A journal could not be executed again to its end.
     Journal(JournalFault),
@@ -55,7 +55,8 @@ pub enum JournalFault {
     HoldsNoImage,
     /// The head's state text is not a state text of this version of the program.
     HoldsNoState,
-    /// The head's state text is one of an earlier version, in which flushed objects could wait.
+    /// The head's state text has an earlier version. The commands after it were answered by the
+    /// completing layer of that version.
     HoldsEarlierState,
     /// The entry that begins at this line is damaged.
     IsDamaged(u64),
@@ -109,8 +110,9 @@ impl Fault {
         }
     }
 
-    /// Returns the exit status: 2 if the request makes no sense, 3 if a file, a socket, a stream or
-    /// memory caused the failure, 4 if a file that should be an image or a journal is not.
+    /// Returns the exit status: 2 if the request is not valid, 3 if a file, a socket, a stream or
+    /// memory caused the failure, 4 if a file that should be an image, a state text or a journal is
+    /// not.
     pub fn status(self) -> u8
         ensures { result ≡ status_of self }
     {

@@ -15,7 +15,7 @@ use Rattle.tpmsim_arguments.specs.declared.arguments.Arguments.TheVariants as ar
 use Rattle.tpmsim_arguments.specs.declared.fault.ArgumentFault.{ArgumentFault}
 use Rattle.tpmsim_arguments.specs.declared.fault.ArgumentFault.TheVariants.{Usage, NoMemory}
 
--- clap's matches of the program's command line are a function of the words
+-- the program's command line is simple (`is_simple`); therefore the words determine clap's matches
 pub program_is_simple : is_simple program ≡ true
 unfolding clap_on_literals
 program_is_simple = refl
@@ -32,7 +32,7 @@ not_found : {X : Type 0} (found : Option X) → ok_or found Usage ≡ Err Usage 
 not_found None e = refl
 not_found (Some y) e = absurd cc
 
--- no command line that clap accepts requests one of clap's texts
+-- the request to run a script is never a request for one of clap's texts, help or version
 no_run : (kind : ErrorKind) (trace : Bool) (script : Option Text) (storage : Option (Option Stored))
     → option_and_then (λ s. option_and_then (λ kept. Some (run s trace kept)) storage) script ≡ Some (tell kind) → ⊥
 no_run kind trace None storage e = cc

@@ -1,4 +1,4 @@
--- Lemmas about the arguments and subcommands of a command after one is added.
+-- Lemmas about a command to which an argument or a subcommand is added.
 use Rattle.std.proofs.Common.{◌≡◌, ◌∙◌, ap, ap₂, refl, true, false, not, ◌&&◌, Bool, Result, Ok, Err}
 use Rattle.std.specs.Prelude.{IfOk, IsOkAnd}
 use Rattle.std.proofs.lemmas.Result.{IfOk-weaker}

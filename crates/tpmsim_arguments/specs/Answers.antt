@@ -14,7 +14,7 @@ use Rattle.tpmsim_arguments.specs.declared.fault.ArgumentFault.TheVariants.{Usag
 abbrev pub AreTaken : List Text → Type 0
 AreTaken words = fault_of program words ≡ []
 
--- The user requested a text of clap's, help or the version: clap's error is not a mistake.
+-- clap's error is not a mistake: the user requested one of clap's texts, help or the version.
 abbrev pub IsTold : ErrorKind → Type 0
 IsTold kind = (kind ≡ DisplayHelp) ⊎ (kind ≡ DisplayVersion)
 
@@ -22,8 +22,9 @@ abbrev pub HaveMistake : List Text → Type 0
 HaveMistake words =
     (kind : ErrorKind) × IsAmong kind (fault_of program words) × (IsTold kind → ⊥)
 
--- The result is the request of the words, or clap's text if the words request one. The result is
--- Usage if the words have a mistake, or no request, such as a locality above 4.
+-- The result of parsing these words is their request, or clap's text if they request one. It is
+-- Usage if clap finds a mistake in the words, or if the program refuses a value, such as a locality
+-- above 4.
 abbrev pub Answers : List Text → Result Arguments ArgumentFault → Type 0
 Answers words (Ok (Tell error)) =
     IsAmong (kind_of error) (fault_of program words) × IsTold (kind_of error)

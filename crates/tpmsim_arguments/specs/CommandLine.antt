@@ -4,11 +4,11 @@ use Rattle.clap.specs.Words.{App, Rule, Shape, Text, new_rule, with_subcommand}
 use Rattle.clap.specs.Simple.{new_shape}
 use Rattle.clap.specs.declared.builder.action.ArgAction.TheVariants.{Set, SetTrue}
 
--- the rule of a flag: --NAME, which may be left out
+-- the rule for the optional flag --NAME
 abbrev pub flag : Text → Rule
 flag name = record (new_rule name) { long = Some name; action = Some SetTrue }
 
--- the rule of a positional argument, which is required
+-- the rule for a required positional argument
 abbrev pub operand : Text → Rule
 operand name = record (new_rule name) {
   action = Some Set;
@@ -16,19 +16,19 @@ operand name = record (new_rule name) {
   required = true;
 }
 
--- the rule of --NAME with a value, which is required
+-- the rule for the required argument --NAME VALUE
 abbrev pub setting : Text → Rule
 setting name = record (operand name) { long = Some name }
 
--- the rule of --NAME with a value, which may be left out
+-- the rule for the optional argument --NAME VALUE
 abbrev pub choice : Text → Rule
 choice name = record (setting name) { required = false }
 
--- a command of this name, with these arguments
+-- the command with this name and these arguments
 abbrev pub with_arguments : Text → List Rule → Shape
 with_arguments name rules = record (new_shape name) { rules = rules }
 
--- the rule of a positional argument, which may be left out
+-- the rule for an optional positional argument
 abbrev pub optional_operand : Text → Rule
 optional_operand name = record (operand name) { required = false }
 
@@ -88,7 +88,7 @@ script_command = with_arguments (codes "script") (operand (codes "state") ∷ []
 abbrev pub replay_command : Shape
 replay_command = with_arguments (codes "replay") (operand (codes "journal") ∷ [])
 
--- the program, which has a version, and requires one of its commands
+-- the program before its commands are added; it has a version, and a command is required
 abbrev pub bare_program : App
 bare_program = record {
   top = record (new_shape (codes "tpmsim")) { has_version = true; subcommand_required = true };

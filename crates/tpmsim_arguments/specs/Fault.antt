@@ -1,4 +1,4 @@
--- Why words are refused.
+-- Why the words of a command line are refused.
 use Rattle.clap.specs.declared.error.kind.ErrorKind as clap
 use Rattle.clap.specs.declared.error.kind.ErrorKind.TheVariants as refused
 use Rattle.tpmsim_arguments.specs.declared.fault.ArgumentFault.{ArgumentFault}

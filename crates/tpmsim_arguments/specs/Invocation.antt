@@ -1,4 +1,4 @@
--- The request of a command line, from what clap finds in its words.
+-- What a command line requests, from what clap finds in its words.
 use Rattle.std.specs.Prelude.{ℕ, Bool, false, List, Option, Some, None, codes, nat_le, if◌then◌else◌}
 use Rattle.std.specs.Prelude.{option_and_then, option_map}
 use Rattle.std.specs.Option.{option_map_or}
@@ -15,8 +15,8 @@ use Rattle.tpmsim_arguments.specs.declared.place.Place.TheVariants as place
 use Rattle.tpmsim_arguments.specs.declared.service.Service.{Service}
 use Rattle.tpmsim_arguments.specs.declared.storage.Storage.{Storage}
 
--- where a device is kept: in the file of its image; or in a folder with its state, where this many
--- finished journals stay
+-- where a device is kept: in the file of its image; or in a folder with its state, in which this
+-- many finished journals stay
 pub data Kept : Type 0 where
   in_image : Text → Kept
   in_state : Text → (past : ℕ) → Kept
@@ -33,13 +33,13 @@ pub record Served : Type 0 where
   pub saves_each : Bool
   pub completes : Bool
 
--- the files of a device on which a script is played: where the device is kept, and the file of the
--- random bytes that make a new device
+-- the files of a device on which a script is played: where the device is kept, and the file with
+-- the random bytes from which a new device is made
 pub record Stored : Type 0 where
   pub place : Kept
   pub entropy : Option Text
 
--- the request of a command line: run a script, with or without its trace, on a device that is or is
+-- what a command line requests: run a script, with or without its trace, on a device that is or is
 -- not kept; check the lines of a script; print the buffer of a line; print the line of a buffer;
 -- print the form in words of one command or of all; print the meaning of a response code; serve a
 -- device; power-cycle the device in a folder, with or without dropping the journal after damage;
@@ -76,7 +76,7 @@ found >>= next = option_and_then next found
 abbrev pub past_of : ℕ → Option ℕ
 past_of number = if nat_le number 99 then Some number else None
 
--- the number of finished journals in decimal digits; 0 without digits
+-- the number of finished journals, from its decimal digits; 0 if there are none
 abbrev pub past_by : (keep : Option Text) → Option ℕ
 past_by None = Some 0
 past_by (Some digits) = decimal_of digits >>= past_of
@@ -97,7 +97,7 @@ abbrev pub place_in : List Row → Option Kept
 place_in rows = place_by (first_of (codes "image") rows) (first_of (codes "state") rows)
     (first_of (codes "keep") rows)
 
--- the log of a device that is kept in this place: only a device in an image can have a log
+-- the log of a device, given where the device is kept: only a device in an image can have a log
 abbrev pub log_by : Kept → (log : Option Text) → Option (Option Text)
 log_by place None = Some None
 log_by (in_image image) (Some log) = Some (Some log)
@@ -113,12 +113,13 @@ abbrev pub entropy_by : Option Text → Text
 entropy_by None = codes "/dev/urandom"
 entropy_by (Some path) = path
 
--- the locality in decimal digits; 0 without digits
+-- the locality, from its decimal digits; 0 if there are none
 abbrev pub locality_by : Option Text → Option ℕ
 locality_by None = Some 0
 locality_by (Some digits) = decimal_of digits >>= locality_of
 
--- the number of connections in decimal digits; None, which means no limit, without digits
+-- the number of connections, from its decimal digits; without digits it is None, which means no
+-- limit
 abbrev pub connections_by : Option Text → Option (Option ℕ)
 connections_by None = Some None
 connections_by (Some digits) = option_map (λ count. Some count) (decimal_of digits)
@@ -153,7 +154,7 @@ abbrev pub storage_in : List Row → Option (Option Stored)
 storage_in rows = stored_by (first_of (codes "image") rows) (first_of (codes "state") rows)
     (first_of (codes "keep") rows) (first_of (codes "entropy") rows)
 
--- the script that is given; without one, standard input if the device's state is in a folder
+-- the given script; without one, it is standard input if the device's state is in a folder
 abbrev pub script_by : (script state : Option Text) → Option Text
 script_by (Some script) state = Some script
 script_by None (Some state) = Some (codes "-")
@@ -181,7 +182,7 @@ restore_in rows = do
   past ← past_in rows
   Some (restore state text past)
 
--- the request of the command with this name, from clap's matches
+-- what the command with this name requests, from clap's matches
 abbrev pub asked_of : Text → List Row → Option Invocation
 asked_of name rows = if bytes_eq name (codes "run") then run_in rows
     else (if bytes_eq name (codes "check") then option_map check (first_of (codes "script") rows)
@@ -200,7 +201,7 @@ asked_of name rows = if bytes_eq name (codes "run") then run_in rows
 abbrev pub asked_in : Option (Text × List Row) → Option Invocation
 asked_in = option_and_then (λ command. asked_of command.0 command.1)
 
--- the request of these words, the first of which is the program's name
+-- what these words request; the first of them is the program's name
 abbrev pub asked_by : List Text → Option Invocation
 asked_by words = asked_in (subcommand_of program words)
 

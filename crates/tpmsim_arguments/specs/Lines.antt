@@ -7,7 +7,7 @@ use Rattle.tpm_number.specs.Number.{decimal_of}
 use Rattle.tpmsim_arguments.specs.Answers.{AreTaken}
 use Rattle.tpmsim_arguments.specs.Invocation.{Invocation, Kept, asked_by, in_image, in_state, serve}
 
--- clap accepts these words, and this is their request.
+-- clap accepts these words, and they request this.
 abbrev pub AskFor : List Text → Invocation → Type 0
 AskFor words asked = AreTaken words × (asked_by words ≡ Some asked)
 
@@ -100,7 +100,7 @@ serve_line name socket image entropy locality connections = name ∷ codes "serv
     ∷ codes "--socket" ∷ socket ∷ codes "--image" ∷ image ∷ codes "--entropy" ∷ entropy
     ∷ codes "--locality" ∷ locality ∷ codes "--connections" ∷ connections ∷ []
 
--- the command line of serve with each value in the word of its name, as --socket=SOCKET
+-- the command line of serve with each value joined to its name, as in --socket=SOCKET
 abbrev pub joined_line : (name socket image entropy locality connections : Text) → List Text
 joined_line name socket image entropy locality connections = name ∷ codes "serve"
     ∷ (codes "--socket=" ++ socket) ∷ (codes "--image=" ++ image)
@@ -143,9 +143,9 @@ state_line name socket state entropy locality connections = name ∷ codes "serv
     ∷ (codes "--entropy=" ++ entropy) ∷ (codes "--locality=" ++ locality)
     ∷ (codes "--connections=" ++ connections) ∷ []
 
--- These words request the service of a device that is kept in this place, with these paths, and
--- with these numbers if the words are numbers. `saves_each` says whether the device is saved before
--- each response.
+-- If `locality` and `connections` are numbers in decimal, and the locality is at most 4, these
+-- words request to serve a device that is kept in this place, with these settings. `saves_each`
+-- says whether the device is saved before each response.
 abbrev pub AskForService : (words : List Text) (socket : Text) (place : Kept) (log : Option Text)
     (entropy locality connections : Text) (saves_each : Bool) → Type 0
 AskForService words socket place log entropy locality connections saves_each = (number count : ℕ)
@@ -161,13 +161,13 @@ AskForService words socket place log entropy locality connections saves_each = (
       completes = false;
     }))
 
--- clap accepts these words, but the program has no such request.
+-- clap accepts these words, but the program refuses them.
 abbrev pub AskForNothing : List Text → Type 0
 AskForNothing words = AreTaken words × (asked_by words ≡ None)
 
--- These words request the service of a device in this folder, where this many finished journals
--- stay, with the system's random bytes, locality 0, and no limit on connections. `completes` says
--- whether the completing layer is on.
+-- These words request to serve the device in this folder, where this many finished journals stay,
+-- with the system's random bytes, locality 0, and no limit on connections. `completes` says whether
+-- the completing layer is on.
 abbrev pub AskForFolder : (words : List Text) (socket state : Text) (past : ℕ) (completes : Bool)
     → Type 0
 AskForFolder words socket state past completes = AskFor words (serve (record {
@@ -181,14 +181,13 @@ AskForFolder words socket state past completes = AskFor words (serve (record {
   completes = completes;
 }))
 
--- These words request the service of a device with an image, which is not saved before each
--- response.
+-- These words request to serve a device with an image, and to save it only after each connection.
 abbrev pub AskForDevice : (words : List Text) (socket image entropy locality connections : Text)
     → Type 0
 AskForDevice words socket image entropy locality connections =
     AskForService words socket (in_image image) None entropy locality connections false
 
--- These words request the service of a device with an image, which is saved before each response.
+-- These words request to serve a device with an image, and to save it before each response.
 abbrev pub AskForSavedDevice : (words : List Text)
     (socket image entropy locality connections : Text) → Type 0
 AskForSavedDevice words socket image entropy locality connections =

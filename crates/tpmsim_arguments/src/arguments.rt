@@ -1,4 +1,4 @@
-//! The request of a command line, from its words.
+//! Parses the words of a command line, and returns what they request.
 
 ghost use Rattle.std.specs.Prelude.{◌≡◌, codes, map, ok_or, option_map};
 ghost use Rattle.clap.specs.Words.{first_of, found_of, rows_of, subcommand_rows_of};
@@ -24,7 +24,7 @@ use std::convert::AsStr;
 use tpm_number::{decimal, locality};
 use tpm_types::Locality;
 
-/// The request of a command line.
+/// What a command line requests.
 #[derive(Drop)]
 pub enum Arguments<'a> {
     /// Run the script in this file, or on standard input if the word is `-`. `trace` says whether
@@ -101,7 +101,7 @@ impl<'a> Arguments<'a> {
         }
     }
 
-    /// Returns the request of a command line, from clap's matches.
+    /// Returns what a command line requests, from clap's matches.
     fn of_matches(matches: &ArgMatches<'a>) -> Result<Arguments<'a>, ArgumentFault>
         ensures { Gives asked (ok_or (asked_in (subcommand_rows_of matches.now)) Usage) result }
     {
@@ -111,7 +111,7 @@ impl<'a> Arguments<'a> {
         Arguments::of_command(name, options).ok_or(ArgumentFault::Usage)
     }
 
-    /// Returns the request of the command with this name, from clap's matches.
+    /// Returns what the command with this name requests, from clap's matches.
     fn of_command(name: &str, options: &ArgMatches<'a>) -> Option<Arguments<'a>>
         ensures { option_map asked result ≡ asked_of name.now (rows_of (found_of options.now)) }
     {
@@ -176,7 +176,7 @@ fn is_set(options: &ArgMatches<'_>, flag: &str) -> bool
     }
 }
 
-/// Returns the request of `run`, from its matches.
+/// Returns what `run` requests, from its matches.
 fn run_of<'a>(options: &ArgMatches<'a>) -> Option<Arguments<'a>>
     ensures { option_map asked result ≡ run_in (rows_of (found_of options.now)) }
 {
@@ -199,7 +199,7 @@ fn script_of<'a>(options: &ArgMatches<'a>) -> Option<&'a str>
     }
 }
 
-/// Returns the request of `power`, from its matches.
+/// Returns what `power` requests, from its matches.
 fn power_of<'a>(options: &ArgMatches<'a>) -> Option<Arguments<'a>>
     ensures { option_map asked result ≡ power_in (rows_of (found_of options.now)) }
 {
@@ -210,7 +210,7 @@ fn power_of<'a>(options: &ArgMatches<'a>) -> Option<Arguments<'a>>
     })
 }
 
-/// Returns the request of `restore`, from its matches.
+/// Returns what `restore` requests, from its matches.
 fn restore_of<'a>(options: &ArgMatches<'a>) -> Option<Arguments<'a>>
     ensures { option_map asked result ≡ restore_in (rows_of (found_of options.now)) }
 {
@@ -221,8 +221,8 @@ fn restore_of<'a>(options: &ArgMatches<'a>) -> Option<Arguments<'a>>
     })
 }
 
-/// Returns where the matches of `run` keep the device, which may be nowhere. If they give neither
-/// an image nor a folder, a file of random bytes and a number of journals are refused.
+/// Returns where the device of `run` is kept, from the matches; it may be kept nowhere. Without an
+/// image or a folder, a file of random bytes and a number of journals are refused.
 fn storage_of<'a>(options: &ArgMatches<'a>) -> Option<Option<Storage<'a>>>
     ensures { option_map (option_map stored) result ≡ storage_in (rows_of (found_of options.now)) }
 {
@@ -263,8 +263,8 @@ fn place_by<'a>(
     }
 }
 
-/// Returns the number of finished journals that stay in a folder, from the digits of `--keep`; 0
-/// without them.
+/// Returns the number of finished journals that stay in a folder, from the digits of `--keep`, or 0
+/// without `--keep`.
 fn past_by(keep: Option<&str>) -> Option<u32>
     ensures { result ≡ past_by (option_map (λ text. text.now) keep.entry) }
 {
@@ -281,7 +281,7 @@ fn past_of(number: u32) -> Option<u32>
     if number <= 99 { Some(number) } else { None }
 }
 
-/// Returns the place where the matches of `serve` keep the device.
+/// Returns the place where the device of `serve` is kept, from the matches.
 fn place_of<'a>(options: &ArgMatches<'a>) -> Option<Place<'a>>
     ensures { option_map kept result ≡ place_in (rows_of (found_of options.now)) }
 {
@@ -348,7 +348,7 @@ fn connections_by(digits: Option<&str>) -> Option<Option<u32>>
     }
 }
 
-/// Returns the request of `serve`, from its matches.
+/// Returns what `serve` requests, from its matches.
 fn service_of<'a>(options: &ArgMatches<'a>) -> Option<Service<'a>>
     ensures { option_map served result ≡ service_in (rows_of (found_of options.now)) }
 {

@@ -1,5 +1,5 @@
 //! The command line as clap's types define it: the program's subcommands, with their options and
-//! helps.
+//! help texts.
 
 ghost use Rattle.std.specs.Prelude.{◌≡◌, ◌∷◌, [], codes, false, IfOk, IsOkAnd};
 ghost use Rattle.clap.specs.Words.{AddsSubcommand, app_of, new_app, rule_of, shape_of};
@@ -53,7 +53,8 @@ fn with_command<'a>(
     program?.subcommand(command?)
 }
 
-/// The command `run` without its options. Its help has a text before and after that of the options.
+/// The command `run` without its options. Its help has one text before the options and one after
+/// them.
 fn run_without_options<'a>(alloc: Global) -> Command<'a>
     ensures { app_of result ≡ new_app (codes "run") }
 {
@@ -84,7 +85,7 @@ fn run_command<'a>(alloc: Global) -> Result<Command<'a>, AllocError>
         .arg(optional_operand(alloc, "script", "SCRIPT", SCRIPT))
 }
 
-/// An option that has no value, and may be left out.
+/// Creates the optional flag `--NAME`.
 fn flag<'a>(alloc: Global, name: &'a str, help: &'a str) -> Arg<'a>
     ensures rule { rule_of result ≡ flag name.entry.now }
     ensures local { result.global ≡ false }
@@ -95,7 +96,7 @@ fn flag<'a>(alloc: Global, name: &'a str, help: &'a str) -> Arg<'a>
         .help(help)
 }
 
-/// A positional argument, which is required.
+/// Creates a required positional argument.
 fn operand<'a>(alloc: Global, name: &'a str, value: &'a str, help: &'a str) -> Arg<'a>
     ensures rule { rule_of result ≡ operand name.entry.now }
     ensures local { result.global ≡ false }
@@ -107,7 +108,7 @@ fn operand<'a>(alloc: Global, name: &'a str, value: &'a str, help: &'a str) -> A
         .help(help)
 }
 
-/// A positional argument, which may be left out.
+/// Creates an optional positional argument.
 fn optional_operand<'a>(alloc: Global, name: &'a str, value: &'a str, help: &'a str) -> Arg<'a>
     ensures rule { rule_of result ≡ optional_operand name.entry.now }
     ensures local { result.global ≡ false }
@@ -118,7 +119,7 @@ fn optional_operand<'a>(alloc: Global, name: &'a str, value: &'a str, help: &'a 
         .help(help)
 }
 
-/// An option that has a value, and may be left out.
+/// Creates the optional argument `--NAME VALUE`.
 fn choice<'a>(alloc: Global, name: &'a str, value: &'a str, help: &'a str) -> Arg<'a>
     ensures rule { rule_of result ≡ choice name.entry.now }
     ensures local { result.global ≡ false }
@@ -238,8 +239,8 @@ fn code_command<'a>(alloc: Global) -> Result<Command<'a>, AllocError>
     )
 }
 
-/// The command `serve` without its options. Its help has a text before and after that of the
-/// options.
+/// The command `serve` without its options. Its help has one text before the options and one after
+/// them.
 fn serve_without_options<'a>(alloc: Global) -> Command<'a>
     ensures { app_of result ≡ new_app (codes "serve") }
 {
@@ -292,7 +293,7 @@ fn serve_command<'a>(alloc: Global) -> Result<Command<'a>, AllocError>
         .arg(flag(alloc, "save-each", SAVE_EACH))
 }
 
-/// An option that has a value, and is required.
+/// Creates the required argument `--NAME VALUE`.
 fn setting<'a>(alloc: Global, name: &'a str, value: &'a str, help: &'a str) -> Arg<'a>
     ensures rule { rule_of result ≡ setting name.entry.now }
     ensures local { result.global ≡ false }

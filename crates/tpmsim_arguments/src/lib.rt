@@ -1,13 +1,13 @@
 #![tactic(auto)]
 
-//! The command line of the simulator: its subcommands and their options ([`command_line`]), the
-//! request of a command line ([`arguments`]), the settings with which a device is served on a
-//! socket ([`service`]), where the device of a script is kept ([`storage`], [`place`]), and why
-//! words are refused ([`fault`]).
+//! The command line of the simulator: its subcommands and their options ([`command_line`]), what a
+//! command line requests ([`arguments`]), the settings with which a device is served on a socket
+//! ([`service`]), where the device of a script is kept ([`storage`], [`place`]), and why words are
+//! refused ([`fault`]).
 //!
-//! The crate uses `clap`, which matches the words, and opens no file. `specs/` defines the request
-//! of each command line; [`laws`] says that the command lines that people write have the expected
-//! requests.
+//! The crate uses `clap`, which matches the words, and opens no file. `specs/` defines what each
+//! command line requests; [`laws`] says that the command lines that people write request what they
+//! expect.
 
 pub mod arguments;
 mod command_line;

@@ -7,6 +7,6 @@ use crate::place::Place;
 pub struct Storage<'a> {
     /// Where the device is kept between two runs.
     pub place: Place<'a>,
-    /// The path of the file with the random bytes that make a new device.
+    /// The path of the file with the random bytes from which a new device is made.
     pub entropy: Option<&'a str>,
 }

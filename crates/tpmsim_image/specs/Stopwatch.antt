@@ -1,4 +1,4 @@
--- The elapsed time that commands get.
+-- The elapsed time that a served device's commands get.
 use Rattle.std.specs.Prelude.{ℕ, ◌-◌, ◌/◌, Option, Some, min, max, unwrap_or}
 
 -- the state of a stopwatch: the arrival time of the first command, in nanoseconds of the host's

@@ -7,7 +7,7 @@ use std::io::{ErrorKind, Read};
 use std::os::unix::net::UnixStream;
 use std::time::Duration;
 
-/// A client is called silent after this many seconds in which it sent nothing.
+/// A client that has sent nothing for this many seconds counts as silent.
 const SILENCE_SECONDS: u64 = 3;
 
 /// The reader of a connection. While the connection's client is silent, the reader checks whether

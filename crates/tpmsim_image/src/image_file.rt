@@ -14,8 +14,9 @@ use tpm_machine::Machine;
 use tpm_record::Keep;
 use tpm_slots::SlotKeep;
 
-/// The file of an image, which no other run can use while this value exists. It contains the paths
-/// for a save, so a save allocates no memory, and a served device is not lost if memory runs out.
+/// The file of an image, which no other run can use while this value exists. It contains all paths
+/// that a save needs. Therefore a save allocates no memory, and a served device is not lost if
+/// memory runs out.
 #[derive(Drop)]
 pub struct ImageFile<'a> {
     path: &'a str,
@@ -26,8 +27,8 @@ pub struct ImageFile<'a> {
 }
 
 impl<'a> ImageFile<'a> {
-    /// Locks the file at this path, whether the file exists or not. The locked file is another one
-    /// in the same folder, since each save replaces the file of the image. If another run holds the
+    /// Locks the file at this path, whether the file exists or not. The lock is on another file in
+    /// the same folder, since each save replaces the file of the image. If another run holds the
     /// lock, the call fails and changes nothing.
     pub fn take(rt: &HostRuntime, path: &'a str) -> Result<ImageFile<'a>, DeviceFault> {
         let folder = folder_of(path);
@@ -65,8 +66,8 @@ impl<'a> ImageFile<'a> {
     }
 }
 
-/// Takes the lock of an image, if its path can be that of an image. The image must be a regular
-/// file, since opening a pipe would wait for its writer.
+/// Locks an image, if a file at this path can be an image. The image must be a regular file, since
+/// opening a pipe would wait for its writer.
 fn lock_image(rt: &HostRuntime, path: &str, lock: &str) -> io::Result<ImageLock> {
     match fs::metadata(rt, path) {
         Ok(metadata) if !metadata.is_file() => return Err(io::Error::from(ErrorKind::InvalidInput)),

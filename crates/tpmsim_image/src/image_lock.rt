@@ -24,9 +24,9 @@ impl ImageLock {
 }
 
 /// Opens the file at a path. The file is created if it is missing, but not through a link. Only its
-/// owner can open it, because whoever opens it could lock it, and so keep the image from its owner.
-/// It is opened to be read and written, so that opening a pipe does not wait for the pipe's other
-/// end.
+/// owner can open it. Anybody else who could open it could lock it, and thereby keep its owner from
+/// using the image. The file is opened for reading and writing, so that opening a pipe does not
+/// wait for its other end.
 fn open_or_create(rt: &HostRuntime, path: &str) -> io::Result<File> {
     match create_for_owner(rt, path) {
         Err(error) if error.kind() == ErrorKind::AlreadyExists => {

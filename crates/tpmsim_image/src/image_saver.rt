@@ -16,7 +16,7 @@ use tpm_record::Keep;
 pub struct ImageSaver<'a> {
     rt: &'a HostRuntime,
     file: ImageFile<'a>,
-    /// What the device in the file keeps, without its clock, if that is known.
+    /// The contents of the image in the file, without the clock, if they are known.
     kept: KeptText,
     /// The clock of the device that was written last, if no save has failed since then.
     clock: Option<u64>,
@@ -36,9 +36,8 @@ impl<'a> ImageSaver<'a> {
         }
     }
 
-    /// Records that this device is the one in the file. If the clock has to be saved too, the file
-    /// is written again nevertheless: the file may have an older version, or be readable by other
-    /// users.
+    /// Records that this device is the one in the file. The first save with the clock writes the
+    /// file again even so, since the file may have an older version, or be readable by other users.
     pub fn opened<K: Keep>(&mut self, machine: &Machine<K>)
         ensures { self.new
             ≡ record self.old { kept = kept_text (state_of K.record_of machine.now) } }

@@ -42,7 +42,7 @@ pub struct Log<W> {
     /// The checksum of the marks so far.
     pub(crate) sum: u64,
     pub(crate) failed: bool,
-    /// The buffer for the text of an entry, which is written to the writer in one write.
+    /// The buffer for the text of an entry. The text is written in one write.
     pub(crate) room: [u8; ENTRY_ROOM],
 }
 
@@ -76,7 +76,8 @@ impl<W: Write + Drop> Log<W> {
     }
 }
 
-/// Writes the image of a device: returns its head, and appends the rest to an empty text.
+/// Encodes the image of a device: returns the head of the image, and writes the rest to `text`,
+/// which is empty.
 fn write_image<K: Keep>(machine: &Machine<K>, text: &mut Text) -> Sink<10>
     requires { text.old ≡ [] }
     ensures image { result ++ text.new

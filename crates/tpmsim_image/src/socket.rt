@@ -91,8 +91,8 @@ pub fn bind(rt: &HostRuntime, path: &str) -> Result<Socket, DeviceFault> {
     DeviceFault::Socket(Subject::Socket.alone()).unless(bind_aside(rt, path))
 }
 
-/// Binds a socket in a folder next to the path that nobody else can enter, and moves it to the path
-/// when it is ready.
+/// Binds a socket in a folder next to the path, which nobody else can enter, and moves the socket
+/// to the path when it is ready.
 fn bind_aside(rt: &HostRuntime, path: &str) -> io::Result<Socket> {
     SocketAddr::from_pathname(path)?;
     let front = folder_of(path);
@@ -164,8 +164,8 @@ fn bind_in_folder(rt: &HostRuntime, aside: &Aside, path: &str, folder: &str) -> 
     })
 }
 
-/// Replaces a socket at which nobody answers. The folder is locked meanwhile: if two runs do this
-/// at once, the second finds the socket of the first, and does not replace it.
+/// Replaces a socket at which nobody answers. The folder is locked during the replacement: if two
+/// runs do this at once, the second finds the socket of the first, and does not replace it.
 fn replace_left(rt: &HostRuntime, aside: &str, path: &str, folder: &str) -> io::Result<()> {
     let folder = fs::open(rt, folder)?;
     folder.lock()?;

@@ -1,4 +1,4 @@
-//! The elapsed time of each command. No millisecond counts twice.
+//! The elapsed time of each command. No millisecond is counted twice.
 
 ghost use Rattle.std.specs.Prelude.{◌≡◌, None};
 ghost use Rattle.std.specs.Time.{instant_nanos};
@@ -7,9 +7,9 @@ ghost use Rattle.tpmsim_image.specs.Stopwatch.{after_command, told};
 use std::marker::Model;
 use std::time::Instant;
 
-/// A stopwatch, which records the time that was passed to commands. In contracts, its state is the
-/// arrival time of the first command, and the number of milliseconds since then that were passed to
-/// commands or dropped.
+/// A stopwatch, which records the time that was already passed to commands. In contracts, its state
+/// is the arrival time of the first command, and the number of milliseconds since then that were
+/// passed to commands or dropped.
 #[derive(Drop)]
 pub struct Stopwatch {
     first: Option<Instant>,
@@ -37,9 +37,9 @@ impl Stopwatch {
         }
     }
 
-    /// Returns the elapsed milliseconds of a command that arrives now. For the first command they
-    /// are 0. For a later one they are the milliseconds since the first command that were passed to
-    /// no command, at most 2^32 - 1. Any milliseconds above this limit are dropped.
+    /// Returns the elapsed milliseconds of a command that arrives now. For the first command, this
+    /// is 0. For a later one, it is the milliseconds since the first command that were not yet
+    /// passed to any command, at most 2^32 - 1. Any milliseconds above this limit are dropped.
     pub fn tell(&mut self, now: Instant) -> u32
         ensures value { result ≡ told (instant_nanos now) self.old }
         ensures after { self.new ≡ after_command (instant_nanos now) self.old }

@@ -9,8 +9,8 @@
 ghost use Rattle.tpmsim_image_laws.specs.Answers.{AnswersAreOutcomes};
 ghost use Rattle.tpmsim_image_laws.specs.Times.{TellsNoTimeTwice};
 
-/// No millisecond counts twice: the elapsed times of all commands add up to at most the time from
-/// the first command to the latest, whatever the host's clock shows at each of them.
+/// No millisecond is counted twice: the elapsed times of all commands add up to at most the time
+/// from the first command to the latest, whatever the host's clock shows at each of them.
 #[inline(always)]
 #[tactic(auto, using(crate::proofs::Times::tells_no_time_twice))]
 pub fn stopwatch_laws()

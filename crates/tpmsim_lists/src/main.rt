@@ -1,6 +1,6 @@
 #![tactic(auto)]
 
-//! A program that does the same as `tpmsim`, but keeps the device's state in lists that grow, not
+//! A program that runs scripts like `tpmsim`, but keeps the device's state in lists that grow, not
 //! in fixed slots. It exists for the tests: `tools/scripts.sh` compares what the two programs print
 //! for scripts, and tests/lists_starved.sh makes its allocations fail.
 //!

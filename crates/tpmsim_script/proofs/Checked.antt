@@ -11,7 +11,7 @@ use Rattle.tpmsim_script.specs.Line.{Meaning, Executes, ExecutesWords, SetsLocal
 use Rattle.tpmsim_script.specs.Script.{Effect, Playing, execute, output_with, perform, perform_line, play, repeated, set_entropy, silence}
 use Rattle.tpmsim_script.specs.declared.bad_line.BadLine.{BadLine}
 
--- the elapsed milliseconds for the next command after an effect
+-- the total of the waits before the next command, in milliseconds, after a line with this effect
 abbrev waited_after : Effect → ℕ
 waited_after effect = effect.next.waited
 

@@ -5,7 +5,8 @@ use Rattle.std.specs.Io.KnownBytes.{Appends, Keeps, append_known}
 use Rattle.tpm_bytes.specs.Tap.{AppendsFront}
 use Rattle.tpmsim_script.specs.Answers.{CutOff}
 
--- If a part of the buffered output was written and the rest dropped, the whole output is truncated.
+-- If only a prefix of the buffered output was written and the rest was dropped, the output is
+-- truncated.
 pub cut_writing : (old new : Option (List ℕ)) (held : List ℕ) → AppendsFront old new held → CutOff (append_known old held) (append_known new [])
 cut_writing None new held h = tt
 cut_writing (Some old) None held h = absurd h.3
@@ -23,7 +24,7 @@ cut_then_kept (Some a) None c h k = absurd h
 cut_then_kept (Some a) (Some b) None h k = absurd k
 cut_then_kept (Some a) (Some b) (Some c) h k = (h.0, h.1 ∙ ap (λ (l : List ℕ). l ++ h.0) (sym k))
 
--- A text that was truncated twice is a truncated text.
+-- A prefix of a prefix of an output is a prefix of the output.
 pub cut_twice : (a b c : Option (List ℕ)) → CutOff a b → CutOff b c → CutOff a c
 cut_twice None b c h k = tt
 cut_twice (Some a) None c h k = absurd h
@@ -31,21 +32,22 @@ cut_twice (Some a) (Some b) None h k = absurd k
 cut_twice (Some a) (Some b) (Some c) h k =
     (k.0 ++ h.0, h.1 ∙ ap (λ (l : List ℕ). l ++ h.0) k.1 ∙ append_assoc c k.0 h.0)
 
--- A truncated text is also a truncation of the same text with more after it.
+-- A prefix of an output is also a prefix of that output with more after it.
 pub cut_longer : (a b : Option (List ℕ)) (more : List ℕ) → CutOff a b → CutOff (append_known a more) b
 cut_longer None b more h = tt
 cut_longer (Some a) None more h = absurd h
 cut_longer (Some a) (Some b) more h = (h.0 ++ more, ap (λ (l : List ℕ). l ++ more) h.1 ∙ append_assoc b h.0 more)
 
--- If a text was printed, and the output was then truncated, the output with that text is truncated.
+-- If a text was printed and the output was then truncated, the result is a prefix of the old output
+-- followed by the text.
 pub cut_behind : (a b c : Option (List ℕ)) (text : List ℕ) → Appends a b text → CutOff b c → CutOff (append_known a text) c
 cut_behind None b c text h k = tt
 cut_behind (Some a) None c text h k = absurd h
 cut_behind (Some a) (Some b) None text h k = absurd k
 cut_behind (Some a) (Some b) (Some c) text h k = (k.0, sym h ∙ k.1)
 
--- Suppose that a text was printed, the output was then unchanged, and a later text was truncated.
--- Then both texts together are truncated.
+-- Suppose that a text was printed, the output then stayed the same, and a second text was
+-- truncated. Then the result is a prefix of the old output followed by both texts.
 pub cut_within : (a b c d : Option (List ℕ)) (text more : List ℕ) → Appends a b text → Keeps b c → CutOff (append_known c more) d → CutOff (append_known a (text ++ more)) d
 cut_within None b c d text more h k cut = tt
 cut_within (Some a) None c d text more h k cut = absurd h
@@ -54,7 +56,8 @@ cut_within (Some a) (Some b) (Some c) None text more h k cut = absurd cut
 cut_within (Some a) (Some b) (Some c) (Some d) text more h k cut =
     (cut.0, sym (append_assoc a text more) ∙ ap (λ (l : List ℕ). l ++ more) (sym (k ∙ h)) ∙ cut.1)
 
--- If a text was printed and the text directly after it was truncated, both together are truncated.
+-- If a text was printed and a second text directly after it was truncated, the result is a prefix
+-- of the old output followed by both texts.
 pub cut_after : (a b d : Option (List ℕ)) (text more : List ℕ) → Appends a b text → CutOff (append_known b more) d → CutOff (append_known a (text ++ more)) d
 cut_after None b d text more h cut = tt
 cut_after (Some a) None d text more h cut = absurd h

@@ -1,4 +1,4 @@
--- Lemmas about the texts that are decimal numbers.
+-- Lemmas about texts that are decimal numbers.
 use Rattle.std.proofs.Common.{◌≡◌, ℕ, List, [], ◌∷◌, Bool, true, false, length, refl, is_some, cond, Some, None, ap}
 use Rattle.std.specs.List.{list_all}
 use Rattle.std.specs.Str.Parse.{digits_value}

@@ -1,4 +1,5 @@
--- A script that is played line by line keeps its device, as `KeepsDevice` defines it.
+-- A run that plays a script line by line satisfies `KeepsDevice`: the saver is notified of each
+-- line that was played, and only the output of these lines is written.
 use Rattle.std.proofs.Common.{◌≡◌, ℕ, ◌+◌, ◌<◌, List, [], ◌∷◌, ◌++◌, length, Bool, true, false, Option, Some, None, IfSome, refl, sym, ap, subst, ◌∙◌, append_assoc, append-nil, length-append, arith}
 use Rattle.std.proofs.lemmas.Bool.{false≢true}
 use Rattle.std.specs.Prelude.{Result, Ok, Err, OnOk, OnErr}
@@ -22,14 +23,14 @@ use Rattle.tpmsim_script.proofs.Doing.{lt_none}
 
 -- ---- playing one more line
 
--- These lines at the beginning of a text were read.
+-- These lines were read from the beginning of a text.
 abbrev pub LosesLines : Option (List ℕ) → List (List ℕ) → Option (List ℕ) → Type 0
 LosesLines None lines new = Unit {0}
 LosesLines (Some text) lines None = ⊥
 LosesLines (Some text) lines (Some rest) = lines_of text ≡ lines ++ lines_of rest
 
--- The lines of a run before the line with this number, the rest of the text, and the output of
--- these lines.
+-- A run has reached the line with this number: the lines before it were played and their output was
+-- printed. `here` is the rest of the text.
 pub record SoFar {S : Type 0} (saves saves_change : S → Record → S → Type 0) (text here first now : Option (List ℕ)) (number : ℕ) (start at : Kept S) : Type 0 where
   pub lines : List (List ℕ)
   pub print : List ℕ
@@ -145,7 +146,7 @@ stopped saves saves_change text left here rest first now held new writer number 
 
 -- ---- a run that ends because no next line was found
 
--- If the first remaining line is too long, it and all later lines were not played.
+-- If the first remaining line is too long, neither it nor any later line was played.
 left_long : (text here left : Option (List ℕ)) (lines : List (List ℕ)) (p : Playing) (number : ℕ) → LosesLines text lines here → IfSome here BeginsTooLong
     → IfSome text (λ text. (rest : List (List ℕ)) × (lines_of text ≡ lines ++ rest) × Leaves (Err (fault.Line number)) left p rest)
 left_long None here left lines p number h k = tt
@@ -157,7 +158,7 @@ left_start None left start h = tt
 left_start (Some here) None start h = absurd h
 left_start (Some here) (Some left) start h = ap lines_of h
 
--- If the reader failed after the start of a line, that line and all later ones were not played.
+-- If the reader failed within a line, neither that line nor any later one was played.
 left_unread : (text here left : Option (List ℕ)) (lines : List (List ℕ)) (p : Playing) → LosesLines text lines here → LosesStart here left
     → IfSome text (λ text. (rest : List (List ℕ)) × (lines_of text ≡ lines ++ rest) × Leaves (Err fault.Read) left p rest)
 left_unread None here left lines p h k = tt
@@ -244,7 +245,7 @@ failed saves saves_change text left here rest first now new writer number start 
 
 -- ---- the end after the last line that a script may have
 
--- If one line more remains than a script may have, at least one line was not played.
+-- If a line remains after the largest allowed number of lines, at least one line was not played.
 left_more : (text here rest left : Option (List ℕ)) (lines : List (List ℕ)) (line : List ℕ) (p : Playing) → LosesLines text lines here → LosesFirstLine here line rest
     → IfSome text (λ text. (rest : List (List ℕ)) × (lines_of text ≡ lines ++ rest) × Leaves (Err fault.TooManyLines) left p rest)
 left_more text here rest left lines line p h k = left_from text here rest lines line (Leaves (Err fault.TooManyLines) left p) h k (λ others. (line, others, refl))
@@ -294,7 +295,7 @@ pub told_said : {S : Type 0} (saves saves_change : S → Record → S → Type 0
     → line_meaning line ≡ Some said → Told (Tells saves saves_change (Some said) device old) old result new → Told (Tells saves saves_change (line_meaning line) device old) old result new
 told_said saves saves_change line said device old result new e told = subst (λ m. Told (Tells saves saves_change m device old) old result new) (sym e) told
 
--- If the saver was notified of a line, it was notified of the same line of the script.
+-- The saver's notification of a line depends only on the text of the line.
 pub told_there : {S : Type 0} (saves saves_change : S → Record → S → Type 0) (line said : List ℕ) (device : Record) (old : S) (result : Result (Unit {0}) LineFault) (new : S)
     → said ≡ line → Told (Tells saves saves_change (line_meaning said) device old) old result new → Told (Tells saves saves_change (line_meaning line) device old) old result new
 told_there saves saves_change line said device old result new e told = subst (λ l. Told (Tells saves saves_change (line_meaning l) device old) old result new) e told
@@ -302,8 +303,8 @@ told_there saves saves_change line said device old result new e told = subst (λ
 -- ---- a whole run, which begins with an empty buffer, and ends by writing the last lines and
 -- saving the device
 
--- If a run kept its device from one start, it also kept the device from any start with the same
--- text, output and script.
+-- Whether a run satisfies `KeepsDevice` depends only on the text, the output and the script at its
+-- start.
 pub begun_at : {S : Type 0} (saves saves_change : S → Record → S → Type 0) (before text left held old new : Option (List ℕ)) (writer : Marks) (q p : Playing) (saver : S) (result : Result (Unit {0}) ScriptFault) (Last : Kept S → Type 0)
     → before ≡ text → held ≡ old → q ≡ p → KeepsDevice saves saves_change before left held new writer (kept q saver) result Last → KeepsDevice saves saves_change text left old new writer (kept p saver) result Last
 begun_at saves saves_change before text left held old new writer q p saver result Last a b c h =
@@ -316,8 +317,8 @@ others_yet : (text : Option (List ℕ)) (lines : List (List ℕ)) (P Q : List (L
 others_yet None lines P Q q h = tt
 others_yet (Some text) lines P Q q h = (h.0, h.1, q h.0)
 
--- If lines were played up to one end of a run, they were also played up to another end that counts
--- the same lines.
+-- If a run played some lines and ended with one result, then `Played` also holds for any other
+-- result that allows these lines and their output.
 recast : {S : Type 0} (saves saves_change : S → Record → S → Type 0) (text left old mid new : Option (List ℕ)) (start : Kept S) (result other : Result (Unit {0}) ScriptFault) (Last Next : Kept S → Type 0)
     → (h : Played saves saves_change text left old mid start result Last) → Counts other (length h.lines) → ((rest : List (List ℕ)) → Leaves other left h.end.playing rest) → Writes other old new h.print → Next h.end
     → Played saves saves_change text left old new start other Next
@@ -345,7 +346,7 @@ renewed saves saves_change text left old mid new start result Last Next h writte
   last = last;
 }
 
--- If all responses were written and the device was saved, the run kept its device.
+-- If all responses were written and the device was saved, the run satisfies `KeepsDevice`.
 pub ran_well : {S : Type 0} (saves saves_change : S → Record → S → Type 0) (text left old mid new : Option (List ℕ)) (was writer : Marks) (start at : Kept S) (result : Result (Unit {0}) ScriptFault) (Last : Kept S → Type 0)
     → KeepsDevice saves saves_change text left old mid was start result (λ end. end ≡ at) → Keeps mid new → writer ≡ was → Last at → KeepsDevice saves saves_change text left old new writer start result Last
 ran_well saves saves_change text left old mid new was writer start at (Ok done) Last h same marks last =
@@ -363,7 +364,8 @@ ran_well saves saves_change text left old mid new was writer start at (Err fault
     renewed saves saves_change text left old mid new start (Err fault.Save) (λ end. Unit {0}) (λ end. Unit {0}) all (printed_yet old mid new all.print all.written same) tt
 ran_well saves saves_change text left old mid new was writer start at (Err fault.NoMemory) Last h same marks last = tt
 
--- If the last responses were not written, and the device was saved, the run kept its device.
+-- If the last responses were not written but the device was saved, the run satisfies `KeepsDevice`
+-- with the fault `Write`.
 last_unwritten : {S : Type 0} (saves saves_change : S → Record → S → Type 0) (text left old mid new : Option (List ℕ)) (was writer : Marks) (start at : Kept S) (result : Result (Unit {0}) ScriptFault) (Last : Kept S → Type 0)
     → KeepsDevice saves saves_change text left old mid was start result (λ end. end ≡ at) → is_unsaved result ≡ false → OnNoMemory result ⊥ → CutOff mid new → Last at
     → KeepsDevice saves saves_change text left old new writer start (Err fault.Write) Last
@@ -387,7 +389,8 @@ ran_unwritten saves saves_change text left old mid new was writer start at resul
     subst (λ r. KeepsDevice saves saves_change text left old new writer start r Last) (sym e)
     (last_unwritten saves saves_change text left old mid new was writer start at result Last h was_saved memory cut last)
 
--- If all responses were written and a save failed, the run kept its device.
+-- If all responses were written but a save failed, the run satisfies `KeepsDevice` with the fault
+-- `Save`.
 written_unsaved : {S : Type 0} (saves saves_change : S → Record → S → Type 0) (text left old mid new : Option (List ℕ)) (reader was writer : Marks) (unsaved : Bool) (start at : Kept S) (result : Result (Unit {0}) ScriptFault) (Last : Kept S → Type 0)
     → KeepsDevice saves saves_change text left old mid was start result (λ end. end ≡ at) → AreTheirs result reader was unsaved → OnNoMemory result ⊥ → Keeps mid new → writer ≡ was
     → KeepsDevice saves saves_change text left old new writer start (Err fault.Save) Last
@@ -406,7 +409,8 @@ written_unsaved saves saves_change text left old mid new reader was writer unsav
     renewed saves saves_change text left old mid new start (Err fault.Save) (λ end. Unit {0}) (λ end. Unit {0}) all (printed_yet old mid new all.print all.written same) tt
 written_unsaved saves saves_change text left old mid new reader was writer unsaved start at (Err fault.NoMemory) Last h theirs memory same marks = absurd memory
 
--- If a save failed, whether or not the last responses were written, the run kept its device.
+-- If a save failed, the run satisfies `KeepsDevice` with the fault `Save`, whether or not the last
+-- responses were written.
 pub ran_unsaved : {S : Type 0} (saves saves_change : S → Record → S → Type 0) (text left old mid new : Option (List ℕ)) (reader was writer : Marks) (unsaved : Bool) (start at : Kept S) (result flushed : Result (Unit {0}) ScriptFault) (Last : Kept S → Type 0)
     → KeepsDevice saves saves_change text left old mid was start result (λ end. end ≡ at) → AreTheirs result reader was unsaved → OnNoMemory result ⊥
     → OnOk flushed (Keeps mid new) → OnOk flushed (writer ≡ was) → OnErr flushed (writer.failed ≡ true)

@@ -83,7 +83,7 @@ found_line line rest more at h e =
     ap (λ l. line ++ (l ++ more)) (at_break rest at e) ∙ regrouped line (take at rest) (10 ∷ drop (at + 1) rest) more in
     ap lines_of cut ∙ line_ended (line ++ take at rest) (drop (at + 1) rest ++ more) front
 
--- If a 0a ends a line that exceeds the limit, the line is too long.
+-- If the 0a that ends a line is found only after the limit, the line is too long.
 pub found_too_long : (line rest more : List ℕ) (at : ℕ) → IsUnbroken line → position is_break rest ≡ Some at → 65536 < length line + at → BeginsTooLong (line ++ (rest ++ more))
 found_too_long line rest more at h e long =
     let front = All-append IsWithin line (take at rest) h (before_break rest at e) in

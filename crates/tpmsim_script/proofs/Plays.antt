@@ -58,7 +58,7 @@ stopped_by_line None rest old held new p number line t k e n = tt
 stopped_by_line (Some text) None old held new p number line t k e n = absurd t
 stopped_by_line (Some text) (Some rest) old held new p number line t k e n = stopped text line (lines_of rest) old new p number t e (subst (Keeps old) (sym n) k)
 
--- If a player in the state p performed this line, the line had its effect from p on.
+-- The effect of a line depends only on the line's text and the player's state.
 pub did_there : (p q : Playing) (line said : List ℕ) (held : Option (List ℕ)) (result : Result (Unit {0}) LineFault) (new : Option (List ℕ)) (next : Playing)
     → q ≡ p → said ≡ line → Did (perform_line q said) held q result new next → Did (perform_line p line) held p result new next
 did_there p q line said held result new next e f did =
@@ -109,8 +109,8 @@ pub reached_on : (left rest old held mid new : Option (List ℕ)) (p q : Playing
 reached_on left rest old held mid new p q number line done next behind t k did h =
     reached_next left rest old held mid new p number line did.0 next behind t k did.1 did.2 (subst (λ x. PlaysUpTo rest mid new x (number + 1) next behind) did.3 h)
 
--- If the lines from here up to a later line are played after the lines before them, all lines from
--- the start up to the later line are played.
+-- If the lines from `here` up to some later line were played, then all lines from `start` up to
+-- that later line were played.
 abbrev pub Leads : Option (List ℕ) → Option (List ℕ) → Playing → ℕ → Option (List ℕ) → Option (List ℕ) → Playing → Option (List ℕ) → Type 0
 Leads here old p number start first q new = (next : ℕ) (behind : List (List ℕ)) → PlaysUpTo here old new p number next behind → PlaysUpTo start first new q 1 next behind
 
@@ -147,7 +147,7 @@ failed_with_memory here rest number Write line found = tt
 failed_with_memory here rest number Save line found = tt
 failed_with_memory here rest number NoMemory line found = absurd found
 
--- No fault at a line is the fault Read.
+-- A fault at a line is never the fault Read.
 pub stopped_read : (number : ℕ) (fault : LineFault) (fact : Type 0) → OnUnread {X = Unit {0}} (Err (fault_at number fault)) fact
 stopped_read number stop.Bad fact = tt
 stopped_read number stop.Write fact = tt
@@ -289,8 +289,8 @@ ran_too_many start text before old mid written new q p (Err Write) a b c k d h =
 ran_too_many start text before old mid written new q p (Err Save) a b c k d h = tt
 ran_too_many start text before old mid written new q p (Err NoMemory) a b c k d h = tt
 
--- If the writer's marks are unchanged, and a failed saver is still failed, a fault still reports
--- who failed.
+-- If the writer's flags are unchanged, and a saver that had failed still counts as failed, then the
+-- fault still names what failed.
 pub theirs_yet : (result : Result (Unit {0}) ScriptFault) (reader old new : Marks) (unsaved still : Bool) → new ≡ old → (unsaved ≡ true → still ≡ true) → AreTheirs result reader old unsaved → AreTheirs result reader new still
 theirs_yet (Ok done) reader old new unsaved still e stays h = tt
 theirs_yet (Err (Line bad)) reader old new unsaved still e stays h = tt

@@ -1,4 +1,4 @@
--- The loop writes the 256 bytes that repeat the given bytes.
+-- The loop repeats the given bytes until 256 bytes are written.
 use Rattle.std.proofs.Common.{◌≡◌, ℕ, ◌%◌, ◌<◌, List, length, slice_index, sym, ◌∙◌, arith}
 use Rattle.std.proofs.lemmas.Grind.{same_number_lists}
 use Rattle.std.proofs.lemmas.List.FromFn.{get_or-map-range_with_len, length-map-range_with_len}

@@ -3,13 +3,14 @@ use Rattle.std.proofs.Common.{◌≡◌, ℕ, ◌+◌, ◌≤◌, List, [], ◌+
 use Rattle.std.proofs.lemmas.List.{length-take-le, take-take, take_at}
 use Rattle.std.specs.Io.KnownBytes.{Appends, Keeps, append_known}
 
--- If the buffered output was written, the printed output is unchanged.
+-- Writing the buffered output leaves the printed output unchanged, since the printed output
+-- includes the buffer.
 pub written : (old new : Option (List ℕ)) (held : List ℕ) → Appends old new held → Keeps (append_known old held) (append_known new [])
 written None new held h = tt
 written (Some old) None held h = absurd h
 written (Some old) (Some new) held h = append-nil new ∙ h
 
--- Output that is added to the buffer is printed.
+-- Output counts as printed as soon as it is in the buffer.
 pub held : (known : Option (List ℕ)) (old more : List ℕ) → Appends (append_known known old) (append_known known (old ++ more)) more
 held None old more = tt
 held (Some known) old more = sym (append_assoc known old more)

@@ -2,6 +2,6 @@
 use Rattle.std.specs.Prelude.{ℕ}
 use Rattle.tpmsim_script.specs.declared.checker.Checker.{Checker}
 
--- the elapsed milliseconds so far for the next command
+-- the total of the waits so far before the next command, in milliseconds
 abbrev pub waited_of : Checker → ℕ
 waited_of checker = checker.script.waited

@@ -10,26 +10,26 @@ use Rattle.tpmsim_script.specs.Line.{SetsEntropy, CyclesPower, DoesNothing, byte
 use Rattle.tpmsim_script.specs.declared.bad_line.BadLine.{BadLine}
 use Rattle.tpmsim_script.specs.declared.bad_line.Wanted.TheVariants as wanted
 
--- the elapsed milliseconds for the command after a command in words, or the reason why the line is
--- bad
+-- the total of the waits after a command in words, which is 0; or the reason why the line is bad
 abbrev pub assembly_check : Result (List ℕ) AsmFault → Result ℕ BadLine
 assembly_check (Ok buffer) = Ok 0
 assembly_check (Err fault) = Err (record { fault = fault; wanted = wanted.Command })
 
--- the elapsed milliseconds for the next command after a wait
+-- the total of the waits before the next command, after one more wait
 abbrev pub wait_check : (waited milliseconds : ℕ) → Result ℕ BadLine
 wait_check waited milliseconds =
     if nat_lt (waited + milliseconds) (2 ^ 32) then Ok (waited + milliseconds)
     else Err (too_large wanted.Milliseconds)
 
--- whether a line may set these random bytes, which must be 1 to 256
+-- the check of a line that sets these random bytes, which must be 1 to 256; the total of the waits
+-- is unchanged
 abbrev pub entropy_check : (waited : ℕ) → List ℕ → Result ℕ BadLine
 entropy_check waited entropy =
     if nat_lt 0 (length entropy) && nat_le (length entropy) 256 then Ok waited
     else Err (misplaced wanted.Entropy)
 
--- the elapsed milliseconds for the next command after a line, or the reason why the line is bad;
--- `waited` is the elapsed time before the line
+-- the total of the waits before the next command, after a line with this meaning, or the reason why
+-- the line is bad; `waited` is the total before the line
 abbrev pub check : (waited : ℕ) → Meaning → Result ℕ BadLine
 check waited (Executes digits) = do
   buffer ← ok_or (bytes_of digits) (misplaced wanted.Hex)
@@ -43,16 +43,16 @@ check waited (SetsEntropy digits) = do
 check waited CyclesPower = Ok waited
 check waited DoesNothing = Ok waited
 
--- the elapsed milliseconds for the next command after a line, or the reason why the line is bad;
--- every line of over 65,536 bytes is bad
+-- the total of the waits before the next command, after this line, or the reason why the line is
+-- bad; every line of over 65,536 bytes is bad
 unfoldable pub line_check : (waited : ℕ) → List ℕ → Result ℕ BadLine
 line_check waited line = do
   short ← refused_if (not (nat_le (length line) 65536)) long_line
   said ← line_reading line
   check waited said
 
--- A line was checked. If it is good, it sets this time for the next command (`new`); if it is
--- bad, it has no effect.
+-- A line was checked. If it is good, it sets the total of the waits before the next command
+-- (`new`); if it is bad, it has no effect.
 abbrev pub Checks : Result ℕ BadLine → (old : ℕ) → Result (Unit {0}) BadLine → (new : ℕ) → Type 0
 Checks defined old (Ok done) new = defined ≡ Ok new
 Checks defined old (Err bad) new = (defined ≡ Err bad) × (new ≡ old)
@@ -68,7 +68,7 @@ abbrev pub fault_at : Result ℕ BadLine → (number : ℕ) → (line : List ℕ
 fault_at (Ok next) number line = []
 fault_at (Err bad) number line = record { number = number; line = line; bad = bad } ∷ []
 
--- the elapsed milliseconds after a checked line; a bad line adds none
+-- the total of the waits after a checked line; a bad line does not change it
 abbrev pub waited_behind : Result ℕ BadLine → (waited : ℕ) → ℕ
 waited_behind (Ok next) waited = next
 waited_behind (Err bad) waited = waited

@@ -1,5 +1,5 @@
--- How a script keeps its device: the saver was notified of the device line by line, and only the
--- output of the lines that were played was written.
+-- How a script keeps its device: the saver is notified of the device line by line, and only the
+-- output of lines that were played is written.
 use Rattle.std.specs.Prelude.{◌≡◌, ℕ, ◌+◌, Bool, true, false, List, [], ◌∷◌, ◌++◌, length}
 use Rattle.std.specs.Prelude.{Option, Some, None, IfSome, Result, Ok, Err}
 use Rattle.std.specs.Io.KnownBytes.{Appends, append_known}
@@ -76,8 +76,8 @@ abbrev pub Writes : Result (Unit {0}) ScriptFault
 Writes (Err fault.Write) old new text = CutOff (append_known old text) new
 Writes other old new text = Appends old new text
 
--- Lines of a text were played from `start` to an end with the property `Last`. Their output was
--- written after the old contents of the writer (`old`).
+-- Lines of a text were played from `start` on, and the state after them satisfies `Last`. Their
+-- output was written after the old contents of the writer (`old`).
 pub record Played {S : Type 0} (saves saves_change : S → Record → S → Type 0)
     (text left old new : Option (List ℕ)) (start : Kept S)
     (result : Result (Unit {0}) ScriptFault) (Last : Kept S → Type 0) : Type 0 where
@@ -92,8 +92,8 @@ pub record Played {S : Type 0} (saves saves_change : S → Record → S → Type
   pub last : Last end
 
 -- A run kept its device: the output is that of the played lines, and the saver was notified of each
--- of them. The end of these lines has the property `Last`. If a save failed, the line of that save
--- is not among them, and none of its output was written. In that case `Last` is not claimed, and if
+-- of them. The state after these lines satisfies `Last`. If a save failed, the line of that save is
+-- not among them, and none of its output was written. In that case `Last` is not claimed, and if
 -- the writer failed too, the output is unspecified.
 abbrev pub KeepsDevice : {S : Type 0} → (saves saves_change : S → Record → S → Type 0)
     → (text left old new : Option (List ℕ)) → (writer : Marks) → Kept S

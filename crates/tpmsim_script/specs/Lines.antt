@@ -20,8 +20,8 @@ rest_of lines = slice_range lines.bytes.items lines.next lines.filled
 abbrev pub IsUnbroken : List ℕ → Type 0
 IsUnbroken bytes = All (λ byte. (byte == 10) ≡ false) bytes
 
--- the result of a search after the last byte that was read: more bytes may follow; or the reader
--- has ended, at the end of a line or within one
+-- the result of a search that found no end of a line: more bytes may follow; or the reader has
+-- ended, either after a whole line or within the last one
 abbrev pub next_at : Bool → List ℕ → Next
 next_at false line = Incomplete
 next_at true [] = End
@@ -37,8 +37,8 @@ BeginsTooLong text =
     (line : List ℕ) × (rest : List (List ℕ))
     × (lines_of text ≡ line ∷ rest) × (65536 < length line)
 
--- The next line is found as follows, whatever the reader returns from now on: the next line is this
--- one; or it is too long; or it is incomplete; or there is no next line.
+-- The result of a search for the next line, which is right whatever the reader returns from now on:
+-- the next line is this one, or is too long, or is incomplete, or does not exist.
 abbrev pub Finds : Lines → Next → Lines → Type 0
 Finds old Line new = (more : List ℕ) → MayFollow old more
     → lines_of (line_of old ++ (rest_of old ++ more))

@@ -15,8 +15,8 @@ abbrev pub playing_of : {K S O P N : Type 0} → (K → Record) → Player K S O
 playing_of record_of player =
     playing player.traced player.script (state_of record_of player.machine)
 
--- A line had its effect, and its text was printed after known contents; or the writer failed, and
--- the text was truncated; or the line is bad, had no effect and printed nothing. If the saver
+-- A line had its effect, and its output was printed after the old contents; or the writer failed,
+-- and the output was truncated; or the line is bad, had no effect and printed nothing. If the saver
 -- failed, nothing was printed.
 abbrev pub Did : Option Effect
     → Option (List ℕ) → Playing

@@ -22,8 +22,8 @@ fault_name (fault.Range column) = codes "Range " ++ decimal column
 fault_name fault.TooLong = codes "TooLong"
 fault_name fault.NoMemory = codes "NoMemory"
 
--- the words that say what is expected at the position of a bad line's fault; the words of a
--- command follow `do` and a space
+-- the words that say what is expected at the position of a bad line's fault; a command in words
+-- begins after `do` and a space
 abbrev pub wanted_text : Wanted → (line : List ℕ) → AsmFault → List ℕ
 wanted_text wanted.Word line fault = codes "do, cmd, loc, wait, entropy or power"
 wanted_text wanted.Command line fault = word_at (drop 3 line) fault

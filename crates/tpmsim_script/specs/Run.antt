@@ -1,4 +1,4 @@
--- How a run of a script ends, and what its steps find.
+-- How a run of a script ends, and the effects of its steps.
 use Rattle.std.specs.Prelude.{◌≡◌, ℕ, ◌+◌, Bool, true, false, List, [], ◌∷◌, ◌++◌, length}
 use Rattle.std.specs.Prelude.{Option, Some, None, IfSome, Result, Ok, Err}
 use Rattle.tpm_bytes.specs.Tap.{Marks}
@@ -8,19 +8,19 @@ use Rattle.tpmsim_script.specs.Script.{IsOutput, Playing, play}
 use Rattle.tpmsim_script.specs.declared.fault.ScriptFault.{ScriptFault}
 use Rattle.tpmsim_script.specs.declared.fault.ScriptFault.TheVariants as fault
 
--- P holds for None if a run ended well, and for the number of the bad line if the run stopped at a
--- bad line. If the run ended with another fault, P is not claimed.
+-- If a run ended well, P holds for None. If it stopped at a bad line, P holds for the number of
+-- that line. After any other fault, nothing is claimed.
 abbrev pub Ran : (Option ℕ → Type 0) → Result (Unit {0}) ScriptFault → Type 0
 Ran P (Ok done) = P None
 Ran P (Err (fault.Line number)) = P (Some number)
 Ran P (Err other) = Unit {0}
 
--- If the reader failed, a fact holds.
+-- If the reader failed, `fact` holds.
 abbrev pub OnUnread : {X : Type 0} → Result X ScriptFault → Type 0 → Type 0
 OnUnread (Err fault.Read) fact = fact
 OnUnread other fact = Unit {0}
 
--- If the writer failed, a fact holds.
+-- If the writer failed, `fact` holds.
 abbrev pub OnUnwritten : {X : Type 0} → Result X ScriptFault → Type 0 → Type 0
 OnUnwritten (Err fault.Write) fact = fact
 OnUnwritten other fact = Unit {0}
@@ -30,12 +30,12 @@ abbrev pub is_unsaved : Result (Unit {0}) ScriptFault → Bool
 is_unsaved (Err fault.Save) = true
 is_unsaved other = false
 
--- If there were too many lines, a fact holds.
+-- If there were too many lines, `fact` holds.
 abbrev pub OnTooMany : {X : Type 0} → Result X ScriptFault → Type 0 → Type 0
 OnTooMany (Err fault.TooManyLines) fact = fact
 OnTooMany other fact = Unit {0}
 
--- If there was not enough memory, a fact holds.
+-- If there was not enough memory, `fact` holds.
 abbrev pub OnNoMemory : {X : Type 0} → Result X ScriptFault → Type 0 → Type 0
 OnNoMemory (Err fault.NoMemory) fact = fact
 OnNoMemory other fact = Unit {0}
@@ -59,8 +59,8 @@ PlaysUpTo (Some text) old new p number next rest =
     (played : List (List ℕ)) × (lines_of text ≡ played ++ rest)
     × (next ≡ number + length played) × IsOutput old new None (play p number played)
 
--- The reader failed, and has not returned `left`. It had returned the lines that were played, none
--- of them bad, and the start of one more.
+-- The reader failed before it returned the text `left`. It had returned the lines that were played,
+-- none of which is bad, and the start of one more line.
 abbrev pub PlaysToFailure : Option (List ℕ) → Option (List ℕ)
     → Option (List ℕ) → Option (List ℕ) → Playing → Type 0
 PlaysToFailure None left old new p = Unit {0}
@@ -75,8 +75,9 @@ abbrev pub PlaysAllAllowed : Option (List ℕ) → Option (List ℕ) → Option 
 PlaysAllAllowed text old new p =
     (line : List ℕ) × (rest : List (List ℕ)) × PlaysUpTo text old new p 1 1048577 (line ∷ rest)
 
--- The text's first line is this line; or the text is empty; or its first line is too long and has
--- this number; or the reader or the writer failed. There is no other fault.
+-- The result of a search for the next line: the text's first line is this line; or the text is
+-- empty; or its first line, which has this number, is too long; or the reader or the writer failed.
+-- There is no other fault.
 abbrev pub NextFound : ℕ → Option (List ℕ)
     → Result Bool ScriptFault → List ℕ → Option (List ℕ) → Type 0
 NextFound number old (Ok true) line new = LosesFirstLine old line new
@@ -86,7 +87,7 @@ NextFound number old (Err fault.Read) line new = Unit {0}
 NextFound number old (Err fault.Write) line new = Unit {0}
 NextFound number old (Err other) line new = ⊥
 
--- If a run ended well, at a bad line, or because the reader failed, a fact holds.
+-- If a run ended well, at a bad line, or because the reader failed, `fact` holds.
 abbrev pub UnlessFailed : {X : Type 0} → Result X ScriptFault → Type 0 → Type 0
 UnlessFailed (Ok x) fact = fact
 UnlessFailed (Err (fault.Line number)) fact = fact

@@ -42,11 +42,11 @@ playing traced script device = record {
 abbrev pub script_bytes : List ℕ
 script_bytes = range_with_len 0 256
 
--- the device of a script for which no image is given
+-- the new device on which a script without an image is played
 abbrev pub new_device : Record
 new_device = manufactured script_bytes
 
--- the start of a script: locality 0, no time waited, random bytes that are all 0, and this device
+-- the start of a script: locality 0, no elapsed time, random bytes that are all 0, and this device
 unfoldable pub at_first : (traced : Bool) → (device : Record) → Playing
 at_first traced device = record {
   traced = traced;
@@ -56,7 +56,7 @@ at_first traced device = record {
   device = device;
 }
 
--- the 256 bytes of an event's randomness: these bytes, repeated
+-- the 256 random bytes of an event: these bytes, repeated
 unfoldable pub repeated : List ℕ → List ℕ
 repeated entropy =
     map (λ place. slice_index entropy (place % length entropy)) (range_with_len 0 256)
@@ -70,7 +70,7 @@ pub record Effect : Type 0 where
 abbrev pub printed_response : List ℕ → List ℕ
 printed_response response = encode_lower response ++ 10 ∷ []
 
--- the effect of a line that prints nothing
+-- the effect of a line that prints nothing; the script continues in this state
 abbrev pub silence : Playing → Effect
 silence p = record { text = []; next = p }
 
@@ -116,7 +116,7 @@ set_entropy p entropy =
     if nat_lt 0 (length entropy) && nat_le (length entropy) 256
     then Some (silence (record p { random = repeated entropy })) else None
 
--- the effect of the meaning of a line; None if it cannot be performed
+-- the effect of a line with this meaning; None if it cannot be performed
 abbrev pub perform : Playing → Meaning → Option Effect
 perform p (Executes digits) = option_map (execute p) (bytes_of digits)
 perform p (ExecutesWords words) = option_map (execute p) (result_ok (assembled words))
@@ -126,7 +126,7 @@ perform p (SetsEntropy digits) = option_and_then (set_entropy p) (bytes_of digit
 perform p CyclesPower = Some (cycle p)
 perform p DoesNothing = Some (silence p)
 
--- the effect of a line; None if the line is bad, as every line of over 65,536 bytes is
+-- the effect of a line; None if the line is bad or has more than 65,536 bytes
 unfoldable pub perform_line : Playing → List ℕ → Option Effect
 perform_line p line =
     if nat_le (length line) 65536 then option_and_then (perform p) (line_meaning line) else None

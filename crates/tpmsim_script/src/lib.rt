@@ -6,18 +6,18 @@
 //! each bad line.
 //!
 //! A script is a text whose lines are read one after another ([`lines`], [`line`]). A line sets
-//! values for the next command ([`script`]), or is performed on the device ([`player`]), with a
-//! command's bytes in a [`room`]. The responses, and the traces if requested, collect in a buffer
-//! ([`answers`]) that is written before more of the script is read ([`run`]). A saver is notified
-//! of the device as the script runs.
+//! values for the next command ([`script`]), or is performed on the device ([`player`]). The bytes
+//! of a command are decoded into a buffer ([`room`]). The responses, and the traces if requested,
+//! collect in a buffer ([`answers`]) that is written before more of the script is read ([`run`]). A
+//! saver is notified of the device as the script runs.
 //!
 //! The crate uses `tpm_machine` for the device and its savers, `tpm_text` for commands in words and
-//! traces, `tpm_help` for what is expected at a fault in words, and `tpm_hex`. If allocations for
-//! the device never fail, the output is the one that `specs/` defines for the script, to its end or
-//! to its first bad line. Whatever the fault, the lines before it were run, and the saver was
-//! notified of the device at each of them. All memory is allocated at the start, except for the
-//! device's own and for a report's text. A report equals its definition in `specs/`, which lists
-//! the faults of the script's lines.
+//! traces, `tpm_help` to say what is expected at a fault, and `tpm_hex`. If allocations for the
+//! device never fail, the output is the one that `specs/` defines for the script, up to its end or
+//! its first bad line. Whatever the fault, the lines before it were run, and the saver was notified
+//! of the device at each of them. All memory is allocated at the start, except for the device's own
+//! and for a report's text. A report equals its definition in `specs/`, which lists the faults of
+//! the script's lines.
 
 pub mod answers;
 pub mod bad_line;

@@ -40,7 +40,7 @@ pub struct Lines {
     /// The line that was found last, or the part of the next line that has been read.
     line: ArrayVec<u8, 65536>,
     bytes: Vec<u8>,
-    /// The offset range of the bytes that were read and do not belong to a line yet.
+    /// The bytes from offset `next` to `filled` were read and do not belong to a line yet.
     next: usize,
     filled: usize,
     /// Whether the last read returned nothing.
@@ -89,7 +89,8 @@ impl Lines {
         self.line.clear();
     }
 
-    /// Adds bytes that were read to the line, up to the end of the line or of these bytes.
+    /// Appends bytes that were read to the line: up to the end of the line, or all of them if they
+    /// do not contain it.
     pub fn find(&mut self) -> Next
         requires { IsUnbroken (line_of self.old) }
         ensures found { Finds self.old result self.new }

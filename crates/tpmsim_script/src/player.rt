@@ -1,5 +1,5 @@
-//! A device and the script that it plays. For each line, the player performs the line, saves the
-//! device if it changed, and prints the response, preceded by the trace if requested.
+//! Plays the lines of a script on a device. After each command, the player saves the device if it
+//! changed, and only then prints the trace (if requested) and the response.
 
 ghost use Rattle.std.specs.Prelude.{◌≡◌, ◌≤◌, [], false, true, length, IfOk, OnOk, OnErr};
 ghost use Rattle.std.specs.Io.KnownBytes.{Appends, Keeps};
@@ -43,7 +43,7 @@ pub struct Player<K: Keep> {
 }
 
 impl<K: Keep> Player<K> {
-    /// A device, at the start of a script.
+    /// Creates a player of this device, at the start of a script.
     pub fn new(alloc: Global, machine: Machine<K>, traced: bool) -> Result<Player<K>, AllocError>
         ensures playing { IfOk result (λ player. playing_of K.record_of player
             ≡ at_first traced (state_of K.record_of machine)) }
@@ -66,8 +66,9 @@ impl<K: Keep> Player<K> {
         &self.machine
     }
 
-    /// Performs a line, and prints the response to a command, and traces if requested. Decodes the
-    /// line's hex or words into `room`. If an allocation can fail, the effect is unspecified.
+    /// Performs a line. Prints the response if the line is a command, and a trace if requested.
+    /// Decodes the line's hex or words into `room`. If an allocation can fail, the effect is
+    /// unspecified.
     #[tactic(auto, using(crate::proofs::Doing::unsaid_done))]
     pub fn line<W: Write, S: Saver>(
         &mut self,
@@ -200,7 +201,7 @@ impl<K: Keep> Player<K> {
         self.trace(&event, writer)
     }
 
-    /// Prints the trace of an event with the latest outcome, if traces are requested.
+    /// Prints the trace of this event, whose outcome is in `outcome`, if traces are requested.
     #[tactic(auto, unfolding(crate::specs::Script::printed_trace), using(crate::proofs::Doing::nothing_printed))]
     fn trace<W: Write>(&mut self, event: &Event, writer: &mut Tap<W>) -> Result<(), LineFault>
         requires { IsTraceable (plain_event event.now)

@@ -24,7 +24,7 @@ pub struct Script {
 }
 
 impl Script {
-    /// The start of a script: locality 0, no time waited, and random bytes that are all 0.
+    /// The start of a script: locality 0, no elapsed time, and random bytes that are all 0.
     pub fn new() -> Script
         ensures locality { locality_number result.locality ≡ 0 }
         ensures time { result.waited ≡ 0 }
@@ -54,7 +54,7 @@ impl Script {
         Ok(())
     }
 
-    /// Sets the bytes, 1 to 256, that are repeated to make the random bytes.
+    /// Sets the random bytes of later commands: 1 to 256 bytes, which are repeated to 256.
     pub fn set_entropy(&mut self, entropy: &[u8]) -> Result<(), Unfit>
         ensures fits { IsOk result
             ↔ ((0 < length entropy.now) × (length entropy.now ≤ RANDOM_BYTES)) }
@@ -68,7 +68,7 @@ impl Script {
         Ok(())
     }
 
-    /// The event of this command, with the values that the script has set at this point.
+    /// The event of this command, with the values that the script's lines have set so far.
     pub fn command<'a>(&mut self, buffer: &'a [u8]) -> Event<'a>
         ensures event { result
             ≡ Event.Command buffer.entry self.old.locality self.old.waited self.old.random }

@@ -85,7 +85,7 @@ fn wanted_text(bad: BadLine, line: &[u8]) -> &'static str
     }
 }
 
-/// The words after `do` and its space.
+/// The words of a line after `do` and a space.
 fn words_of(line: &[u8]) -> &[u8]
     ensures { result.now ≡ drop 3 line.now }
 {

@@ -196,7 +196,7 @@ func Read(tpm *tpmsim.TPM, value string) ([]byte, error) {
 // Measure measures data into a PCR, and returns the digest for the SHA-256 bank.
 func Measure(tpm *tpmsim.TPM, pcr uint32, data string) []byte {
 	answer := Must(tpm, 0x13c, []uint32{pcr}, Password(""), Sized([]byte(data)))
-	// The number of digests and the SHA-1 digest with its algorithm come before it.
+	// The number of digests, and the SHA-1 digest with its algorithm, come before this digest.
 	return answer.Parameters[4+2+20+2:][:32]
 }
 

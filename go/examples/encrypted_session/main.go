@@ -36,7 +36,7 @@ func area(more uint32) []byte {
 	return Join(Number(Index), []byte{0, 0x0b}, Number(byOwner|more), []byte{0, 0, 0, byte(len(secret))})
 }
 
-// names is what cpHash contains for the owner and for the index.
+// names returns the Names of the owner and of the index, which are part of cpHash.
 func names(more uint32) []byte {
 	return Join(Number(Owner), []byte{0, 0x0b}, SHA256(area(more)))
 }

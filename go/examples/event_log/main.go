@@ -41,7 +41,7 @@ func measured(tpm *tpmsim.TPM) (log []measurement) {
 // valuesOf are the values of the PCRs.
 func valuesOf(tpm *tpmsim.TPM) map[int][]byte {
 	answer := Must(tpm, 0x17e, nil, nil, Selection(pcrs...))
-	// The update counter, the selection and the number of values come before them.
+	// The update counter, the selection and the number of values come before the values.
 	answer.Parameters = answer.Parameters[4+10+4:]
 	values := map[int][]byte{}
 	for _, pcr := range pcrs {

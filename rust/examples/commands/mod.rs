@@ -45,7 +45,7 @@ pub struct Answer {
 }
 
 impl Answer {
-    /// The sized buffers at its front.
+    /// Returns this many sized buffers from the start of the parameters.
     pub fn buffers(&self, count: usize) -> Vec<Vec<u8>> {
         let mut rest = &self.parameters[..];
         (0..count)
@@ -177,7 +177,7 @@ pub fn define(tpm: &mut Device, attributes: u32, value: &[u8]) -> Result<(), Ref
 pub fn measure(tpm: &mut Device, pcr: u8, data: &[u8]) -> Result<Vec<u8>, Refusal> {
     let by = Some(By::Password(b""));
     let digests = send(tpm, 0x13c, &[pcr.into()], by, &sized(data))?.parameters;
-    // The number of digests and the SHA-1 digest with its algorithm come before it.
+    // The number of digests, and the SHA-1 digest with its algorithm, come before this digest.
     Ok(digests[4 + 2 + 20 + 2..][..32].to_vec())
 }
 

@@ -30,7 +30,7 @@ fn new_nonce() -> io::Result<[u8; 16]> {
     Ok(nonce)
 }
 
-/// Returns parameters with the bytes of the first one, a sized buffer, changed.
+/// Returns the parameters with the first one, a sized buffer, encrypted or decrypted.
 fn with_first_changed(keys: &Digest, way: Way, parameters: &[u8]) -> Vec<u8> {
     let (data, rest) = front(parameters);
     [&sized(&cfb(keys, way, data))[..], rest].concat()

@@ -20,8 +20,8 @@ use tpmsim_folder::{Host, KeptFault, Place, Said};
 /// When a journal has this size, the next command begins a new journal.
 const JOURNAL_LIMIT: u64 = 262_144;
 
-/// A device that is kept in a folder. A call that fails has not answered the command. The next call
-/// begins with the contents of the journal.
+/// A device that is kept in a folder. If a call fails, the command was not answered, and the next
+/// call starts from the contents of the journal.
 #[derive(Drop)]
 pub struct Kept<'a> {
     rt: &'a HostRuntime,
@@ -29,8 +29,8 @@ pub struct Kept<'a> {
     keeper: Keeper<KeptDevice>,
     /// The text of the journal when it was last opened.
     journal: Vec<u8>,
-    /// The part of the old journal that the device did not execute, when a new journal replaces the
-    /// old one.
+    /// When a new journal replaces the old one: the part of the old one that the device did not
+    /// execute.
     tail: Tail,
     /// Whether the latest call began a new journal.
     has_begun: bool,
@@ -74,8 +74,8 @@ impl<'a> Kept<'a> {
         self.perform(Job::Show, &[])
     }
 
-    /// Executes a command of the standard at the present time of the host's clock, with or without
-    /// the completing layer.
+    /// Executes a TPM command at the present time of the host's clock, with or without the
+    /// completing layer.
     pub fn execute_now(
         &mut self,
         locality: Locality,
@@ -89,8 +89,8 @@ impl<'a> Kept<'a> {
         self.execute(&command)
     }
 
-    /// Executes a command of the standard this many milliseconds after the one before it, without
-    /// the completing layer.
+    /// Executes a TPM command this many milliseconds after the one before it, without the
+    /// completing layer.
     pub fn execute_after(
         &mut self,
         elapsed_ms: u32,
@@ -105,7 +105,7 @@ impl<'a> Kept<'a> {
         self.execute(&command)
     }
 
-    /// Executes a command of the standard, given its text for the keeper.
+    /// Executes a TPM command, given the text that encodes it for the keeper.
     fn execute(&mut self, command: &[u8]) -> Result<Answer<'_>, KeptFault>
         ensures { IfOk result (λ answer. length answer.response.now ≤ buffer_limit) }
     {
@@ -128,7 +128,7 @@ impl<'a> Kept<'a> {
         self.perform(Job::Cut, &[])
     }
 
-    /// The state text of the device, which is written to `content`. The journal is unchanged.
+    /// Writes the state text of the device to `content`, and returns it. The journal is unchanged.
     pub fn snapshot<'b>(
         &mut self,
         content: &'b mut [u8; CONTENT_LIMIT],
@@ -167,7 +167,7 @@ impl<'a> Kept<'a> {
         }
     }
 
-    /// Does what the keeper asks, until the job is done or has failed.
+    /// Performs the keeper's requests, until the job is done or has failed.
     fn perform(&mut self, job: Job, text: &[u8]) -> Result<(), KeptFault> {
         self.has_begun = false;
         let Ok(()) = self.keeper.begin(job, text) else {

@@ -13,7 +13,8 @@ use tpm_state_text::{RestoreFault, StateFault};
 use tpm_step::Outcome;
 use tpmsim_folder::Said;
 
-/// Reports why a text cannot be opened as a journal. If it can, reports damage.
+/// Returns why a text cannot be opened as a journal. If the text can be opened, returns `Damaged`,
+/// since it was damaged when it was read before.
 pub fn said_of_text(alloc: Global, text: &[u8]) -> Said
     ensures { IsSaidOf text.now result }
 {
@@ -27,7 +28,7 @@ pub fn said_of_text(alloc: Global, text: &[u8]) -> Said
     }
 }
 
-/// Reports why a journal was not opened.
+/// Returns the report of why a journal was not opened.
 pub fn said_of_opening(fault: OpenFault) -> Said
     ensures { result ≡ said_of_opening fault }
 {
@@ -40,7 +41,7 @@ pub fn said_of_opening(fault: OpenFault) -> Said
     }
 }
 
-/// Reports why a journal was not followed.
+/// Returns the report of why a journal's entries could not all be executed again.
 pub fn said_of_following(fault: FollowFault) -> Said
     ensures { result ≡ said_of_following fault }
 {

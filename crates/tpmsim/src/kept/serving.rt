@@ -9,7 +9,7 @@ use tpm_wire::connection::Connection;
 use tpm_wire::reading::fill;
 use tpmsim_folder::KeptFault;
 
-/// The limit on a connection's reads that return bytes.
+/// The largest number of reads that return bytes, for one connection.
 const READS: u32 = 1_048_576;
 
 /// Why a connection was not served to its end.
@@ -64,8 +64,8 @@ pub fn serve<R: Read, W: Write, B: RandomBytes>(
     Err(ServeFault::Client)
 }
 
-/// Executes the complete buffers that a connection has received, at most one for each byte, and
-/// writes their responses.
+/// Executes the complete buffers that a connection has received, and writes their responses. There
+/// are fewer buffers than bytes.
 fn answer_whole<W: Write, B: RandomBytes>(
     kept: &mut Kept<'_>,
     terms: Terms,

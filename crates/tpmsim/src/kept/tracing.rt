@@ -11,7 +11,7 @@ use tpm_step::Row;
 use tpm_types::{ActionCheck, Check};
 
 /// Returns the row of an answer: the command, and the check that refused it. None if the answer
-/// cannot be traced, which no device's answer causes.
+/// cannot be traced, which never happens with an answer of a device.
 pub fn traced_row(answer: Answer<'_>) -> Option<Row>
     ensures found { IfSome result (λ row. IsTraceable answer.entry × (row ≡ row_of answer.entry)) }
     ensures all { IsTraceable answer.entry → is_some result ≡ true }

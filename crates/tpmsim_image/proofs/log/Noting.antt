@@ -1,4 +1,4 @@
--- An entry that a log writes is that of the latest execution.
+-- The entry that a log writes is the entry of the latest execution.
 use Rattle.std.proofs.Common.{◌≡◌, ℕ, Option, sym, ap, ◌∙◌, subst}
 use Rattle.tpm_machine.specs.Executions.{Execution}
 use Rattle.tpm_journal_text.specs.Entry.{PlainEntry}

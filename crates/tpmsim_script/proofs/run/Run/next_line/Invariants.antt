@@ -6,8 +6,8 @@ use Rattle.tpmsim_script.specs.Lines.{Agrees, IsUnbroken, line_of, rest_of, text
 use Rattle.tpmsim_script.specs.Player.{playing_of}
 use Rattle.tpmsim_script.proofs.run.Run.next_line.Given as goal
 
--- The line so far and the rest of the text make up the text that remained before, and no output is
--- lost.
+-- The line so far, followed by the rest of the text, is the text that remained before this search.
+-- No output is lost.
 abbrev pub invariant-loop-self : goal.invariant-loop-self
 invariant-loop-self g l =
     record {
