@@ -52,11 +52,11 @@ marked index attribute =
       };
     }
 
--- an index with this data, on which WRITTEN is set
+-- an index with this data, and with WRITTEN set
 abbrev pub with_data : NvIndex → List ℕ → NvIndex
 with_data index bytes = record (marked index attribute.Written) { bytes = bytes }
 
--- the data of an index; before the first write, this byte repeated over the size of the index
+-- the data of an index; before the first write, this byte, repeated as often as the index has bytes
 abbrev pub data_or : ℕ → NvIndex → List ℕ
 data_or byte index =
     if index_has index attribute.Written then index.bytes else replicate index.public.data_size byte
@@ -94,8 +94,8 @@ written contents handle offset bytes = do
       write_fault.Partial
   Ok (changed_index contents handle (with_data index (put_over offset bytes (data_or 0xff index))))
 
--- the contents after a counter took this value: the largest value that any counter has ever had is
--- raised to it if it was lower
+-- the contents after a counter reached this value. If no counter has ever had a larger value, this
+-- is the new largest value
 abbrev pub counted : NvContents → ℕ → NvContents
 counted contents count = record contents { max_count = max contents.max_count count }
 

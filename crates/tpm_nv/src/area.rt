@@ -1,5 +1,5 @@
-//! The trait of the single area that contains the data of all NV indices, and the moves of bytes
-//! that both kinds of area share.
+//! The trait of the single area that contains the data of all NV indices, and functions that move
+//! bytes within an area.
 
 ghost use Rattle.tpm_types.specs.Limits.{nv_space_limit};
 ghost use Rattle.std.specs.Prelude.{◌≡◌, ◌≤◌, ◌+◌, ℕ, [], Bool, List, length, replicate, take};
@@ -26,7 +26,7 @@ pub trait Area: Drop + Sized {
     fn as_slice(&self) -> &[u8]
         ensures { result.now ≡ bytes self.now };
 
-    /// Overwrites the bytes at an offset with a piece.
+    /// Overwrites the bytes at an offset with `piece`.
     fn put(&mut self, start: usize, piece: &[u8])
         requires { start + length piece.now ≤ length (bytes self.old) }
         ensures { bytes self.new ≡ put_over start piece.now (bytes self.old) };
@@ -61,7 +61,7 @@ pub trait Area: Drop + Sized {
         ensures { bytes self.new ≡ take size (bytes self.old) };
 }
 
-/// Overwrites the bytes at an offset with a piece.
+/// Overwrites the bytes at an offset with `piece`.
 pub(crate) fn put_piece(bytes: &mut [u8], start: usize, piece: &[u8])
     requires { start + length piece.now ≤ length bytes.old }
     ensures { bytes.new ≡ put_over start piece.now bytes.old }

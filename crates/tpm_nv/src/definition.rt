@@ -81,9 +81,9 @@ pub fn has_type_size(public: &NvPublic) -> bool
     }
 }
 
-/// Checks whether the platform, or else the owner, may define an index with this public area and
-/// an authorization value of this size (TPM 2.0 Library, Part 3, section 31.3). The fault is that
-/// of the first check that fails.
+/// Checks whether the platform (if `by_platform`) or the owner may define an index with this public
+/// area and an authorization value of this size (TPM 2.0 Library, Part 3, section 31.3). The fault
+/// is that of the first check that fails.
 #[tactic(auto, unfolding(crate::specs::Definition::definition_passes), using(crate::proofs::DefinitionLaws::unwritten_is))]
 pub fn check_definition(
     public: &NvPublic,
@@ -91,7 +91,7 @@ pub fn check_definition(
     by_platform: bool,
 ) -> Result<(), DefinitionFault>
     ensures checked { result ≡ definition_passes by_platform public.now auth_size }
-    // An index that passes the checks can be defined.
+    // Defining an index that passes the checks fails with neither `Written` nor `DataSize`.
     ensures sized { OnOk result (has_type_size public.now ≡ true) }
     ensures unwritten { OnOk result (has public.now.attributes attribute.Written ≡ false) }
 {

@@ -8,8 +8,8 @@ use crate::indices::Indices;
 use crate::stored_indices::SlotIndices;
 
 /// NV indices form a map keyed by handle. The laws say what is found after an index was defined,
-/// changed or removed, that the handles still ascend, how many indices there are, and which one
-/// comes next. With fixed-size storage an allocation never fails. A proof only: it has no effect
+/// changed or removed, that the handles still ascend, how many indices there are, and which handle
+/// comes next. With fixed-size storage, an allocation never fails. A proof only: it has no effect
 /// at run time.
 #[inline(always)]
 #[tactic(auto, using(tpm_containers::proofs::SortedMapLaws::is_map))]

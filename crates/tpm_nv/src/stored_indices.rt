@@ -1,5 +1,5 @@
 //! How NV indices are stored: the heads in a map keyed by handle, and the data of all indices in
-//! one area. One type covers both kinds of storage, lists and fixed size.
+//! one area. One type covers both kinds of storage: lists that grow, and storage of fixed size.
 
 ghost use Rattle.std.specs.Prelude.{◌≡◌, ◌≢◌, ◌<◌, ◌≤◌, ◌+◌, ◌||◌, ℕ, List, ◌++◌, None, Some, Ok, Err};
 ghost use Rattle.std.specs.Prelude.{IfErr, IfNone, IfOk, IfSome, IsSomeAnd, OnErr, OnOk};
@@ -87,7 +87,8 @@ impl<H: SortedMap<Head, NV_INDEX_LIMIT>, R: Area> StoredIndices<H, R> {
         found_at(self.heads.as_slice(), handle.number)
     }
 
-    /// An index, if a command for this type may write it; otherwise the fault.
+    /// Finds an index that a command for this type of index may write. Returns the fault if there
+    /// is none.
     fn writable(&self, handle: Handle, kind: NvType) -> Result<Found<'_>, WriteFault>
         ensures refused { IfErr result (λ fault. check_writable self.now handle kind ≡ Err fault) }
         ensures there { IfOk result (λ found. (old : List ℕ)
@@ -121,7 +122,7 @@ impl<H: SortedMap<Head, NV_INDEX_LIMIT>, R: Area> StoredIndices<H, R> {
         set_attributes(&mut self.heads, handle.number, written);
     }
 
-    /// Sets one more attribute on an index that has these attributes.
+    /// Sets one more attribute of an index whose attributes are `of`.
     fn mark(&mut self, handle: Handle, of: NvAttributes, attribute: NvAttribute)
         requires there { IsSomeAnd (index_at self.old handle) (λ index.
             of ≡ index.public.attributes) }
@@ -162,7 +163,7 @@ impl<H: SortedMap<Head, NV_INDEX_LIMIT>, R: Area> StoredIndices<H, R> {
         is_room(self.heads.len(), self.area.as_slice().len(), size)
     }
 
-    /// Checks whether an index may be added with its handle.
+    /// Checks that the handle of a new index is free and that there is room for the index.
     fn check_room(&self, public: &NvPublic) -> Result<(), RestoreFault>
         ensures { HasRoomFor self.now public.now result }
     {
@@ -202,7 +203,7 @@ impl<H: SortedMap<Head, NV_INDEX_LIMIT>, R: Area> StoredIndices<H, R> {
         }
     }
 
-    /// The bytes of an index that was found.
+    /// The bytes of the index that was found.
     fn data(&self, found: Found) -> &[u8]
         requires { (handle : Handle) × IsFound self.now handle found }
         ensures { let head = found.entry.head.now in (handle : Handle) (old : List ℕ)

@@ -10,7 +10,7 @@ use Rattle.tpm_policy.specs.Comparison.{signed_number, unsigned_number}
 abbrev pub AreBytes : List ℕ → Type 0
 AreBytes bytes = (i : ℕ) → slice_index bytes i < 256
 
--- the number encoded by these bytes after a prefix that encodes this number
+-- the number that a prefix and these bytes encode together, where the prefix alone encodes `n`
 abbrev number_after : ℕ → List ℕ → ℕ
 number_after n bytes = number_from_digits_after 256 n bytes
 
@@ -91,7 +91,7 @@ all_below : (bytes : List ℕ) → AreBytes bytes → AllBelowBase 256 bytes
 all_below [] fit = tt
 all_below (x ∷ xs) fit = (fit 0, all_below xs (λ i. fit (suc i)))
 
--- If a larger natural number is subtracted from a smaller one, the difference is the negative
+-- If a larger natural number is subtracted from a smaller one, the difference is this negative
 -- integer.
 below_zero : (n whole : ℕ) → n < whole → pos n -ℤ pos whole ≡ negsuc (whole - suc n)
 below_zero n zero below = absurd (omega arith)
@@ -101,7 +101,7 @@ below_zero n (suc more) below = rw (lt-ltb n (suc more) below) refl
 abbrev raised : ℕ → ℕ
 raised byte = (byte + 128) % 256
 
--- Adding the same number to both first bytes does not change which of the two is less.
+-- If raising two bytes changes both by the same number, it does not change which of them is less.
 raised_alike : (x y : ℕ) (less : Bool) → (raised x + y ≡ raised y + x)
     → (nat_lt x y || (x == y && less)) ≡ (nat_lt (raised x) (raised y) || (raised x == raised y && less))
 raised_alike x y less alike =

@@ -1,4 +1,4 @@
-//! The assertions that need no other part of the device: PolicyOR, PolicyAuthValue,
+//! The assertions that depend on no other part of the device: PolicyOR, PolicyAuthValue,
 //! PolicyPassword, PolicyCommandCode, PolicyCpHash, PolicyNvWritten and PolicyLocality.
 
 ghost use Rattle.tpm_commands.specs.CommandCode.{code_number};

@@ -21,8 +21,8 @@ fn is_less(bytes: &[u8], others: &[u8]) -> bool
     byte < other || byte == other && is_less(bytes, others)
 }
 
-/// The first byte of a signed number, plus half of a byte's range (128). The least signed number
-/// then starts with zero, so signed numbers compare like unsigned ones.
+/// Adds 128, half of a byte's range, to the first byte of a signed number, modulo 256. The least
+/// signed number then starts with zero. Therefore, signed numbers compare like unsigned ones.
 fn raised_byte(byte: u8) -> u8
     ensures { result ≡ (byte + 128) % 256 }
 {

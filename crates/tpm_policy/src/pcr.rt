@@ -28,7 +28,7 @@ pub struct PcrAssertion<'a> {
 }
 
 impl<'a> PcrAssertion<'a> {
-    /// The digest that the assertion uses: the digest of the PCRs. In a trial session it is the
+    /// The digest that extends the policy digest: that of the PCRs, or, in a trial session, the
     /// digest in the command, unless that is empty.
     fn taken(&self, trial: bool) -> &'a [u8]
         ensures { result.now ≡ taken_digest trial (pcr_parts self.now) }
@@ -66,9 +66,9 @@ impl PolicyState {
         digest_parts(hash, &[digest, &code, selection.as_slice(), taken])
     }
 
-    /// TPM2_PolicyPCR: returns PCR_CHANGED if a PCR has changed since the session's first
-    /// TPM2_PolicyPCR, and VALUE if the digest of the PCRs differs from the one in the command. A
-    /// trial session accepts any digest.
+    /// TPM2_PolicyPCR: returns PCR_CHANGED if the PCRs' update counter has changed since the
+    /// session's first TPM2_PolicyPCR, and VALUE if the command contains a digest that differs from
+    /// that of the PCRs. A trial session accepts any digest.
     #[tactic(auto, unfolding(crate::specs::Assertion::pcr_asserted))]
     pub fn pcr(
         &mut self,

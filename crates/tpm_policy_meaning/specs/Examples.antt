@@ -96,7 +96,7 @@ by_count_digest =
     ∷ 0xc8 ∷ 0xa4 ∷ 0x19 ∷ 0x7b ∷ 0x79 ∷ 0xc1 ∷ 0x64 ∷ 0x9e
     ∷ 0x75 ∷ 0x73 ∷ 0x9e ∷ 0xe2 ∷ 0x8c ∷ 0x3d ∷ 0x12 ∷ 0x15 ∷ []
 
--- Each of these policies has the digest given for it.
+-- The digest of each example policy is the one defined above.
 pub record ComputesDigests : Type 0 where
   pub by_value : policy_digest alg.Sha256 by_value ≡ by_value_digest
   pub by_endorsement : policy_digest alg.Sha256 by_endorsement ≡ by_endorsement_digest

@@ -5,7 +5,7 @@ use Rattle.tpm_types.specs.declared.session_attributes.SessionAttributes.{Sessio
 use Rattle.tpm_session.specs.declared.entry.CommandText.{CommandText}
 use Rattle.tpm_session.specs.declared.session.Session.{Session}
 
--- the data that the HMAC of a command's entry covers, as values
+-- the data that the HMAC of a command's entry covers, except the nonceTPM of the entry's session
 pub record EntryParts : Type 0 where
   pub hash : List ℕ
   pub nonce_caller : List ℕ
@@ -27,8 +27,8 @@ abbrev pub entry_key : Session → List ℕ → List ℕ
 entry_key session auth_value = session.key ++ auth_value
 
 -- the HMAC text of an entry: pHash || nonceNewer || nonceOlder || nonceTPM of the decrypt session
--- || nonceTPM of the encrypt session || sessionAttributes. The nonce of another session is empty
--- unless the entry authenticates it
+-- || nonceTPM of the encrypt session || sessionAttributes. The nonces of other sessions are empty
+-- unless the entry authenticates these sessions
 abbrev pub entry_text : (hash newer older decrypt encrypt : List ℕ) → SessionAttributes → List ℕ
 entry_text hash newer older decrypt encrypt attributes =
     hash ++ newer ++ older ++ decrypt ++ encrypt ++ attributes.octet ∷ []
