@@ -47,7 +47,7 @@ integrity_of parent name protected =
 
 -- ---- writing a private area
 
--- the encrypted sensitive area, encoded as a sized buffer before its encryption
+-- the sensitive area, encoded as a sized buffer and then encrypted
 unfoldable pub encrypted_area : (parent : Object) → (name iv : List ℕ) → Sensitive → List ℕ
 encrypted_area parent name iv area =
     cfb_encrypt_of (storage_key parent name) iv (sized_text (sensitive_text area))
@@ -95,7 +95,8 @@ protected_in parent name text = do
       integrity_fault
   Ok integrity.1
 
--- the sensitive area encoded by a plain text, which must consist of exactly one sized buffer
+-- the sensitive area that decrypted bytes encode; the bytes must consist of exactly one sized
+-- buffer
 unfoldable pub area_in : (plain : List ℕ) → Result Sensitive IntegrityFault
 area_in plain = do
   area ← or_fault (filled_by sensitive_at plain) integrity_fault
@@ -111,7 +112,8 @@ decrypted_area parent name protected = do
   whole ← refused_if (not (length iv.0 == 16)) integrity_fault
   area_in (cfb_decrypt_of (storage_key parent name) iv.0 iv.1)
 
--- the sensitive area in a private area, which must belong to this public area and be of its type
+-- the sensitive area in the private area of the object with this public area; both areas must have
+-- the same type
 unfoldable pub unwrapped : (parent : Object)
     → Public
     → (text : List ℕ)

@@ -1,5 +1,5 @@
 //! Checks the values that a caller provides for a new object, and computes the size of the key that
-//! the device adds (TPM 2.0 Library, Part 1, section 27).
+//! the device generates (TPM 2.0 Library, Part 1, section 27).
 
 ghost use Rattle.std.specs.Prelude.{◌≡◌, ◌≤◌};
 ghost use Rattle.tpm_types_object.specs.SensitiveCreate.{sensitive_values_of};

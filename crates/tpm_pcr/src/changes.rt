@@ -108,7 +108,7 @@ fn check(banks: &Banks, may: bool, updates: u64) -> Result<(), ChangeFault>
 }
 
 impl Banks {
-    /// Extends a PCR by each digest in turn (TPM2_PCR_Extend). The fault is Locality if the PCR
+    /// Extends a PCR with each digest in turn (TPM2_PCR_Extend). The fault is Locality if the PCR
     /// may not be extended from this locality, else Failure if the update counter would overflow.
     #[tactic(auto, unfolding(crate::specs::Changes::extend_of))]
     pub fn extend(
@@ -131,7 +131,7 @@ impl Banks {
         Ok(())
     }
 
-    /// Extends a PCR by the digests of the data (TPM2_PCR_Event), and returns the digests. The
+    /// Extends a PCR with the digests of the data (TPM2_PCR_Event), and returns the digests. The
     /// faults are those of `extend`.
     pub fn event(
         &mut self,
