@@ -18,8 +18,8 @@ pub struct Object {
     pub hierarchy: HierarchyHandle,
     pub public: Public,
     pub auth_value: AuthValue,
-    /// The seedValue. A storage parent derives the keys for private areas from it. In any other
-    /// object, it only determines `unique`, together with `sensitive`.
+    /// The seedValue, from which `unique` is computed, together with `sensitive`. A storage parent
+    /// also derives the keys of its children's private areas from it.
     pub seed_value: Octets<32>,
     /// The object's key or sealed data.
     pub sensitive: Octets<SENSITIVE_LIMIT>,
