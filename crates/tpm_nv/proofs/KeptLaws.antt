@@ -53,7 +53,7 @@ there_is es area count handle (Some h) kept is =
       },
     )
 
--- If an index is found and P holds for the found index, P holds for this index.
+-- If a search returns an index, and P holds for what it returns, then P holds for the index.
 pub known_of : (P : NvIndex → Type 0) (found : Option NvIndex) (x : NvIndex) → found ≡ Some x → IsSomeAnd found P → P x
 known_of P None x is known = absurd cc
 known_of P (Some y) x is known = let same : y ≡ x = cc in subst P same known
@@ -251,7 +251,7 @@ module _ (es : Entries Head) (area : List ℕ) (count : ℕ) (handle : Handle) (
       let t = subst (λ (s : NvContents). (old : List ℕ) × IsIndexOf s handle f.head.now old) view (there_is es area count handle (Some f.head) kept (sym some.0)) in
       (t.0, t.1, some.1 ∙ sym (start_is es area count handle shown view))
 
--- If an index is written, its data are its bytes.
+-- If an index is written, its data consists of its bytes in the area.
 pub bytes_of : (h : Head) (bytes : List ℕ) (index : NvIndex) → index_with h bytes ≡ index → has index.public.attributes attribute.Written ≡ true → bytes ≡ index.bytes
 bytes_of h bytes index same is =
     let written : has h.public.attributes attribute.Written ≡ true = ap (λ (i : NvIndex). has i.public.attributes attribute.Written) same ∙ is in

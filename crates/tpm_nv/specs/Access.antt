@@ -56,7 +56,7 @@ marked index attribute =
 abbrev pub with_data : NvIndex → List ℕ → NvIndex
 with_data index bytes = record (marked index attribute.Written) { bytes = bytes }
 
--- the data of an index; before the first write, this byte, repeated as often as the index has bytes
+-- the data of an index; before the first write, as many copies of this byte as the index has bytes
 abbrev pub data_or : ℕ → NvIndex → List ℕ
 data_or byte index =
     if index_has index attribute.Written then index.bytes else replicate index.public.data_size byte
@@ -80,9 +80,9 @@ check_writable contents handle type = do
   index ← index_or_fault contents handle write_fault.Undefined
   writable type index
 
--- the contents after TPM2_NV_Write: the bytes overwrite the data at an offset. They must lie
--- within the data, and must cover all of it if the index has WRITEALL. A first write sets every
--- other byte to FF (this device's own choice)
+-- the contents after TPM2_NV_Write: the bytes overwrite the data at an offset. They must lie within
+-- the data, and must cover all of it if the index has WRITEALL. A first write sets all other bytes
+-- to FF (this device's own choice)
 unfoldable pub written : NvContents → Handle → (offset : ℕ) → List ℕ
     → Result NvContents WriteFault
 written contents handle offset bytes = do

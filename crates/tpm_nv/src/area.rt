@@ -12,7 +12,7 @@ use tpm_bytes::NoMemory;
 
 /// The data of all NV indices, one after another: at most [`NV_SPACE_LIMIT`] bytes.
 pub trait Area: Drop + Sized {
-    /// The bytes.
+    /// The bytes in the area.
     ghost bytes: { Self → List ℕ };
 
     /// Whether an allocation can fail.
@@ -22,7 +22,7 @@ pub trait Area: Drop + Sized {
     fn new(alloc: Global) -> Self
         ensures { bytes result ≡ [] };
 
-    /// The bytes.
+    /// The bytes in the area.
     fn as_slice(&self) -> &[u8]
         ensures { result.now ≡ bytes self.now };
 

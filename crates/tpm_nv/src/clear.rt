@@ -1,4 +1,4 @@
-//! Keeps the heads and the bytes that survive TPM2_Clear.
+//! The effect of TPM2_Clear on stored NV indices: which heads and bytes remain.
 
 ghost use Rattle.tpm_types.specs.Limits.{nv_space_limit};
 ghost use Rattle.std.specs.Prelude.{◌≡◌, ◌≤◌, ◌+◌, ◌++◌, drop, length, take, if◌then◌else◌};

@@ -48,9 +48,9 @@ pub struct StoredIndices<H: SortedMap<Head, NV_INDEX_LIMIT>, R: Area> {
 /// NV indices in lists that grow. A definition can run out of memory.
 pub type ListIndices = StoredIndices<ListMap<Head, NV_INDEX_LIMIT>, ListArea>;
 
-/// NV indices in fixed-size storage. Nothing is ever allocated, so no allocation can fail. The
-/// type is about 23,600 bytes large, including the data of all indices; therefore a value is
-/// created once and passed by reference.
+/// NV indices in fixed-size storage. Nothing is ever allocated, so no allocation can fail. A value
+/// takes about 23,600 bytes, including the data of all indices. Therefore it is created once and
+/// passed by reference.
 pub type SlotIndices = StoredIndices<SlotMap<Head, NV_INDEX_LIMIT>, SlotArea>;
 
 impl<H: SortedMap<Head, NV_INDEX_LIMIT>, R: Area> Model for StoredIndices<H, R> {
@@ -87,8 +87,8 @@ impl<H: SortedMap<Head, NV_INDEX_LIMIT>, R: Area> StoredIndices<H, R> {
         found_at(self.heads.as_slice(), handle.number)
     }
 
-    /// Finds an index that a command for this type of index may write. Returns the fault if there
-    /// is none.
+    /// Finds the index with this handle. Returns a fault if a command for this type of index may
+    /// not write it.
     fn writable(&self, handle: Handle, kind: NvType) -> Result<Found<'_>, WriteFault>
         ensures refused { IfErr result (λ fault. check_writable self.now handle kind ≡ Err fault) }
         ensures there { IfOk result (λ found. (old : List ℕ)
@@ -109,7 +109,7 @@ impl<H: SortedMap<Head, NV_INDEX_LIMIT>, R: Area> StoredIndices<H, R> {
     }
 
     /// Overwrites the data of an index at an offset, and marks the index as written. If it is not
-    /// written yet, every other byte of its data becomes `first`.
+    /// written yet, all other bytes of its data become `first`.
     fn put_data(&mut self, handle: Handle, place: DataPlace, offset: usize, first: u8, bytes: &[u8])
         requires there { IsPlaceOf self.old handle place }
         requires within { offset + length bytes.now ≤ place.size }

@@ -49,7 +49,7 @@ integrity_small parent name protected =
       length-hmac_of parent.public.name_alg (integrity_key parent) (protected ++ name),
     )
 
--- If a text consists of authenticated bytes and their integrity value, reading it finds these
+-- If a text consists of authenticated bytes and their integrity value, reading it returns these
 -- bytes.
 protected_again : (parent : Object) (name protected : List ℕ)
     → protected_in parent name (authenticated_text parent name protected) ≡ Ok protected
@@ -62,7 +62,7 @@ protected_again parent name protected =
       (bytes_eq-Decides value value).1 refl,
     ) refl
 
--- If reading a text finds protected bytes, the text consists of their integrity value and these
+-- If reading a text returns protected bytes, the text consists of their integrity value and these
 -- bytes.
 protected_found : (parent : Object) (name text protected : List ℕ)
     → AreBytes text → protected_in parent name text ≡ Ok protected
@@ -120,7 +120,7 @@ decrypted_again parent name iv area whole is =
       area_again area is,
     ) refl
 
--- If decrypting some bytes yields an area, the bytes are that area, encrypted.
+-- If decrypting some bytes yields an area, the bytes are the encryption of that area.
 decrypted_found : (parent : Object) (name protected iv encrypted plain : List ℕ) (area : Sensitive)
     → AreBytes protected → sized_at 16 protected ≡ Ok (iv, encrypted) → length iv ≡ 16
     → cfb_encrypt_of (storage_key parent name) iv plain ≡ encrypted

@@ -232,7 +232,8 @@ pub fn unwrap(parent: &Object, public: &Public, private: &[u8]) -> Result<Sensit
     // A private area is accepted only if the parent wrapped it for a public area with this Name
     // and type.
     ensures found { IfOk result (λ area. IsWrapped parent.now public.now private.now area) }
-    // Every private area that the parent wrapped for such a public area is accepted.
+    // Every private area that the parent wrapped for a public area with this Name and type is
+    // accepted.
     ensures only { (area : Sensitive) → IsWrapped parent.now public.now private.now area
         → result ≡ Ok area }
 {

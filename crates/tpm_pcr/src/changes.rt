@@ -161,7 +161,7 @@ impl Banks {
         Ok(())
     }
 
-    /// Counts a TPM2_Clear as an update, which changes no value. The fault is Failure if the
+    /// Counts a TPM2_Clear as an update, although it changes no value. The fault is Failure if the
     /// update counter would overflow.
     #[tactic(auto, unfolding(crate::specs::Changes::clear_counted))]
     pub fn count_clear(&mut self) -> Result<(), ChangeFault>

@@ -91,8 +91,7 @@ all_below : (bytes : List ℕ) → AreBytes bytes → AllBelowBase 256 bytes
 all_below [] fit = tt
 all_below (x ∷ xs) fit = (fit 0, all_below xs (λ i. fit (suc i)))
 
--- If a larger natural number is subtracted from a smaller one, the difference is this negative
--- integer.
+-- Subtracting a larger natural number from a smaller one yields a negative integer.
 below_zero : (n whole : ℕ) → n < whole → pos n -ℤ pos whole ≡ negsuc (whole - suc n)
 below_zero n zero below = absurd (omega arith)
 below_zero n (suc more) below = rw (lt-ltb n (suc more) below) refl

@@ -70,7 +70,7 @@ fn has_clear(bytes: &[u8], operand: &[u8]) -> bool
     byte & mask == 0 && has_clear(bytes, operand)
 }
 
-/// Whether the comparison of an NV index's bytes with an operand holds.
+/// Whether the bytes of an NV index and an operand satisfy this comparison.
 #[tactic(auto, unfolding(crate::specs::Comparison::compares))]
 pub(crate) fn compares(operation: Operation, bytes: &[u8], operand: &[u8]) -> bool
     ensures { result ≡ compares operation bytes.now operand.now }

@@ -1,4 +1,4 @@
-//! The assertion of TPM2_PolicyPCR: the values of the selected PCRs have this digest.
+//! The assertion of TPM2_PolicyPCR: the values of the selected PCRs have a certain digest.
 
 ghost use Rattle.tpm_commands.specs.CommandCode.{code_number};
 ghost use Rattle.tpm_commands.specs.declared.command_code.CommandCode.TheVariants as served;
@@ -52,7 +52,7 @@ impl PolicyState {
         }
     }
 
-    /// The policy digest after a PCR assertion.
+    /// The policy digest after TPM2_PolicyPCR.
     fn pcr_digest(&self, hash: HashAlg, trial: bool, about: &PcrAssertion) -> Digest
         ensures { result.items ≡ hash_of hash
             (self.now.digest ++ to_be_bytes w32 (code_number served.PolicyPcr)

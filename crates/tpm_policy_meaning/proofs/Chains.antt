@@ -60,7 +60,8 @@ is_among_or_not t (u ∷ texts) = by (is_same_or_not t u) (is_among_or_not t tex
     by (inr apart) (inl among) = inl (inr among)
     by (inr apart) (inr none) = inr (none_among t u texts apart none)
 
--- If A holds unless a hash is broken, and B follows from A, then B holds unless a hash is broken.
+-- If A holds unless the hash is broken, and A implies B unless the hash is broken, then B holds
+-- unless the hash is broken.
 pub unless_broken : {A B Broken : Type 0} → A ⊎ Broken → (A → B ⊎ Broken) → B ⊎ Broken
 unless_broken (inl a) next = next a
 unless_broken (inr broken) next = inr broken

@@ -1,6 +1,6 @@
 -- Written policies. TPM 2.0 Library, Part 1, section 19.7 (enhanced authorization), and Part 3,
--- section 23. A policy consists of assertions; each is made by the command with the same name. Any
--- one of its policies satisfies TPM2_PolicyOR.
+-- section 23. A policy consists of assertions; each is made by the command with the same name.
+-- TPM2_PolicyOR offers a choice between several policies.
 use Rattle.std.specs.Prelude.{ℕ, Bool, List}
 use Rattle.tpm_types.specs.declared.operation.Operation.{Operation}
 use Rattle.tpm_types.specs.declared.pcr_selection.BankSelection.{BankSelection}

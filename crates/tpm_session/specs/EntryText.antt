@@ -5,7 +5,8 @@ use Rattle.tpm_types.specs.declared.session_attributes.SessionAttributes.{Sessio
 use Rattle.tpm_session.specs.declared.entry.CommandText.{CommandText}
 use Rattle.tpm_session.specs.declared.session.Session.{Session}
 
--- the data that the HMAC of a command's entry covers, except the nonceTPM of the entry's session
+-- the data that the HMAC of a command's authorization entry covers, except the nonceTPM of the
+-- entry's session
 pub record EntryParts : Type 0 where
   pub hash : List ℕ
   pub nonce_caller : List ℕ
@@ -22,7 +23,7 @@ parts_of text = record {
   attributes = text.attributes;
 }
 
--- the HMAC key of an entry: sessionKey || authValue
+-- the HMAC key of an authorization entry: sessionKey || authValue
 abbrev pub entry_key : Session → List ℕ → List ℕ
 entry_key session auth_value = session.key ++ auth_value
 

@@ -11,8 +11,8 @@ first_size text = from_be_bytes w16 (take 2 text)
 abbrev pub has_first_buffer : List ℕ → Bool
 has_first_buffer text = nat_le 2 (length text) && nat_le (2 + first_size text) (length text)
 
--- a text in which `f` has replaced the bytes of the sized buffer at the start; the text is
--- unchanged if it has no such buffer
+-- a text after `f` was applied to the bytes of the sized buffer at the start; unchanged if no
+-- complete buffer is there
 unfoldable pub with_first_buffer : (List ℕ → List ℕ) → List ℕ → List ℕ
 with_first_buffer f text =
     if has_first_buffer text

@@ -14,8 +14,8 @@ use tpm_bytes::{Full, Sink, append};
 use tpm_mac::{Digest, HashAlg, KeyedMac};
 use tpm_types::SessionAttributes;
 
-/// The data that the HMAC of a command's entry covers, except the nonceTPM of the entry's session
-/// (TPM 2.0 Library, Part 1, section 19.6.5).
+/// The data that the HMAC of a command's authorization entry covers, except the nonceTPM of the
+/// entry's session (TPM 2.0 Library, Part 1, section 19.6.5).
 #[derive(Clone, Copy)]
 pub struct CommandText<'a> {
     /// The cpHash of the command.
@@ -30,8 +30,8 @@ pub struct CommandText<'a> {
     pub attributes: SessionAttributes,
 }
 
-/// The data that an entry's HMAC covers, as separate slices (TPM 2.0 Library, Part 1, section
-/// 19.6.5). Contracts treat it as one list of bytes.
+/// The data that an authorization entry's HMAC covers, as separate slices (TPM 2.0 Library, Part 1,
+/// section 19.6.5). Contracts treat it as one list of bytes.
 #[derive(Drop)]
 pub struct EntryText<'a> {
     hash: &'a [u8],
@@ -52,9 +52,9 @@ impl<'a> Model for EntryText<'a> {
         entry_text t.hash.now t.newer.now t.older.now t.decrypt.now t.encrypt.now t.attributes };
 }
 
-/// The data that an entry's HMAC covers, without copying it: cpHash or rpHash; the newer and the
-/// older nonce of the entry's session; the nonceTPM of a separate decrypt and encrypt session, if
-/// the entry authenticates them; and the attributes.
+/// Combines the data that an authorization entry's HMAC covers, without copying it: cpHash or
+/// rpHash; the newer and the older nonce of the entry's session; the nonceTPM of a separate decrypt
+/// and encrypt session, if the entry authenticates them; and the attributes.
 pub fn entry_text<'a>(
     hash: &'a [u8],
     newer: &'a [u8],
@@ -128,7 +128,8 @@ impl<'a> EntryText<'a> {
 impl Session {
     ghost use Rattle.tpm_session.specs.EntryText.{command_mac_of, command_text, entry_key, parts_of, response_mac_of, response_text};
 
-    /// The HMAC key of an entry: the session's key, followed by an authorization value.
+    /// The HMAC key of an authorization entry: the session's key, followed by an authorization
+    /// value.
     pub fn entry_key(&self, auth_value: &[u8]) -> ArrayVec<u8, 64>
         requires { length auth_value.now ≤ 32 }
         ensures { result.items ≡ entry_key self.now auth_value.now }

@@ -1,4 +1,4 @@
-//! Nonces, of at most 32 bytes (TPM2B_NONCE; TPM 2.0 Library, Part 2, section 10.4.4).
+//! Nonces of at most 32 bytes (TPM2B_NONCE; TPM 2.0 Library, Part 2, section 10.4.4).
 
 ghost use Rattle.std.specs.Prelude.{◌≡◌, ◌≤◌, length};
 
