@@ -1,6 +1,6 @@
 -- How an NV index is read, changed and locked. TPM 2.0 Library, Part 3, sections 31.7 to 31.11 and
 -- 31.13 to 31.15 (writing, counting, extending, setting bits, reading, the locks, and changing the
--- authorization value), and Part 1, section 37. Who may do so is defined elsewhere.
+-- authorization value), and Part 1, section 37. Who may access an index is defined elsewhere.
 use Rattle.std.specs.Prelude.{◌≡◌, ℕ, ◌+◌, ◌^◌, ◌==◌, ◌&&◌, ◌||◌, max, nat_lt, nat_le, not, bit_or}
 use Rattle.std.specs.Prelude.{Bool, List, ◌++◌, length, replicate, Result, Ok, Err, ok_or, if◌then◌else◌}
 use Rattle.std.specs.Int.{w64, from_be_bytes, to_be_bytes}

@@ -72,8 +72,8 @@ abbrev pub has_type_size : NvPublic → Bool
 has_type_size p = is_type_size p (index_type p.attributes)
 
 -- whether the platform (if `by_platform`) or the owner may define an index with this public area
--- and an authorization value of this size (without trailing zeros). The fault is that of the first
--- check that fails
+-- and an authorization value of this size (without trailing zeros). The first check that fails
+-- determines the fault
 unfoldable pub definition_passes : (by_platform : Bool)
     → NvPublic
     → (auth_size : ℕ)

@@ -82,8 +82,8 @@ pub fn has_type_size(public: &NvPublic) -> bool
 }
 
 /// Checks whether the platform (if `by_platform`) or the owner may define an index with this public
-/// area and an authorization value of this size (TPM 2.0 Library, Part 3, section 31.3). The fault
-/// is that of the first check that fails.
+/// area and an authorization value of this size (TPM 2.0 Library, Part 3, section 31.3). Returns
+/// the fault of the first check that fails.
 #[tactic(auto, unfolding(crate::specs::Definition::definition_passes), using(crate::proofs::DefinitionLaws::unwritten_is))]
 pub fn check_definition(
     public: &NvPublic,

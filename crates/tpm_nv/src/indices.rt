@@ -53,8 +53,8 @@ pub trait Indices: Drop + Sized {
     fn next(&self, handle: Handle) -> Option<u32>
         ensures { result ≡ next_index (contents self.now) handle.number };
 
-    /// Defines an index, which has no data yet (TPM 2.0 Library, Part 3, section 31.3).
-    /// [`crate::definition::check_definition`] makes the other checks of a definition.
+    /// Defines an index, which has no data yet (TPM 2.0 Library, Part 3, section 31.3). The other
+    /// checks of a definition are in [`crate::definition::check_definition`].
     fn define(&mut self, public: NvPublic, auth_value: AuthValue) -> Result<(), DefineFault>
         requires { IsNvPublic public }
         ensures { Defines can_refuse (contents self.old) (defined_index public auth_value) result

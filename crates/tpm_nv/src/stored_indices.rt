@@ -87,8 +87,8 @@ impl<H: SortedMap<Head, NV_INDEX_LIMIT>, R: Area> StoredIndices<H, R> {
         found_at(self.heads.as_slice(), handle.number)
     }
 
-    /// Finds the index with this handle. Returns a fault if a command for this type of index may
-    /// not write it.
+    /// Finds the index with this handle. Returns a fault if there is none, or if a command for this
+    /// type of index may not write it.
     fn writable(&self, handle: Handle, kind: NvType) -> Result<Found<'_>, WriteFault>
         ensures refused { IfErr result (λ fault. check_writable self.now handle kind ≡ Err fault) }
         ensures there { IfOk result (λ found. (old : List ℕ)

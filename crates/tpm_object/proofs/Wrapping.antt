@@ -198,7 +198,7 @@ wrapped_is parent public name iv area named whole is =
     let protected : List ℕ = protected_text parent name iv area in
     rw (sym named, protected_again parent name protected, decrypted_again parent name iv area whole is) refl
 
--- If both areas have the same type, a wrapped private area can be unwrapped.
+-- If the public and the sensitive area have the same type, a wrapped private area can be unwrapped.
 pub wrapped_undone : (parent : Object) (public : Public) (name iv text : List ℕ) (area : Sensitive)
     → text ≡ private_text parent name iv area → length iv ≡ 16 → IsSensitive area
     → name ≡ object_name public → object_type public ≡ area.object_type
@@ -207,7 +207,8 @@ wrapped_undone parent public name iv text area spelled whole is named typed =
     ap (unwrapped parent public) spelled ∙ wrapped_is parent public name iv area named whole is
     ∙ passes area.object_type (object_type public) area (sym typed)
 
--- If the two areas have different types, a wrapped private area cannot be unwrapped.
+-- If the public and the sensitive area have different types, a wrapped private area cannot be
+-- unwrapped.
 pub wrapped_refused : (parent : Object) (public : Public) (name iv text : List ℕ) (area : Sensitive)
     → text ≡ private_text parent name iv area → length iv ≡ 16 → IsSensitive area
     → name ≡ object_name public → object_type public ≢ area.object_type

@@ -112,8 +112,8 @@ decrypted_area parent name protected = do
   whole ← refused_if (not (length iv.0 == 16)) integrity_fault
   area_in (cfb_decrypt_of (storage_key parent name) iv.0 iv.1)
 
--- the sensitive area in the private area of the object with this public area; both areas must have
--- the same type
+-- the sensitive area in the private area of the object with this public area; its type must be that
+-- of the public area
 unfoldable pub unwrapped : (parent : Object)
     → Public
     → (text : List ℕ)

@@ -52,7 +52,7 @@ fn storage_key(parent: &Object, name: &Name) -> [u8; 16]
     key
 }
 
-/// The key that authenticates the private areas under a parent.
+/// The key with which a parent authenticates the private areas of its children.
 #[tactic(auto, unfolding(crate::specs::PrivateArea::integrity_key))]
 fn integrity_key(parent: &Object) -> ArrayVec<u8, 32>
     ensures { result.items ≡ integrity_key parent.now }
@@ -117,10 +117,10 @@ pub fn wrap(parent: &Object, public: &Public, sensitive: &Sensitive, iv: &[u8; 1
     ensures value { result
         ≡ private_text parent.now (object_name public.now) iv.now sensitive.now }
     ensures small { length result ≤ 254 }
-    // Unwrapping returns the sensitive area again if both areas have the same type.
+    // Unwrapping returns the sensitive area again if its type is that of the public area.
     ensures undone { object_type public.now ≡ sensitive.now.object_type
         → unwrapped parent.now public.now result ≡ Ok sensitive.now }
-    // Unwrapping fails if the two areas have different types.
+    // Unwrapping fails if the public and the sensitive area have different types.
     ensures other_type { object_type public.now ≢ sensitive.now.object_type
         → unwrapped parent.now public.now result ≡ Err integrity_fault }
 {
@@ -137,7 +137,7 @@ pub fn wrap_named(parent: &Object, name: &Name, sensitive: &Sensitive, iv: &[u8;
     ensures undone { (public : Public) → name.now ≡ object_name public
         → object_type public ≡ sensitive.now.object_type
         → unwrapped parent.now public result ≡ Ok sensitive.now }
-    // Unwrapping fails if the two areas have different types.
+    // Unwrapping fails if the public and the sensitive area have different types.
     ensures other_type { (public : Public) → name.now ≡ object_name public
         → object_type public ≢ sensitive.now.object_type
         → unwrapped parent.now public result ≡ Err integrity_fault }

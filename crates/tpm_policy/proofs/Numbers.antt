@@ -72,7 +72,7 @@ less_by_first x y xs ys same fit fits =
     ∙ ap (λ (less : Bool). nat_lt x y || (x == y && less))
     (sym (less_after xs ys same (λ i. fit (suc i)) (λ i. fits (suc i)) 0))
 
--- If the operands of two comparisons are ordered in the same way, the comparisons agree.
+-- If a and b are ordered in the same way as x and y, both comparisons have the same result.
 same_lt : (a b x y : ℕ) → (x < y → a < b) → (y ≤ x → b ≤ a) → nat_lt a b ≡ nat_lt x y
 same_lt a b x y up down = by (nat_lt x y) refl
   where
@@ -100,7 +100,7 @@ below_zero n (suc more) below = rw (lt-ltb n (suc more) below) refl
 abbrev raised : ℕ → ℕ
 raised byte = (byte + 128) % 256
 
--- If raising two bytes changes both by the same number, it does not change which of them is less.
+-- If two bytes are raised by the same number, the smaller one remains the smaller.
 raised_alike : (x y : ℕ) (less : Bool) → (raised x + y ≡ raised y + x)
     → (nat_lt x y || (x == y && less)) ≡ (nat_lt (raised x) (raised y) || (raised x == raised y && less))
 raised_alike x y less alike =

@@ -173,8 +173,8 @@ auth_value_asserted hash policy = demanding hash demand.AuthValue policy
 unfoldable pub password_asserted : HashAlg → Policy → Policy
 password_asserted hash policy = demanding hash demand.Password policy
 
--- TPM2_PolicyCommandCode (section 23.11): only this command is allowed. A trial session makes
--- both checks too (this device's own choice)
+-- TPM2_PolicyCommandCode (section 23.11): only this command is allowed. It must be supported, and
+-- no other command may be recorded, in a trial session too (this device's own choice)
 unfoldable pub command_code_asserted : HashAlg → (number : ℕ)
     → Policy → Result Policy ActionFault
 command_code_asserted hash number policy = do
@@ -243,7 +243,7 @@ secret_asserted hash trial secret policy = do
     cp_hash = if is_given secret.cp_hash then Some secret.cp_hash else policy.cp_hash;
   })
 
--- TPM2_PolicyNV (section 23.9): the comparison of the index with the operand holds. A trial
+-- TPM2_PolicyNV (section 23.9): the comparison of the index with the operand must hold. A trial
 -- session checks nothing
 abbrev pub nv_compared : (trial : Bool) → NvParts → Result (Unit {0}) ActionFault
 nv_compared true nv = Ok tt

@@ -22,7 +22,7 @@ use Rattle.tpm_policy_meaning.specs.PolicyDigest.{nv_arguments_text, or_update, 
 use Rattle.tpm_policy_meaning.proofs.Chains.{Breaking, Said, same_backs, same_fronts, same_hashed, unless_broken}
 use Rattle.tpm_policy_meaning.proofs.Spelled.{said_of}
 
--- ---- texts that determine their assertion
+-- ---- encodings that determine their values
 
 yes_no_same : (a b : Bool) → yes_no_text a ≡ yes_no_text b → a ≡ b
 yes_no_same true true is = refl

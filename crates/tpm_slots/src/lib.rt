@@ -5,8 +5,8 @@
 //!
 //! [`SlotKeep`] contains the whole state; no operation on it can fail for lack of memory
 //! ([`laws`]). Its containers ([`sessions`], [`objects`], [`persistent`], [`indices`]) are those of
-//! the crates below, under new names. Therefore proofs about a device with this state do not have
-//! to expand the containers' implementations.
+//! the crates that this one uses, under new names. Therefore, proofs about a device with this state
+//! do not have to expand the containers' implementations.
 
 pub mod indices;
 pub mod keep;
