@@ -280,8 +280,8 @@ put_back start size area fits =
     let many : length (take size behind) ≡ size = length-take-le size behind (omega (arith, fits, length-drop start area)) in
     rw (many, ← drop-drop size start area, take-append-drop size behind, take-append-drop start area) refl
 
--- Writing a piece into an area, and then bytes into that part of the area, equals writing the bytes
--- into the piece, and then the piece into the area.
+-- Bytes can be written into a piece either before or after the piece is written into an area: the
+-- resulting area is the same.
 put_inside : (start offset : ℕ) (inner piece area : List ℕ) → start + length piece ≤ length area → offset + length inner ≤ length piece → put_over (start + offset) inner (put_over start piece area) ≡ put_over start (put_over offset inner piece) area
 put_inside start offset inner piece area fits within =
     let front = take start area in

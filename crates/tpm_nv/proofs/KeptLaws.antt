@@ -135,8 +135,8 @@ length_filled true start size byte area fits = refl
 length_filled false start size byte area fits =
     length_put start (replicate size byte) area (omega (arith, fits, length-replicate {A = ℕ} size byte))
 
--- Writing bytes into a piece of the area, after filling the piece if it is unwritten, equals
--- filling and writing a copy of the piece, and then putting the copy into the area.
+-- A piece of the area is filled if it is unwritten, and then bytes are written into it. The result
+-- is the same if this is done to a copy of the piece, which then replaces the piece.
 filled_put : (is_written : Bool) (start size offset byte : ℕ) (bytes area : List ℕ) → start + size ≤ length area → offset + length bytes ≤ size → put_over (start + offset) bytes (filled is_written start size byte area) ≡ put_over start (put_over offset bytes (cond is_written (piece_of start size area) (replicate size byte))) area
 filled_put true start size offset byte bytes area fits within = put_within start size offset bytes area fits within
 filled_put false start size offset byte bytes area fits within =

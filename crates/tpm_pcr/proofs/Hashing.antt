@@ -57,8 +57,8 @@ banks_joined_more all banks i bank below =
     ∙ concat-append (flat_map (selected_values all) (take i banks)) _
     ∙ ap (λ (l : List (List ℕ)). concat (flat_map (selected_values all) (take i banks)) ++ concat l) (append-nil (selected_values all (get_or banks i bank)))
 
--- If a hasher was fed the values of the selected PCRs below n, and then that of PCR n if it is
--- selected, it was fed the values of the selected PCRs below n + 1.
+-- If a hasher was fed the values of the selected PCRs below n, feeding it that of PCR n, if it is
+-- selected, completes those below n + 1.
 pub taken_more : (all : BankValues) (bank : BankSelection) (n pcr : ℕ) (start before after : Hasher) → pcr ≡ n
     → Takes start (text_below all bank n) before
     → Takes before (cond (is_selected bank.select pcr) (pcr_value all bank.hash pcr) []) after
@@ -78,8 +78,8 @@ pub taken_all : (all : BankValues) (bank : BankSelection) (n : ℕ) (start after
 taken_all all bank n start after done so_far =
     subst (λ (text : List ℕ). Takes start text after) (ap (text_below all bank) done ∙ text_below_all all bank) so_far
 
--- If a hasher was fed the values of the first i banks, and then those of bank i, it was fed the
--- values of the first i + 1 banks.
+-- If a hasher was fed the values of the first i banks, feeding it those of bank i completes those
+-- of the first i + 1 banks.
 pub held_more : (all : BankValues) (banks : List BankSelection) (i : ℕ) (bank : BankSelection) (hash : HashAlg)
     (before after : Hasher) → i < length banks → bank ≡ get_or banks i bank
     → Holds before hash (concat (flat_map (selected_values all) (take i banks)))

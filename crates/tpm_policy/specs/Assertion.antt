@@ -51,9 +51,9 @@ pub record SecretParts : Type 0 where
   pub reference : List ℕ
   pub expiration : ℕ
 
--- the data of TPM2_PolicyNV: the Name of the index, the operand, the offset of the compared bytes,
--- the operation, and the compared bytes of the index, of the same size as the operand, or the
--- reason why they cannot be read
+-- the data of TPM2_PolicyNV: the Name of the index; the operand; the offset of the compared bytes;
+-- the operation; and the compared bytes of the index, as many as the operand has, or the error if
+-- they cannot be read
 pub record NvParts : Type 0 where
   pub name : List ℕ
   pub operand : List ℕ
