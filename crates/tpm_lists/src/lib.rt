@@ -3,8 +3,8 @@
 //! Runs tasks with the device's state in lists that grow.
 //!
 //! The type of that state consists of nested containers. The prover resolves the impls of all these
-//! containers at each call, which takes longer the deeper they are nested. So each function here
-//! names one layer of containers, and no crate above names the whole type.
+//! containers at each call, which takes longer the deeper they are nested. Therefore, each function
+//! here names one layer of containers, and no crate that depends on this one names the whole type.
 
 ghost use Rattle.std.specs.Prelude.{Result};
 
@@ -17,9 +17,9 @@ use tpm_record::{Keep, PersistentObjects};
 use tpm_session::Session;
 use tpm_types::{NV_INDEX_LIMIT, OBJECT_LIMIT, PERSISTENT_LIMIT, SESSION_LIMIT};
 
-/// A computation on the state, in any type that keeps it.
+/// A computation on the state that works for every type that implements `Keep`.
 pub trait Task<Fault> {
-    /// Whether this result of the task is possible.
+    /// Whether the task may return this result.
     ghost may_give: { Self → Result (Unit {0}) Fault → Type 0 };
 
     fn run<K: Keep>(self) -> Result<(), Fault>

@@ -1,5 +1,5 @@
--- A gap in a list of bytes is opened by moving bytes from the end of the list into it, and closed
--- by moving its bytes to the end.
+-- To open a gap in a list of bytes, bytes are moved from the end of the list into it. To close the
+-- gap, its bytes are moved to the end.
 use Rattle.std.proofs.Common.{◌≡◌, ℕ, ◌+◌, ◌-◌, ◌≤◌, List, ◌++◌, length, take, drop, replicate, refl, sym, append_assoc, arith, length-append, length-drop}
 use Rattle.std.proofs.lemmas.List.{length-replicate, take_at, drop_at, take-append-le, drop-append-le, length-take-le}
 use Rattle.std.specs.List.{copy_within}

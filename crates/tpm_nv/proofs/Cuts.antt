@@ -1,5 +1,5 @@
--- If heads and the area of their bytes both change, the indices that they represent change
--- accordingly.
+-- If the heads and the area with their bytes change together, the indices that they represent
+-- change accordingly.
 use Rattle.std.proofs.Common.{◌≡◌, ◌≢◌, ℕ, ◌+◌, ◌-◌, ◌<◌, ◌≤◌, cond, eqb, leb, zero, suc, List, [], ◌∷◌, ◌++◌, length, get_or, take, drop, replicate, Option, Some, None, refl, sym, ap, subst, ◌∙◌, arith, inl, inr, append_assoc, length-append, length-drop}
 use Rattle.std.proofs.Math.Seq.{drop-append-add, take-append-add}
 use Rattle.std.specs.List.{sum_by}
@@ -27,7 +27,8 @@ drop_front n s area rest fits =
 
 -- ---- a key that exists
 
--- A key either equals the first key or is above it.
+-- A key that is found either equals the first key, or is above it and found among the other
+-- entries.
 data Place (e : ℕ × Head) (es : Entries Head) (key : ℕ) (h : Head) : Type 0 where
   here : e.0 ≡ key → e.1 ≡ h → Place e es key h
   behind : e.0 ≢ key → e.0 < key → at_key es key ≡ Some h → Place e es key h
@@ -279,8 +280,8 @@ put_back start size area fits =
     let many : length (take size behind) ≡ size = length-take-le size behind (omega (arith, fits, length-drop start area)) in
     rw (many, ← drop-drop size start area, take-append-drop size behind, take-append-drop start area) refl
 
--- Writing bytes into a piece, and then the piece into the area, equals writing the bytes into the
--- area.
+-- Bytes can be written into a piece either before or after the piece is written into an area: the
+-- resulting area is the same.
 put_inside : (start offset : ℕ) (inner piece area : List ℕ) → start + length piece ≤ length area → offset + length inner ≤ length piece → put_over (start + offset) inner (put_over start piece area) ≡ put_over start (put_over offset inner piece) area
 put_inside start offset inner piece area fits within =
     let front = take start area in

@@ -1,5 +1,5 @@
--- Stored heads and bytes after a change of one index: they keep their properties, and represent
--- the changed indices.
+-- If one index changes, the stored heads and bytes keep their properties, and represent the changed
+-- indices.
 use Rattle.tpm_types.specs.Limits.{nv_index_limit, nv_space_limit}
 use Rattle.std.proofs.Common.{◌≡◌, ◌≢◌, ℕ, ◌+◌, ◌-◌, ◌<◌, ◌≤◌, ◌^◌, Bool, true, false, cond, List, [], ◌∷◌, ◌++◌, length, take, drop, replicate, Option, Some, None, refl, sym, ap, subst, ◌∙◌, arith, length-append, length-drop}
 use Rattle.std.specs.Prelude.{◌&&◌, not, nat_lt, nat_le, Ok, IfNone, IfSome, IsSomeAnd, option_copied, option_map}
@@ -53,7 +53,7 @@ there_is es area count handle (Some h) kept is =
       },
     )
 
--- If an index exists and is found, the property of the existing index holds for the found one.
+-- If a search returns an index, and P holds for what it returns, then P holds for the index.
 pub known_of : (P : NvIndex → Type 0) (found : Option NvIndex) (x : NvIndex) → found ≡ Some x → IsSomeAnd found P → P x
 known_of P None x is known = absurd cc
 known_of P (Some y) x is known = let same : y ≡ x = cc in subst P same known
@@ -135,8 +135,8 @@ length_filled true start size byte area fits = refl
 length_filled false start size byte area fits =
     length_put start (replicate size byte) area (omega (arith, fits, length-replicate {A = ℕ} size byte))
 
--- Writing bytes over a piece, after it was filled if it was not written yet, equals filling and
--- writing the piece in the area.
+-- A piece of the area is filled if it is unwritten, and then bytes are written into it. The result
+-- is the same if this is done to a copy of the piece, which then replaces the piece.
 filled_put : (is_written : Bool) (start size offset byte : ℕ) (bytes area : List ℕ) → start + size ≤ length area → offset + length bytes ≤ size → put_over (start + offset) bytes (filled is_written start size byte area) ≡ put_over start (put_over offset bytes (cond is_written (piece_of start size area) (replicate size byte))) area
 filled_put true start size offset byte bytes area fits within = put_within start size offset bytes area fits within
 filled_put false start size offset byte bytes area fits within =
@@ -146,8 +146,7 @@ filled_put false start size offset byte bytes area fits within =
 abbrev pub written_head : Head → Head
 written_head h = with_attributes h (with_attribute h.public.attributes attribute.Written)
 
--- The data of an index with this head are its bytes or, before its first write, this byte
--- repeated.
+-- The data of an index with this head is its bytes or, before the first write, this byte repeated.
 data_is : (h : Head) (bytes : List ℕ) (byte : ℕ) → data_or byte (index_with h bytes) ≡ cond (has h.public.attributes attribute.Written) bytes (replicate (size_of h) byte)
 data_is h bytes byte = by (has h.public.attributes attribute.Written)
   where
@@ -195,8 +194,8 @@ kept_put es area bytes key offset byte h kept there within =
     refl
     (length_put_filled es area bytes key offset byte h kept there within)
 
--- The area after a write is the same if the offset and the size in the code are replaced by the
--- equal ones of the index.
+-- The offset and the size that the code uses for a write can be replaced by those of the index,
+-- which are equal.
 pub put_is : (after bytes area : List ℕ) (is_written : Bool) (start size offset byte from many : ℕ) (b : Bool) → after ≡ put_over (from + offset) bytes (filled b from many byte area) → b ≡ is_written → from ≡ start → many ≡ size → after ≡ put_over (start + offset) bytes (filled is_written start size byte area)
 put_is after bytes area is_written start size offset byte from many b is written from_is size_is =
     is
@@ -230,7 +229,8 @@ head_of_index P es area count handle shown view kept known = by (at_key es handl
         let never : ⊥ = subst (λ (o : Option NvIndex). IsSomeAnd o P) (none_at es area count handle shown view is) known in
         absurd never
 
--- The offset of an index's bytes follows from the indices that the heads and the area represent.
+-- The offset of an index's bytes can be computed from the indices that the heads and the area
+-- represent.
 pub start_is : (es : Entries Head) (area : List ℕ) (count : ℕ) (handle : Handle) (shown : NvContents) → (let view : NvContents = record { indices = indices_of es area; max_count = count } in view ≡ shown) → start_in shown handle ≡ start_of es handle.number
 start_is es area count handle shown view =
     ap (λ (s : NvContents). start_in s handle) (sym view) ∙ ap (λ (l : Entries Head). start_of l handle.number) (sym (heads_among es area))
@@ -251,7 +251,7 @@ module _ (es : Entries Head) (area : List ℕ) (count : ℕ) (handle : Handle) (
       let t = subst (λ (s : NvContents). (old : List ℕ) × IsIndexOf s handle f.head.now old) view (there_is es area count handle (Some f.head) kept (sym some.0)) in
       (t.0, t.1, some.1 ∙ sym (start_is es area count handle shown view))
 
--- If an index is written, its data are its bytes.
+-- If an index is written, its data consists of its bytes in the area.
 pub bytes_of : (h : Head) (bytes : List ℕ) (index : NvIndex) → index_with h bytes ≡ index → has index.public.attributes attribute.Written ≡ true → bytes ≡ index.bytes
 bytes_of h bytes index same is =
     let written : has h.public.attributes attribute.Written ≡ true = ap (λ (i : NvIndex). has i.public.attributes attribute.Written) same ∙ is in
@@ -329,7 +329,7 @@ absent_gives es area count handle shown view up none = by (at_key es handle.numb
         let gone : at_key (indices_of es area) handle.number ≡ None = ap (λ (s : NvContents). index_at s handle) view ∙ none in
         absurd cc
 
--- the bytes of a new index: its data, or zeros
+-- the bytes of a new index: its data, padded with zeros
 abbrev pub padded : ℕ → List ℕ → List ℕ
 padded size bytes = bytes ++ replicate (size - length bytes) 0
 
@@ -387,8 +387,7 @@ type_of_writable type index e =
     let a = bind_ok (refused_if (has index.public.attributes attribute.WriteLocked) Locked) (λ _. refused_if (not (is_of index.public.attributes type)) Attributes) tt e in
     not_false (is_of index.public.attributes type) (passed (not (is_of index.public.attributes type)) Attributes tt a.2)
 
--- If an index of this type has a size that is allowed for its public area, the size is allowed for
--- the type.
+-- If an index is of this type and its public area has an allowed size, the type allows that size.
 pub size_of_type : (p : NvPublic) (kind : NvType) → is_of p.attributes kind ≡ true → has_type_size p ≡ true → is_type_size p (Some kind) ≡ true
 size_of_type p kind is sized =
     let number : type_number p.attributes ≡ nv_type_number kind = eqb-true _ _ is in

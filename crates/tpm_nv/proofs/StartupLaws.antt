@@ -19,7 +19,7 @@ use Rattle.tpm_nv.proofs.KeptLaws.{is_head_with}
 abbrev started_entry : ℕ × Head → ℕ × Head
 started_entry e = (e.0, started_head e.1)
 
--- the heads, of which the first ones have been changed by the startup
+-- the heads, of which the startup has changed the first `count`
 abbrev pub started_up_to : ℕ → Entries Head → Entries Head
 started_up_to count es = map started_entry (take count es) ++ drop count es
 
@@ -35,13 +35,14 @@ entry_there [] i inside = absurd (omega arith)
 entry_there (f ∷ es) zero inside = (f, refl)
 entry_there (f ∷ es) (suc i) inside = entry_there es i (omega arith)
 
--- While only the entries before an entry have been changed, the entry is unchanged.
+-- As long as the startup has changed only earlier entries, an entry is unchanged.
 pub same_in_turn : (es : Entries Head) (i : ℕ) (e : ℕ × Head) → i < length es → get_or (started_up_to i es) i e ≡ get_or es i e
 same_in_turn [] i e inside = absurd (omega arith)
 same_in_turn (f ∷ es) zero e inside = refl
 same_in_turn (f ∷ es) (suc i) e inside = same_in_turn es i e (omega arith)
 
--- While only the entries before an entry have been changed, the entry's key finds it.
+-- As long as the startup has changed only earlier entries, a search for an entry's key finds the
+-- entry.
 pub found_in_turn : (es : Entries Head) (i : ℕ) (e : ℕ × Head) → Ascends es → i < length es → get_or es i e ≡ e → at_key (started_up_to i es) e.0 ≡ Some e.1
 found_in_turn [] i e up inside is = absurd (omega arith)
 found_in_turn (f ∷ es) zero e up inside is =
@@ -50,7 +51,7 @@ found_in_turn (f ∷ es) (suc i) e up inside is =
     let apart : f.0 ≢ e.0 = λ same. let above = key_above f.0 es i e up.0 (omega arith) is in omega arith in
     cond-false _ _ _ (ne_eqb f.0 e.0 apart) ∙ found_in_turn es i e up.1 (omega arith) is
 
--- If the next entry is changed too, one more entry has been changed.
+-- Changing the next entry increases the number of changed entries by one.
 pub started_in_turn : (es : Entries Head) (i : ℕ) (e : ℕ × Head) → Ascends es → i < length es → get_or es i e ≡ e → changed_key (started_up_to i es) e.0 (started_head e.1) ≡ started_up_to (suc i) es
 started_in_turn [] i e up inside is = absurd (omega arith)
 started_in_turn (f ∷ es) zero e up inside is =

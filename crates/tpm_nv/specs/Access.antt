@@ -1,6 +1,6 @@
 -- How an NV index is read, changed and locked. TPM 2.0 Library, Part 3, sections 31.7 to 31.11 and
 -- 31.13 to 31.15 (writing, counting, extending, setting bits, reading, the locks, and changing the
--- authorization value), and Part 1, section 37. Who may do so is defined elsewhere.
+-- authorization value), and Part 1, section 37. Who may access an index is defined elsewhere.
 use Rattle.std.specs.Prelude.{◌≡◌, ℕ, ◌+◌, ◌^◌, ◌==◌, ◌&&◌, ◌||◌, max, nat_lt, nat_le, not, bit_or}
 use Rattle.std.specs.Prelude.{Bool, List, ◌++◌, length, replicate, Result, Ok, Err, ok_or, if◌then◌else◌}
 use Rattle.std.specs.Int.{w64, from_be_bytes, to_be_bytes}
@@ -52,11 +52,11 @@ marked index attribute =
       };
     }
 
--- an index with this data, on which WRITTEN is set
+-- an index with this data, and with WRITTEN set
 abbrev pub with_data : NvIndex → List ℕ → NvIndex
 with_data index bytes = record (marked index attribute.Written) { bytes = bytes }
 
--- the data of an index; before the first write, this byte repeated over the size of the index
+-- the data of an index; before the first write, as many copies of this byte as the index has bytes
 abbrev pub data_or : ℕ → NvIndex → List ℕ
 data_or byte index =
     if index_has index attribute.Written then index.bytes else replicate index.public.data_size byte
@@ -80,9 +80,9 @@ check_writable contents handle type = do
   index ← index_or_fault contents handle write_fault.Undefined
   writable type index
 
--- the contents after TPM2_NV_Write: the bytes overwrite the data at an offset. They must lie
--- within the data, and must cover all of it if the index has WRITEALL. A first write sets every
--- other byte to FF (this device's own choice)
+-- the contents after TPM2_NV_Write: the bytes overwrite the data at an offset. They must lie within
+-- the data, and must cover all of it if the index has WRITEALL. A first write sets all other bytes
+-- to FF (this device's own choice)
 unfoldable pub written : NvContents → Handle → (offset : ℕ) → List ℕ
     → Result NvContents WriteFault
 written contents handle offset bytes = do
@@ -94,8 +94,8 @@ written contents handle offset bytes = do
       write_fault.Partial
   Ok (changed_index contents handle (with_data index (put_over offset bytes (data_or 0xff index))))
 
--- the contents after a counter took this value: the largest value that any counter has ever had is
--- raised to it if it was lower
+-- the contents after a counter reached this value. If no counter has ever had a larger value, this
+-- is the new largest value
 abbrev pub counted : NvContents → ℕ → NvContents
 counted contents count = record contents { max_count = max contents.max_count count }
 

@@ -5,12 +5,12 @@ use Rattle.std.specs.Prelude.{ℕ, ◌+◌, ◌-◌, List, ◌++◌, length, tak
 abbrev pub piece_of : (start size : ℕ) → List ℕ → List ℕ
 piece_of start size bytes = take size (drop start bytes)
 
--- the bytes after a piece has overwritten those at an offset
+-- the bytes after those at an offset were overwritten with a piece
 abbrev pub put_over : (start : ℕ) → (piece bytes : List ℕ) → List ℕ
 put_over start piece bytes = take start bytes ++ (piece ++ drop (start + length piece) bytes)
 
--- the bytes just before a write to a piece of them: if the piece is not written yet, it is first
--- filled with this byte
+-- the bytes just before a write to a piece of them. A piece that is not written yet is first filled
+-- with this byte
 abbrev pub filled : (is_written : Bool) → (start size byte : ℕ) → List ℕ → List ℕ
 filled is_written start size byte bytes =
     if is_written then bytes else put_over start (replicate size byte) bytes
@@ -23,8 +23,8 @@ opened start size bytes = take start bytes ++ (replicate size 0 ++ drop start by
 abbrev pub closed_up : (start size : ℕ) → List ℕ → List ℕ
 closed_up start size bytes = take start bytes ++ drop (start + size) bytes
 
--- the bytes after `size` of them were moved from the end to an offset; and after `size` of them
--- were moved from an offset to the end
+-- the bytes after `size` of them were moved from the end to an offset (`moved_from_end`), or from
+-- an offset to the end (`moved_to_end`)
 unfoldable pub moved_from_end : (start size : ℕ) → List ℕ → List ℕ
 moved_from_end start size bytes =
     let behind : List ℕ = drop start bytes in

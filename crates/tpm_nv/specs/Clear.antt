@@ -7,7 +7,7 @@ use Rattle.tpm_types_nv.specs.declared.nv_attributes.NvAttribute.TheVariants as 
 use Rattle.tpm_types_nv.specs.declared.nv_public.NvPublic.{NvPublic}
 use Rattle.tpm_nv.specs.Index.{NvContents}
 
--- whether the platform defined an index, as PLATFORMCREATE says
+-- whether the platform defined an index: PLATFORMCREATE is set
 abbrev pub is_by_platform : NvPublic → Bool
 is_by_platform public = has public.attributes attribute.PlatformCreate
 

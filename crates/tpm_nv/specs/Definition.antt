@@ -71,9 +71,9 @@ is_type_size p None = false
 abbrev pub has_type_size : NvPublic → Bool
 has_type_size p = is_type_size p (index_type p.attributes)
 
--- whether the platform, or else the owner, may define an index with this public area and an
--- authorization value of this size (without trailing zeros). The fault is that of the first check
--- that fails
+-- whether the platform (if `by_platform`) or the owner may define an index with this public area
+-- and an authorization value of this size (without trailing zeros). The first check that fails
+-- determines the fault
 unfoldable pub definition_passes : (by_platform : Bool)
     → NvPublic
     → (auth_size : ℕ)
@@ -92,7 +92,7 @@ definition_passes by_platform p auth_size = do
 abbrev pub defined_index : NvPublic → List ℕ → NvIndex
 defined_index public auth_value = record { public = public; auth_value = auth_value; bytes = [] }
 
--- The result says that there is room for an index, or why there is none.
+-- The result says whether an index can be added with its handle, and if not, why.
 abbrev pub HasRoomFor : NvContents → NvPublic → Result (Unit {0}) RestoreFault → Type 0
 HasRoomFor contents public (Ok done) =
     (index_at contents public.nv_index ≡ None) × (has_room contents public.data_size ≡ true)

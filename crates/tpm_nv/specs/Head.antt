@@ -32,7 +32,7 @@ index_with head bytes = record {
   bytes = if has head.public.attributes attribute.Written then bytes else [];
 }
 
--- the size of an index's data, before and after it is written
+-- the size of an index's data, even before the index is written
 abbrev pub size_of : Head → ℕ
 size_of head = head.public.data_size
 
@@ -42,7 +42,8 @@ indices_of [] area = []
 indices_of (e ∷ es) area =
     (e.0, index_with e.1 (take (size_of e.1) area)) ∷ indices_of es (drop (size_of e.1) area)
 
--- the total number of bytes of these indices, and of those with keys below this one
+-- the number of bytes of all these indices (`total`), and of those with keys below this one
+-- (`start_of`)
 abbrev pub total : Entries Head → ℕ
 total [] = 0
 total (e ∷ es) = size_of e.1 + total es
@@ -51,11 +52,12 @@ abbrev pub start_of : Entries Head → ℕ → ℕ
 start_of [] key = 0
 start_of (e ∷ es) key = if nat_le key e.0 then 0 else size_of e.1 + start_of es key
 
--- the offset of a handle's bytes in the area of all indices
+-- the offset of an index's bytes in the area of all indices
 abbrev pub start_in : NvContents → Handle → ℕ
 start_in contents handle = start_of (heads_of contents) handle.number
 
--- A head and its handle: its public area can be encoded, and its type allows its size.
+-- A valid head: its key is its handle, its public area can be encoded, its type allows its size,
+-- and its authorization value can be stored.
 pub record IsHead (key : ℕ) (head : Head) : Type 0 where
   pub named : key ≡ head.public.nv_index.number
   pub public : IsNvPublic head.public
@@ -66,7 +68,7 @@ abbrev pub AreHeads : Entries Head → Type 0
 AreHeads [] = Unit {0}
 AreHeads (e ∷ es) = IsHead e.0 e.1 × AreHeads es
 
--- Heads, and an area that is as long as the sum of their sizes.
+-- Valid heads, sorted by key and within the limits, and an area as long as the sum of their sizes.
 pub record AreKept (heads : Entries Head) (area : List ℕ) : Type 0 where
   pub ascends : Ascends heads
   pub few : length heads ≤ nv_index_limit
@@ -92,7 +94,7 @@ pub record IsIndexOf (contents : NvContents) (handle : Handle) (head : Head) (by
 abbrev pub started_head : Head → Head
 started_head head = with_attributes head (started_attributes head.public.attributes)
 
--- whether an index remains when TPM2_Clear removes others, and the bytes of the remaining indices
+-- whether TPM2_Clear keeps an index, and the bytes of the indices that it keeps
 abbrev pub stays : Head → Bool
 stays head = is_by_platform head.public
 

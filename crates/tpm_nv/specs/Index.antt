@@ -27,8 +27,8 @@ no_indices = record { indices = []; max_count = 0 }
 abbrev pub index_at : NvContents → Handle → Option NvIndex
 index_at contents handle = at_key contents.indices handle.number
 
--- the contents after an index was added, after an index was replaced, and after an index was
--- removed
+-- the contents after an index was added (`with_index`), replaced (`changed_index`) or removed
+-- (`without_index`)
 abbrev pub with_index : NvContents → Handle → NvIndex → NvContents
 with_index contents handle index =
     record contents { indices = with_key contents.indices handle.number index }

@@ -1,4 +1,4 @@
--- The conditions that the NV indices of a device always meet.
+-- The conditions that the NV indices of a device always satisfy.
 use Rattle.tpm_types.specs.Limits.{nv_index_limit, nv_space_limit}
 use Rattle.std.specs.Prelude.{◌≡◌, ℕ, ◌<◌, ◌≤◌, ◌^◌, true, [], ◌∷◌, length, if◌then◌else◌}
 use Rattle.tpm_containers.specs.SortedMap.{Ascends, Entries}
@@ -9,8 +9,9 @@ use Rattle.tpm_types_nv.specs.declared.nv_attributes.NvAttribute.TheVariants as 
 use Rattle.tpm_nv.specs.Definition.{has_type_size}
 use Rattle.tpm_nv.specs.Index.{NvContents, NvIndex, data_bytes}
 
--- An index is stored by its handle. Its public area can be encoded, and its type allows its size.
--- Its data is as long as the public area says if the index is written, and empty otherwise.
+-- The key of an index is its handle. Its public area can be encoded, and its type allows its size.
+-- If the index is written, its data is as long as the public area says; otherwise its data is
+-- empty.
 pub record IsIndex (key : ℕ) (index : NvIndex) : Type 0 where
   pub named : key ≡ index.public.nv_index.number
   pub public : IsNvPublic index.public

@@ -6,7 +6,7 @@ use Rattle.tpm_types_nv.specs.declared.nv_attributes.NvAttribute.TheVariants as 
 use Rattle.tpm_types_nv.specs.declared.nv_attributes.NvAttributes.{NvAttributes}
 use Rattle.tpm_nv.specs.Index.{NvContents, NvIndex}
 
--- the attributes after a startup has cleared WRITTEN, which it does if CLEAR_STCLEAR is set
+-- the attributes, with WRITTEN cleared if CLEAR_STCLEAR is set
 abbrev pub kept_written : NvAttributes → NvAttributes
 kept_written a =
     if has a attribute.ClearStClear then without_attribute a attribute.Written else a
@@ -30,7 +30,7 @@ started_index index = record {
   bytes = if has (kept_written index.public.attributes) attribute.Written then index.bytes else [];
 }
 
--- the contents after a startup with CLEAR, which changes every index this way
+-- the contents after a startup with CLEAR, which changes every index to its `started_index`
 unfoldable pub started : NvContents → NvContents
 started contents =
     record contents { indices = map (λ e. (e.0, started_index e.1)) contents.indices }

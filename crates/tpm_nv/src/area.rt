@@ -1,5 +1,5 @@
-//! The trait of the single area that contains the data of all NV indices, and the moves of bytes
-//! that both kinds of area share.
+//! The trait of the single area that contains the data of all NV indices, and functions that move
+//! bytes within an area.
 
 ghost use Rattle.tpm_types.specs.Limits.{nv_space_limit};
 ghost use Rattle.std.specs.Prelude.{◌≡◌, ◌≤◌, ◌+◌, ℕ, [], Bool, List, length, replicate, take};
@@ -12,7 +12,7 @@ use tpm_bytes::NoMemory;
 
 /// The data of all NV indices, one after another: at most [`NV_SPACE_LIMIT`] bytes.
 pub trait Area: Drop + Sized {
-    /// The bytes.
+    /// The bytes in the area.
     ghost bytes: { Self → List ℕ };
 
     /// Whether an allocation can fail.
@@ -22,11 +22,11 @@ pub trait Area: Drop + Sized {
     fn new(alloc: Global) -> Self
         ensures { bytes result ≡ [] };
 
-    /// The bytes.
+    /// The bytes in the area.
     fn as_slice(&self) -> &[u8]
         ensures { result.now ≡ bytes self.now };
 
-    /// Overwrites the bytes at an offset with a piece.
+    /// Overwrites the bytes at an offset with `piece`.
     fn put(&mut self, start: usize, piece: &[u8])
         requires { start + length piece.now ≤ length (bytes self.old) }
         ensures { bytes self.new ≡ put_over start piece.now (bytes self.old) };
@@ -61,7 +61,7 @@ pub trait Area: Drop + Sized {
         ensures { bytes self.new ≡ take size (bytes self.old) };
 }
 
-/// Overwrites the bytes at an offset with a piece.
+/// Overwrites the bytes at an offset with `piece`.
 pub(crate) fn put_piece(bytes: &mut [u8], start: usize, piece: &[u8])
     requires { start + length piece.now ≤ length bytes.old }
     ensures { bytes.new ≡ put_over start piece.now bytes.old }

@@ -1,4 +1,4 @@
-//! Keeps the heads and the bytes that survive TPM2_Clear.
+//! The effect of TPM2_Clear on stored NV indices: which heads and bytes remain.
 
 ghost use Rattle.tpm_types.specs.Limits.{nv_space_limit};
 ghost use Rattle.std.specs.Prelude.{◌≡◌, ◌≤◌, ◌+◌, ◌++◌, drop, length, take, if◌then◌else◌};
@@ -23,8 +23,8 @@ impl Choice<Head> for PlatformIndices {
     }
 }
 
-/// If the index is kept, moves its bytes down to the end of those kept so far. Returns the number
-/// of bytes kept so far, including them.
+/// If the index survives, moves its bytes down, to the end of the bytes kept so far. Returns the
+/// new number of kept bytes.
 fn keep_piece<R: Area>(area: &mut R, head: &Head, start: usize, kept: usize) -> usize
     requires few { length (R.bytes area.old) ≤ nv_space_limit }
     requires inside { start + size_of head.now ≤ length (R.bytes area.old) }
@@ -44,7 +44,7 @@ fn keep_piece<R: Area>(area: &mut R, head: &Head, start: usize, kept: usize) -> 
     kept + size
 }
 
-/// Keeps the bytes of the indices that survive, and removes all others.
+/// Keeps the bytes of the indices that survive, and removes all other bytes.
 pub(crate) fn keep_bytes<R: Area>(area: &mut R, heads: &[(u32, Head)])
     requires whole { length (R.bytes area.old) ≡ total heads.now }
     requires few { total heads.now ≤ nv_space_limit }

@@ -10,7 +10,7 @@ ghost use Rattle.tpm_types_nv.specs.declared.nv_attributes.NvAttribute.TheVarian
 use tpm_types::{NV_DATA_LIMIT, is_policy_size};
 use tpm_types_nv::{NvAttribute, NvAttributes, NvPublic, NvType};
 
-/// The reason why a public area is refused for a new index.
+/// The reason why the definition of an index is refused.
 #[derive(Clone, Copy, PartialEq, Eq)]
 pub enum DefinitionFault {
     /// The authorization value is longer than a nameAlg digest.
@@ -81,9 +81,9 @@ pub fn has_type_size(public: &NvPublic) -> bool
     }
 }
 
-/// Checks whether the platform, or else the owner, may define an index with this public area and
-/// an authorization value of this size (TPM 2.0 Library, Part 3, section 31.3). The fault is that
-/// of the first check that fails.
+/// Checks whether the platform (if `by_platform`) or the owner may define an index with this public
+/// area and an authorization value of this size (TPM 2.0 Library, Part 3, section 31.3). Returns
+/// the fault of the first check that fails.
 #[tactic(auto, unfolding(crate::specs::Definition::definition_passes), using(crate::proofs::DefinitionLaws::unwritten_is))]
 pub fn check_definition(
     public: &NvPublic,
@@ -91,7 +91,7 @@ pub fn check_definition(
     by_platform: bool,
 ) -> Result<(), DefinitionFault>
     ensures checked { result ≡ definition_passes by_platform public.now auth_size }
-    // An index that passes the checks can be defined.
+    // If the checks pass, the type of the index allows its size, and WRITTEN is clear.
     ensures sized { OnOk result (has_type_size public.now ≡ true) }
     ensures unwritten { OnOk result (has public.now.attributes attribute.Written ≡ false) }
 {

@@ -1,6 +1,6 @@
 //! The reasons why an NV index cannot be used, defined, or restored from a saved state.
 
-/// No index has this handle. This is the only reason why an authorization value is not changed.
+/// No index has this handle. A change of an authorization value fails only for this reason.
 #[derive(Clone, Copy, PartialEq, Eq)]
 pub struct Undefined;
 

@@ -14,7 +14,7 @@ pub struct Head {
 }
 
 impl Default for Head {
-    /// The head that fills a free slot.
+    /// A placeholder for a free slot.
     fn default() -> Head {
         Head {
             public: NvPublic {

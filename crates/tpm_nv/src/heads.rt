@@ -1,4 +1,4 @@
-//! Changes and searches that need only the heads.
+//! Functions that search or change the heads of indices without their data.
 
 ghost use Rattle.tpm_types.specs.Limits.{nv_index_limit, nv_space_limit};
 ghost use Rattle.std.specs.Prelude.{◌≡◌, ◌<◌, ◌≤◌, ℕ, IfNone, IfSome, None, OnErr, OnOk, Some, length};
@@ -15,7 +15,8 @@ use tpm_containers::{KeyFault, SortedMap};
 use tpm_types::{AuthValue, NV_INDEX_LIMIT};
 use tpm_types_nv::NvAttributes;
 
-/// The offset in the common area at which the bytes of the index with this key begin.
+/// The offset in the common area at which the bytes of the index with this key begin, or would
+/// begin if there were one.
 pub(crate) fn start_of(heads: &[(u32, Head)], key: u32) -> usize
     requires { total heads.now ≤ nv_space_limit }
     ensures { result ≡ start_of heads.now key }
@@ -83,7 +84,7 @@ pub(crate) fn set_auth_value<H: SortedMap<Head, NV_INDEX_LIMIT>>(
     }
 }
 
-/// Facts that hold for every authorization value because of its type. A proof only: it has no
+/// A proof only: states the bounds that the type of an authorization value guarantees. It has no
 /// effect at run time.
 pub(crate) fn auth_value_fits(value: &AuthValue)
     ensures { IsAuthValue value.now }
@@ -91,7 +92,7 @@ pub(crate) fn auth_value_fits(value: &AuthValue)
     let _ = value.as_slice();
 }
 
-/// Inserts a head under a key that must be free.
+/// Inserts a head with this key, which must be free.
 pub(crate) fn put_head<H: SortedMap<Head, NV_INDEX_LIMIT>>(
     heads: &mut H,
     key: u32,

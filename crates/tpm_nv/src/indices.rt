@@ -27,7 +27,7 @@ pub trait Indices: Drop + Sized {
     /// The indices, and the largest value that any counter has ever had.
     ghost contents: { Self → NvContents };
 
-    /// Whether an allocation can fail in a definition.
+    /// Whether a definition can fail to allocate memory.
     ghost can_refuse: { Bool };
 
     /// An empty set of indices; nothing is allocated.
@@ -53,8 +53,8 @@ pub trait Indices: Drop + Sized {
     fn next(&self, handle: Handle) -> Option<u32>
         ensures { result ≡ next_index (contents self.now) handle.number };
 
-    /// Defines an index, which has no data yet (TPM 2.0 Library, Part 3, section 31.3).
-    /// [`crate::definition::check_definition`] makes the other checks of a definition.
+    /// Defines an index, which has no data yet (TPM 2.0 Library, Part 3, section 31.3). The other
+    /// checks of a definition are in [`crate::definition::check_definition`].
     fn define(&mut self, public: NvPublic, auth_value: AuthValue) -> Result<(), DefineFault>
         requires { IsNvPublic public }
         ensures { Defines can_refuse (contents self.old) (defined_index public auth_value) result
@@ -120,7 +120,7 @@ pub trait Indices: Drop + Sized {
         ensures { ChangesContents (with_auth_value (contents self.old) handle value)
             (contents self.old) result (contents self.new) };
 
-    /// Changes all indices as a startup with CLEAR does (Part 3, section 9.3).
+    /// Changes all indices as TPM2_Startup with CLEAR does (Part 3, section 9.3).
     fn startup(&mut self)
         ensures { contents self.new ≡ started (contents self.old) };
 
@@ -137,7 +137,8 @@ pub trait Indices: Drop + Sized {
     fn set_max_count(&mut self, count: u64)
         ensures { contents self.new ≡ record (contents self.old) { max_count = count } };
 
-    /// Facts that always hold for the indices. A proof only: it has no effect at run time.
+    /// A proof only: states the facts that always hold for the indices. It has no effect at run
+    /// time.
     fn read_sizes(&self)
         ensures { IsContents (contents self.now) };
 }

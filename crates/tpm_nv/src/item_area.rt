@@ -1,5 +1,5 @@
-//! The area of all NV data, as a list that grows, for which an allocation can fail, or with a
-//! fixed size, which never allocates memory.
+//! Two kinds of area for all NV data: a list that grows, which may fail to allocate memory, and an
+//! area of fixed size, which never allocates memory.
 
 ghost use Rattle.tpm_types.specs.Limits.{nv_space_limit};
 ghost use Rattle.std.specs.Prelude.{◌≡◌, ◌≤◌, ◌+◌, ◌++◌, length, replicate, true, OnErr, OnOk};

@@ -1,18 +1,19 @@
 #![tactic(auto)]
 
-//! The NV indices of a device (TPM 2.0 Library, Part 1, section 37): small memories, each with a
-//! handle, that survive a power cycle. An index is written, incremented or extended, or its bits
-//! are set.
+//! The NV indices of a device (TPM 2.0 Library, Part 1, section 37): small pieces of memory, each
+//! with a handle, that survive power cycles. Depending on its type, an index is written,
+//! incremented or extended, or its bits are set.
 //!
 //! The crate uses `tpm_types_nv` for public areas, `tpm_containers` for the map keyed by handle,
 //! `tpm_mac` for the digest of an extend index, and `tpm_bytes` for the number in a counter. The
-//! trait [`indices::Indices`] contains the calls on indices. In contracts they are a finite map
-//! from handles to public areas, authorization values and data, together with the largest value
-//! that any counter has ever had; each call is one equation on it.
-//! [`stored_indices::StoredIndices`] stores them, in lists that grow or in fixed-size storage: the
-//! heads in a map sorted by handle, and the bytes of all indices in one area. Only a definition
-//! may allocate memory; a call that fails changes nothing. [`check_definition`] checks whether an
-//! index may be defined. Other crates check who may read or write an index.
+//! trait [`indices::Indices`] contains the calls on indices. Contracts treat the indices as a
+//! finite map from handles to public areas, authorization values and data, together with the
+//! largest value that any counter has ever had. One equation specifies each call.
+//! [`stored_indices::StoredIndices`] stores the indices in lists that grow or in fixed-size
+//! storage: the heads, which are the indices without their data, in a map sorted by handle, and the
+//! bytes of all indices in one area. Only a definition may allocate memory; a call that fails
+//! changes nothing. [`check_definition`] checks whether an index may be defined. Other crates check
+//! who may read or write an index.
 
 pub mod area;
 mod clear;

@@ -24,7 +24,7 @@ pub(crate) fn piece_at(bytes: &[u8], start: usize, size: usize) -> &[u8]
     &bytes[start..start + size]
 }
 
-/// Inserts data at an offset, or zeros if there is no data.
+/// Inserts `size` bytes at an offset: the data, padded with zeros.
 #[tactic(auto, using(crate::proofs::Cuts::put_opened))]
 pub(crate) fn put_between<R: Area>(
     area: &mut R,
@@ -46,8 +46,8 @@ pub(crate) fn put_between<R: Area>(
     Ok(())
 }
 
-/// Writes bytes at an offset in the piece of an index. If the index is not written yet, the piece
-/// is filled first.
+/// Writes bytes at an offset in the piece of an index. If the index is not written yet, first fills
+/// the piece with the byte `first`.
 #[tactic(auto, using(crate::proofs::Cuts::length_put, crate::proofs::KeptLaws::length_filled))]
 pub(crate) fn put_bytes<R: Area>(area: &mut R, piece: Piece, first: u8, offset: usize, bytes: &[u8])
     requires few { length (R.bytes area.old) ≤ nv_space_limit }

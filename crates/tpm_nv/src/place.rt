@@ -35,7 +35,7 @@ impl Found<'_> {
 }
 
 impl DataPlace {
-    /// The index's bytes in the area, and whether they are data already.
+    /// The part of the area with the index's bytes, and whether the index is written.
     pub(crate) fn piece(&self) -> Piece
         ensures { result ≡ piece_at_place self.now }
     {

@@ -1,5 +1,5 @@
 //! How NV indices are stored: the heads in a map keyed by handle, and the data of all indices in
-//! one area. One type covers both kinds of storage, lists and fixed size.
+//! one area. One type covers both kinds of storage: lists that grow, and storage of fixed size.
 
 ghost use Rattle.std.specs.Prelude.{◌≡◌, ◌≢◌, ◌<◌, ◌≤◌, ◌+◌, ◌||◌, ℕ, List, ◌++◌, None, Some, Ok, Err};
 ghost use Rattle.std.specs.Prelude.{IfErr, IfNone, IfOk, IfSome, IsSomeAnd, OnErr, OnOk};
@@ -48,9 +48,9 @@ pub struct StoredIndices<H: SortedMap<Head, NV_INDEX_LIMIT>, R: Area> {
 /// NV indices in lists that grow. A definition can run out of memory.
 pub type ListIndices = StoredIndices<ListMap<Head, NV_INDEX_LIMIT>, ListArea>;
 
-/// NV indices in fixed-size storage. Nothing is ever allocated, so no allocation can fail. The
-/// type is about 23,600 bytes large, including the data of all indices; therefore a value is
-/// created once and passed by reference.
+/// NV indices in fixed-size storage. Nothing is ever allocated, so no allocation can fail. A value
+/// takes about 23,600 bytes, including the data of all indices. Therefore it is created once and
+/// passed by reference.
 pub type SlotIndices = StoredIndices<SlotMap<Head, NV_INDEX_LIMIT>, SlotArea>;
 
 impl<H: SortedMap<Head, NV_INDEX_LIMIT>, R: Area> Model for StoredIndices<H, R> {
@@ -87,7 +87,8 @@ impl<H: SortedMap<Head, NV_INDEX_LIMIT>, R: Area> StoredIndices<H, R> {
         found_at(self.heads.as_slice(), handle.number)
     }
 
-    /// An index, if a command for this type may write it; otherwise the fault.
+    /// Finds the index with this handle. Returns a fault if there is none, or if a command for this
+    /// type of index may not write it.
     fn writable(&self, handle: Handle, kind: NvType) -> Result<Found<'_>, WriteFault>
         ensures refused { IfErr result (λ fault. check_writable self.now handle kind ≡ Err fault) }
         ensures there { IfOk result (λ found. (old : List ℕ)
@@ -108,7 +109,7 @@ impl<H: SortedMap<Head, NV_INDEX_LIMIT>, R: Area> StoredIndices<H, R> {
     }
 
     /// Overwrites the data of an index at an offset, and marks the index as written. If it is not
-    /// written yet, every other byte of its data becomes `first`.
+    /// written yet, all other bytes of its data become `first`.
     fn put_data(&mut self, handle: Handle, place: DataPlace, offset: usize, first: u8, bytes: &[u8])
         requires there { IsPlaceOf self.old handle place }
         requires within { offset + length bytes.now ≤ place.size }
@@ -121,7 +122,7 @@ impl<H: SortedMap<Head, NV_INDEX_LIMIT>, R: Area> StoredIndices<H, R> {
         set_attributes(&mut self.heads, handle.number, written);
     }
 
-    /// Sets one more attribute on an index that has these attributes.
+    /// Sets one more attribute of an index whose attributes are `of`.
     fn mark(&mut self, handle: Handle, of: NvAttributes, attribute: NvAttribute)
         requires there { IsSomeAnd (index_at self.old handle) (λ index.
             of ≡ index.public.attributes) }
@@ -162,7 +163,7 @@ impl<H: SortedMap<Head, NV_INDEX_LIMIT>, R: Area> StoredIndices<H, R> {
         is_room(self.heads.len(), self.area.as_slice().len(), size)
     }
 
-    /// Checks whether an index may be added with its handle.
+    /// Checks that the handle of a new index is free and that there is room for the index.
     fn check_room(&self, public: &NvPublic) -> Result<(), RestoreFault>
         ensures { HasRoomFor self.now public.now result }
     {
@@ -202,7 +203,7 @@ impl<H: SortedMap<Head, NV_INDEX_LIMIT>, R: Area> StoredIndices<H, R> {
         }
     }
 
-    /// The bytes of an index that was found.
+    /// The bytes of the index that was found.
     fn data(&self, found: Found) -> &[u8]
         requires { (handle : Handle) × IsFound self.now handle found }
         ensures { let head = found.entry.head.now in (handle : Handle) (old : List ℕ)

@@ -1,5 +1,5 @@
--- A wrapped sensitive area can be unwrapped, and any area that can be unwrapped was wrapped this
--- way.
+-- A wrapped sensitive area can be unwrapped. Conversely, any area that can be unwrapped was wrapped
+-- by the parent.
 use Rattle.std.proofs.Common.{◌≡◌, ℕ, ◌<◌, ◌≤◌, Bool, true, false, List, [], ◌++◌, length, Result, Ok, Err, refl, sym, ap, subst, ◌∙◌, append-nil, arith}
 use Rattle.std.specs.Prelude.{◌==◌, ◌≢◌, not, IfOk}
 use Rattle.std.specs.Str.{bytes_eq}
@@ -49,7 +49,7 @@ integrity_small parent name protected =
       length-hmac_of parent.public.name_alg (integrity_key parent) (protected ++ name),
     )
 
--- If a text consists of authenticated bytes and their integrity value, reading it finds these
+-- If a text consists of authenticated bytes and their integrity value, reading it returns these
 -- bytes.
 protected_again : (parent : Object) (name protected : List ℕ)
     → protected_in parent name (authenticated_text parent name protected) ≡ Ok protected
@@ -62,7 +62,7 @@ protected_again parent name protected =
       (bytes_eq-Decides value value).1 refl,
     ) refl
 
--- If reading a text finds protected bytes, the text consists of their integrity value and these
+-- If reading a text returns protected bytes, the text consists of their integrity value and these
 -- bytes.
 protected_found : (parent : Object) (name text protected : List ℕ)
     → AreBytes text → protected_in parent name text ≡ Ok protected
@@ -82,7 +82,7 @@ protected_found parent name text protected fits e =
 
 -- ---- the encrypted area
 
--- An area is decoded again from its encoding in a sized buffer.
+-- Decoding an area's encoding in a sized buffer returns the area.
 area_again : (area : Sensitive) → IsSensitive area → area_in (sized_text (sensitive_text area)) ≡ Ok area
 unfolding area_in
 area_again area is =
@@ -120,7 +120,7 @@ decrypted_again parent name iv area whole is =
       area_again area is,
     ) refl
 
--- If decrypting some bytes yields an area, the bytes are that area, encrypted.
+-- If decrypting some bytes yields an area, the bytes are the encryption of that area.
 decrypted_found : (parent : Object) (name protected iv encrypted plain : List ℕ) (area : Sensitive)
     → AreBytes protected → sized_at 16 protected ≡ Ok (iv, encrypted) → length iv ≡ 16
     → cfb_encrypt_of (storage_key parent name) iv plain ≡ encrypted
@@ -134,7 +134,7 @@ decrypted_found parent name protected iv encrypted plain area fits read whole un
     sym undone ∙ ap (cfb_encrypt_of (storage_key parent name) iv) spelled in
     (iv, whole, t.0.parts ∙ ap (λ (l : List ℕ). sized_text iv ++ l) again)
 
--- A text that is longer than any area in a sized buffer is refused, encrypted or not.
+-- A text longer than 202 bytes, the largest size of an area in a sized buffer, is refused.
 long_refused : (plain : List ℕ) → 202 < length plain → area_in plain ≡ Err integrity_fault
 long_refused plain long = by (area_in plain) refl
   where
@@ -168,7 +168,7 @@ decrypted_law parent name protected iv encrypted plain (Err fault) fits read who
 
 -- ---- the private area
 
--- the sensitive area is accepted only for a public area of the same type
+-- accepts the sensitive area only if both types are the same
 abbrev of_type : (a b : ObjectType) → Sensitive → Result Sensitive IntegrityFault
 of_type a b area =
     refused_if (not (object_type_number a == object_type_number b)) integrity_fault >>= λ typed. Ok area
@@ -187,7 +187,8 @@ refuses : (a b : ObjectType) (area : Sensitive) → b ≢ a → of_type a b area
 refuses a b area other =
     rw (ne_eqb (object_type_number a) (object_type_number b) (λ same. other (sym (same_type a b same)))) refl
 
--- A wrapped private area is unwrapped to the area if the types match, and refused otherwise.
+-- Unwrapping a wrapped private area returns the sensitive area if the types match, and fails
+-- otherwise.
 wrapped_is : (parent : Object) (public : Public) (name iv : List ℕ) (area : Sensitive)
     → name ≡ object_name public → length iv ≡ 16 → IsSensitive area
     → unwrapped parent public (private_text parent name iv area)
@@ -197,7 +198,7 @@ wrapped_is parent public name iv area named whole is =
     let protected : List ℕ = protected_text parent name iv area in
     rw (sym named, protected_again parent name protected, decrypted_again parent name iv area whole is) refl
 
--- If both areas have the same type, a wrapped private area can be unwrapped.
+-- If the public and the sensitive area have the same type, a wrapped private area can be unwrapped.
 pub wrapped_undone : (parent : Object) (public : Public) (name iv text : List ℕ) (area : Sensitive)
     → text ≡ private_text parent name iv area → length iv ≡ 16 → IsSensitive area
     → name ≡ object_name public → object_type public ≡ area.object_type
@@ -206,7 +207,8 @@ wrapped_undone parent public name iv text area spelled whole is named typed =
     ap (unwrapped parent public) spelled ∙ wrapped_is parent public name iv area named whole is
     ∙ passes area.object_type (object_type public) area (sym typed)
 
--- If the two areas have different types, a wrapped private area cannot be unwrapped.
+-- If the public and the sensitive area have different types, a wrapped private area cannot be
+-- unwrapped.
 pub wrapped_refused : (parent : Object) (public : Public) (name iv text : List ℕ) (area : Sensitive)
     → text ≡ private_text parent name iv area → length iv ≡ 16 → IsSensitive area
     → name ≡ object_name public → object_type public ≢ area.object_type
@@ -222,7 +224,7 @@ unwrapped_only parent public text area is =
     wrapped_undone parent public (object_name public) is.iv text area is.spelled is.whole is.sized refl
     (sym is.typed)
 
--- A private area that can be unwrapped was wrapped.
+-- A private area that can be unwrapped was wrapped for this public area.
 pub unwrapped_found : (parent : Object) (public : Public) (name text protected : List ℕ) (area : Sensitive)
     → name ≡ object_name public → AreBytes text → protected_in parent name text ≡ Ok protected
     → IsSensitive area × IsProtected parent name protected area

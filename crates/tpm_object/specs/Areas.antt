@@ -12,7 +12,7 @@ use Rattle.tpm_object.specs.Creation.{generated_size}
 use Rattle.tpm_object.specs.declared.areas.Created.{Created}
 
 -- the sensitive area of a new object: the type of the template, the authorization value without
--- trailing zeros, the seedValue, and the caller's data or else the key
+-- trailing zeros, the seedValue, and the caller's data, or the key if the caller provides no data
 abbrev pub new_sensitive : Public → SensitiveValues → (seed key : List ℕ) → Sensitive
 new_sensitive template given seed key = record {
   object_type = object_type template;

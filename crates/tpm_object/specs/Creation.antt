@@ -1,5 +1,5 @@
 -- The checks of the values that a caller provides for a new object, and the sizes of those that the
--- device adds. TPM 2.0 Library, Part 1, section 27 (object creation), and Part 3, section 12.1
+-- device generates. TPM 2.0 Library, Part 1, section 27 (object creation), and Part 3, section 12.1
 -- (TPM2_Create). The order of the checks is this device's own.
 use Rattle.std.specs.Prelude.{ℕ, ◌+◌, ◌==◌, ◌&&◌, not, nat_lt, Bool, if◌then◌else◌}
 use Rattle.std.specs.Prelude.{List, [], ◌∷◌, length, Result}
@@ -33,8 +33,8 @@ origin_conflicts given t =
     ∷ (not made && not (is_given given.data))
     ∷ (made && is_keyed_hash t && not (has t.attributes attribute.Sign)) ∷ []
 
--- whether the caller provides a key for a cipher that is not 16 bytes long; if the caller provides
--- none, the device generates it
+-- whether the caller provides a cipher key that is not 16 bytes long; if the caller provides no
+-- key, the device generates it
 abbrev pub has_wrong_key_size : SensitiveValues → Public → Bool
 has_wrong_key_size given t = is_cipher t && is_given given.data && not (length given.data == 16)
 
@@ -44,12 +44,12 @@ creation_checks given t =
     ∷ (one_of (origin_conflicts given t), fault.Attributes)
     ∷ (has_wrong_key_size given t, fault.DataSize) ∷ []
 
--- whether the caller's values are accepted; otherwise the fault of the first check that fails
+-- success if the caller's values are accepted, otherwise the fault of the first check that fails
 unfoldable pub creation_passes : SensitiveValues → Public → Result (Unit {0}) CreationFault
 creation_passes given t = first_fault (creation_checks given t)
 
--- the size of a key: 128 bits for AES; otherwise the digest size of the scheme's hash algorithm,
--- or of nameAlg without a scheme
+-- the size of a key: 128 bits for AES; otherwise the digest size of the scheme's hash algorithm, or
+-- of nameAlg if there is no scheme
 abbrev pub parameters_key_size : HashAlg → PublicParameters → ℕ
 parameters_key_size name_alg parameters_of.SymCipher = 16
 parameters_key_size name_alg (parameters_of.KeyedHash (Hmac hash)) = digest_size hash

@@ -47,10 +47,10 @@ loaded_object hierarchy public area parent_qualified_name = record {
       qualified_name public.name_alg parent_qualified_name (object_name public);
 }
 
--- The conditions that every loaded object meets: its public area can be encoded; its authorization
--- value is one that can be stored; its seed value is at most 32 bytes long and its key or data
--- within the limit (Part 2, sections 12.2.4 and 12.3.2.4); and its qualified Name is at most 34
--- bytes long.
+-- The conditions that every loaded object satisfies: its public area can be encoded; its
+-- authorization value is one that can be stored; its seedValue is at most 32 bytes long; its key or
+-- data is within the limit (Part 2, sections 12.2.4 and 12.3.2.4); and its qualified Name is at
+-- most 34 bytes long.
 pub record IsObject (object : Object) : Type 0 where
   pub public : IsPublic object.public
   pub auth_value : IsAuthValue object.auth_value

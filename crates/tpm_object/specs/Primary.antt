@@ -29,15 +29,16 @@ primary_bytes seed template given =
     (hash_of template.name_alg (sensitive_create_text given))
     (digest_size template.name_alg + generated_size template given)
 
--- both areas of a primary object: the first of its bytes, as many as a digest has, are the
--- seedValue, and the others are the key
+-- both areas of a primary object. Its first bytes, as many as a digest has, are the seedValue; the
+-- remaining bytes are the key
 unfoldable pub primary_areas : (seed : List ℕ) → Public → SensitiveValues → Created
 primary_areas seed template given =
     let bytes : List ℕ = primary_bytes seed template given in
     new_object_areas template given (take (digest_size template.name_alg) bytes)
     (drop (digest_size template.name_alg) bytes)
 
--- an object directly under its hierarchy, whose handle is used as the parent's qualified Name
+-- an object directly under its hierarchy; the hierarchy's handle is used as the parent's qualified
+-- Name
 abbrev pub under_hierarchy : HierarchyHandle → Created → Object
 under_hierarchy hierarchy areas =
     loaded_object hierarchy areas.public areas.sensitive (handle_name (hierarchy_handle hierarchy))

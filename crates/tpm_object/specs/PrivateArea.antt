@@ -47,7 +47,7 @@ integrity_of parent name protected =
 
 -- ---- writing a private area
 
--- the encrypted sensitive area, encoded as a sized buffer before its encryption
+-- the sensitive area, encoded as a sized buffer and then encrypted
 unfoldable pub encrypted_area : (parent : Object) → (name iv : List ℕ) → Sensitive → List ℕ
 encrypted_area parent name iv area =
     cfb_encrypt_of (storage_key parent name) iv (sized_text (sensitive_text area))
@@ -65,13 +65,13 @@ unfoldable pub private_text : (parent : Object) → (name iv : List ℕ) → Sen
 private_text parent name iv area =
     authenticated_text parent name (protected_text parent name iv area)
 
--- These bytes are the protected form of this sensitive area under the parent, with some IV.
+-- The parent protected this sensitive area as these bytes, with some IV.
 abbrev pub IsProtected : (parent : Object) → (name protected : List ℕ) → Sensitive → Type 0
 IsProtected parent name protected area =
     (iv : List ℕ) × (length iv ≡ 16) × (protected ≡ protected_text parent name iv area)
 
--- A text is the private area of this sensitive area under the parent, with some IV, for a public
--- area of the same type.
+-- The parent wrapped this sensitive area as this text, with some IV, for a public area of the same
+-- type.
 pub record IsWrapped (parent : Object) (public : Public) (text : List ℕ) (area : Sensitive)
     : Type 0 where
   pub typed : area.object_type ≡ object_type public
@@ -95,7 +95,8 @@ protected_in parent name text = do
       integrity_fault
   Ok integrity.1
 
--- the sensitive area encoded by a plain text, which must consist of exactly one sized buffer
+-- the sensitive area that decrypted bytes encode; the bytes must consist of exactly one sized
+-- buffer
 unfoldable pub area_in : (plain : List ℕ) → Result Sensitive IntegrityFault
 area_in plain = do
   area ← or_fault (filled_by sensitive_at plain) integrity_fault
@@ -111,7 +112,8 @@ decrypted_area parent name protected = do
   whole ← refused_if (not (length iv.0 == 16)) integrity_fault
   area_in (cfb_decrypt_of (storage_key parent name) iv.0 iv.1)
 
--- the sensitive area in a private area, which must belong to this public area and be of its type
+-- the sensitive area in the private area of the object with this public area; its type must be that
+-- of the public area
 unfoldable pub unwrapped : (parent : Object)
     → Public
     → (text : List ℕ)

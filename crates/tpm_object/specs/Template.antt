@@ -50,7 +50,7 @@ template_checks parent_is_fixed t =
     ∷ (one_of (object_attribute_conflicts parent_is_fixed t), fault.Attributes)
     ∷ (has_wrong_scheme t.parameters t.attributes, fault.Scheme) ∷ []
 
--- whether a template is accepted; otherwise the fault of the first check that fails
+-- success if a template is accepted, otherwise the fault of the first check that fails
 unfoldable pub template_passes : (parent_is_fixed : Bool)
     → Public
     → Result (Unit {0}) TemplateFault

@@ -20,8 +20,8 @@ pub struct Created {
 ghost use Rattle.tpm_object.specs.Areas.{AreOfOneType, created, new_object_areas, new_public, new_sensitive};
 ghost use Rattle.tpm_object.specs.Primary.{primary_areas};
 
-/// The sensitive area of an object with this seedValue. Contains this key if the caller provides
-/// no data.
+/// The sensitive area of an object with this seedValue. It contains the caller's data, or this key
+/// if the caller provides none.
 fn new_sensitive(template: &Public, given: &SensitiveCreate, seed: &[u8], key: &[u8]) -> Sensitive
     requires seed { length seed.now ≤ 32 }
     requires key { length key.now ≤ 32 }
@@ -37,7 +37,8 @@ fn new_sensitive(template: &Public, given: &SensitiveCreate, seed: &[u8], key: &
     }
 }
 
-/// The public area for a sensitive area: the template, with a `unique` computed from that area.
+/// The public area of an object with this sensitive area: the template, with `unique` computed from
+/// the sensitive area.
 fn new_public(template: &Public, area: &Sensitive) -> Public
     ensures { result ≡ new_public template.now area.now }
 {
@@ -71,7 +72,7 @@ pub(crate) fn new_object_areas(
 }
 
 /// The areas of a new object (TPM 2.0 Library, Part 1, section 27). The first `drawn_by` bytes of
-/// `random` are its key, then its seedValue.
+/// `random` become its key, if the device generates it, followed by its seedValue.
 #[tactic(auto, unfolding(crate::specs::Areas::created))]
 pub fn create(template: &Public, given: &SensitiveCreate, random: &[u8; 256]) -> Created
     ensures { result ≡ created template.now (sensitive_values_of given.now) random.now }
@@ -82,8 +83,8 @@ pub fn create(template: &Public, given: &SensitiveCreate, random: &[u8; 256]) ->
 }
 
 /// The public and sensitive areas of a new object have the same type, whether made from random
-/// bytes or from a seed. So the private area that the parent makes can be unwrapped again with
-/// that public area. A proof only: it has no effect at run time.
+/// bytes or from a seed. Therefore, the private area that the parent makes can be unwrapped again
+/// with the object's public area. A proof only: it has no effect at run time.
 #[inline(always)]
 #[tactic(auto, unfolding(crate::specs::Areas::created, crate::specs::Areas::new_object_areas, crate::specs::Primary::primary_areas))]
 pub fn area_laws()

@@ -1,5 +1,5 @@
 //! Checks the values that a caller provides for a new object, and computes the size of the key that
-//! the device adds (TPM 2.0 Library, Part 1, section 27).
+//! the device generates (TPM 2.0 Library, Part 1, section 27).
 
 ghost use Rattle.std.specs.Prelude.{◌≡◌, ◌≤◌};
 ghost use Rattle.tpm_types_object.specs.SensitiveCreate.{sensitive_values_of};
@@ -54,8 +54,8 @@ fn has_wrong_key_size(given: &SensitiveCreate, template: &Public) -> bool
     is_cipher(template) && is_given(given) && given.data.len() != 16
 }
 
-/// Checks the caller's values against the template (TPM 2.0 Library, Part 1, section 27). The
-/// fault is that of the first check that fails.
+/// Checks the caller's values against the template (TPM 2.0 Library, Part 1, section 27). Returns
+/// the fault of the first check that fails.
 #[tactic(auto, unfolding(crate::specs::Creation::creation_passes))]
 pub fn check_creation(given: &SensitiveCreate, template: &Public) -> Result<(), CreationFault>
     ensures { result ≡ creation_passes (sensitive_values_of given.now) template.now }

@@ -18,8 +18,8 @@ pub struct Object {
     pub hierarchy: HierarchyHandle,
     pub public: Public,
     pub auth_value: AuthValue,
-    /// The seedValue. A storage parent encrypts with it; in any other object it makes the object
-    /// unique.
+    /// The seedValue, from which `unique` is computed, together with `sensitive`. A storage parent
+    /// also derives the keys of its children's private areas from it.
     pub seed_value: Octets<32>,
     /// The object's key or sealed data.
     pub sensitive: Octets<SENSITIVE_LIMIT>,
@@ -93,7 +93,7 @@ impl Sizes for Object {
 }
 
 impl Default for Object {
-    /// The object that fills a free slot.
+    /// A placeholder for a free slot.
     fn default() -> Object {
         Object {
             hierarchy: HierarchyHandle::Null,
@@ -127,7 +127,7 @@ impl Object {
         Object::loaded_named(hierarchy, public, &name, sensitive, parent_qualified_name)
     }
 
-    /// The loaded object with these areas, for callers that already know its Name.
+    /// Like `loaded`, for callers that already know the object's Name.
     pub fn loaded_named(
         hierarchy: HierarchyHandle,
         public: Public,

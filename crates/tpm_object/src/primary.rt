@@ -1,5 +1,5 @@
-//! Primary objects, which are derived from a hierarchy's seed and a template. The result is always
-//! the same (TPM 2.0 Library, Part 3, section 24.1).
+//! Primary objects, which are derived from a hierarchy's seed and a template. The same seed and
+//! template always yield the same object (TPM 2.0 Library, Part 3, section 24.1).
 
 ghost use Rattle.std.specs.Prelude.{◌≡◌, ◌+◌, ◌≤◌, length};
 ghost use Rattle.tpm_mac.specs.Digest.{digest_size};
@@ -15,7 +15,7 @@ use tpm_name::Name;
 use tpm_types::HierarchyHandle;
 use tpm_types_object::{Public, SensitiveCreate};
 
-/// The KDFa label for the keys of primary objects.
+/// The KDFa label for primary objects.
 const PRIMARY_LABEL: &[u8] = b"PRIMARY";
 
 /// Fills `out` with the bytes of a primary object: its seedValue, then its key.
@@ -61,7 +61,7 @@ fn under_hierarchy(hierarchy: HierarchyHandle, areas: Created) -> Object
 }
 
 /// The primary object derived from a hierarchy's seed and a template (TPM 2.0 Library, Part 3,
-/// section 24.1). The result is always the same.
+/// section 24.1). The same arguments always yield the same object.
 #[tactic(auto, unfolding(crate::specs::Primary::primary_object))]
 pub fn derive_primary(
     hierarchy: HierarchyHandle,

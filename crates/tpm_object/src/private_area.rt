@@ -26,10 +26,10 @@ pub struct IntegrityFault;
 /// The largest size in bytes of a sensitive area as a sized buffer, encrypted or not.
 const AREA_LIMIT: usize = 202;
 
-/// The KDFa label for the keys that encrypt.
+/// The KDFa label for the encryption keys of private areas.
 const STORAGE_LABEL: &[u8] = b"STORAGE";
 
-/// The KDFa label for the keys that authenticate.
+/// The KDFa label for the HMAC keys of private areas.
 const INTEGRITY_LABEL: &[u8] = b"INTEGRITY";
 
 ghost use Rattle.tpm_object.specs.PrivateArea.{IsProtected, IsWrapped, area_in, decrypted_area, encrypted_area, integrity_fault, integrity_key, integrity_of, private_text, protected_in, protected_text, authenticated_text, storage_key, unwrapped};
@@ -52,7 +52,7 @@ fn storage_key(parent: &Object, name: &Name) -> [u8; 16]
     key
 }
 
-/// The key that authenticates the private areas under a parent.
+/// The key with which a parent authenticates the private areas of its children.
 #[tactic(auto, unfolding(crate::specs::PrivateArea::integrity_key))]
 fn integrity_key(parent: &Object) -> ArrayVec<u8, 32>
     ensures { result.items ≡ integrity_key parent.now }
@@ -67,7 +67,7 @@ fn integrity_key(parent: &Object) -> ArrayVec<u8, 32>
     bytes
 }
 
-/// The integrity value over the protected bytes of the object with this Name.
+/// The integrity value of a private area: an HMAC over the protected bytes and the object's Name.
 #[tactic(auto, unfolding(crate::specs::PrivateArea::integrity_of))]
 fn integrity(parent: &Object, name: &Name, protected: &[u8]) -> Digest
     ensures value { result.items ≡ integrity_of parent.now name.now protected.now }
@@ -81,7 +81,7 @@ fn integrity(parent: &Object, name: &Name, protected: &[u8]) -> Digest
     )
 }
 
-/// The encrypted sensitive area, encoded as a sized buffer before its encryption.
+/// The sensitive area, encoded as a sized buffer and then encrypted.
 #[tactic(auto, unfolding(crate::specs::PrivateArea::encrypted_area))]
 fn encrypted_area(
     parent: &Object,
@@ -117,17 +117,17 @@ pub fn wrap(parent: &Object, public: &Public, sensitive: &Sensitive, iv: &[u8; 1
     ensures value { result
         ≡ private_text parent.now (object_name public.now) iv.now sensitive.now }
     ensures small { length result ≤ 254 }
-    // Unwrapping returns the sensitive area again if both areas have the same type.
+    // Unwrapping returns the sensitive area again if its type is that of the public area.
     ensures undone { object_type public.now ≡ sensitive.now.object_type
         → unwrapped parent.now public.now result ≡ Ok sensitive.now }
-    // Unwrapping fails if the two areas have different types.
+    // Unwrapping fails if the public and the sensitive area have different types.
     ensures other_type { object_type public.now ≢ sensitive.now.object_type
         → unwrapped parent.now public.now result ≡ Err integrity_fault }
 {
     wrap_named(parent, &tpm_name::of_object(public), sensitive, iv)
 }
 
-/// The private area of the object with this Name, for callers that already know the Name.
+/// Like `wrap`, for callers that already know the object's Name.
 #[tactic(auto, unfolding(crate::specs::PrivateArea::private_text))]
 pub fn wrap_named(parent: &Object, name: &Name, sensitive: &Sensitive, iv: &[u8; 16]) -> Sink<256>
     ensures value { result ≡ private_text parent.now name.now iv.now sensitive.now }
@@ -137,7 +137,7 @@ pub fn wrap_named(parent: &Object, name: &Name, sensitive: &Sensitive, iv: &[u8;
     ensures undone { (public : Public) → name.now ≡ object_name public
         → object_type public ≡ sensitive.now.object_type
         → unwrapped parent.now public result ≡ Ok sensitive.now }
-    // Unwrapping fails if the two areas have different types.
+    // Unwrapping fails if the public and the sensitive area have different types.
     ensures other_type { (public : Public) → name.now ≡ object_name public
         → object_type public ≢ sensitive.now.object_type
         → unwrapped parent.now public result ≡ Err integrity_fault }
@@ -170,7 +170,7 @@ fn protected_in<'a>(
     Ok(protected)
 }
 
-/// The sensitive area encoded by a plain text, which must consist of exactly one sized buffer.
+/// Decodes a sensitive area from decrypted bytes, which must consist of exactly one sized buffer.
 #[tactic(auto, unfolding(crate::specs::PrivateArea::area_in))]
 fn area_in(plain: &[u8]) -> Result<Sensitive, IntegrityFault>
     ensures value { result ≡ area_in plain.now }
@@ -199,7 +199,7 @@ fn decrypted(parent: &Object, name: &Name, iv: &[u8; 16], cipher: &[u8]) -> Arra
     bytes
 }
 
-/// The decrypted sensitive area, from a 16-byte IV and the bytes after it.
+/// Decrypts the sensitive area; `protected` consists of a 16-byte IV and the encrypted bytes.
 #[tactic(auto, unfolding(crate::specs::PrivateArea::decrypted_area))]
 fn decrypted_area(
     parent: &Object,
@@ -225,21 +225,22 @@ fn decrypted_area(
     area_in(plain.as_slice())
 }
 
-/// The sensitive area in a private area, given the object's public area (TPM 2.0 Library, Part 1,
-/// section 22). Checks the integrity value before decrypting anything.
+/// Unwraps the private area of the object with this public area, and returns the sensitive area
+/// (TPM 2.0 Library, Part 1, section 22). Checks the integrity value before decrypting anything.
 pub fn unwrap(parent: &Object, public: &Public, private: &[u8]) -> Result<Sensitive, IntegrityFault>
     ensures value { result ≡ unwrapped parent.now public.now private.now }
     // A private area is accepted only if the parent wrapped it for a public area with this Name
     // and type.
     ensures found { IfOk result (λ area. IsWrapped parent.now public.now private.now area) }
-    // Every private area that the parent wrapped this way is accepted.
+    // Every private area that the parent wrapped for a public area with this Name and type is
+    // accepted.
     ensures only { (area : Sensitive) → IsWrapped parent.now public.now private.now area
         → result ≡ Ok area }
 {
     unwrap_named(parent, public, &tpm_name::of_object(public), private)
 }
 
-/// Unwraps the private area of an object, for callers that already know its Name.
+/// Like `unwrap`, for callers that already know the object's Name.
 #[tactic(auto, unfolding(crate::specs::PrivateArea::unwrapped))]
 pub fn unwrap_named(
     parent: &Object,

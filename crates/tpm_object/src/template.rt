@@ -67,9 +67,9 @@ fn has_wrong_scheme(parameters: PublicParameters, attributes: ObjectAttributes) 
     }
 }
 
-/// Checks the template of an object to be created or loaded, under a hierarchy or a parent with
-/// fixedTPM, or else under another parent (TPM 2.0 Library, Part 1, section 25). The fault is that
-/// of the first check that fails.
+/// Checks the template of an object that is to be created or loaded (TPM 2.0 Library, Part 1,
+/// section 25). `parent_is_fixed` is true under a hierarchy, or under a parent with fixedTPM.
+/// Returns the fault of the first check that fails.
 #[tactic(auto, unfolding(crate::specs::Template::template_passes))]
 pub fn check_template(template: &Public, parent_is_fixed: bool) -> Result<(), TemplateFault>
     ensures { result ≡ template_passes parent_is_fixed template.now }

@@ -1,5 +1,5 @@
--- A hasher that is fed the values of the selected PCRs one by one, bank by bank, was fed their
--- concatenation.
+-- Feeding a hasher the values of the selected PCRs one by one, bank by bank, equals feeding it
+-- their concatenation.
 use Rattle.tpm_bytes.specs.Numbers.{numbers_below}
 use Rattle.std.proofs.Common.{◌≡◌, ℕ, ◌+◌, ◌<◌, Bool, true, false, cond, List, [], ◌∷◌, ◌++◌, add-one, ap, append-nil, append_assoc, filter, get_or, length, map, refl, subst, sym, take, ◌∙◌}
 use Rattle.std.proofs.lemmas.Grind.{flat_map-append}
@@ -57,8 +57,8 @@ banks_joined_more all banks i bank below =
     ∙ concat-append (flat_map (selected_values all) (take i banks)) _
     ∙ ap (λ (l : List (List ℕ)). concat (flat_map (selected_values all) (take i banks)) ++ concat l) (append-nil (selected_values all (get_or banks i bank)))
 
--- If a hasher was fed the values below a number and is fed the next value, it was fed the values
--- up to that number.
+-- If a hasher was fed the values of the selected PCRs below n, feeding it that of PCR n, if it is
+-- selected, completes those below n + 1.
 pub taken_more : (all : BankValues) (bank : BankSelection) (n pcr : ℕ) (start before after : Hasher) → pcr ≡ n
     → Takes start (text_below all bank n) before
     → Takes before (cond (is_selected bank.select pcr) (pcr_value all bank.hash pcr) []) after
@@ -71,14 +71,15 @@ taken_more all bank n pcr start before after is so_far one algorithm message hel
     ∙ ap (λ (text : List ℕ). message ++ text) (sym (text_below_more all bank n)) in
     subst (Holds after algorithm) whole (one algorithm _ (so_far algorithm message held))
 
--- If a hasher was fed the values below 24, it was fed the values of all selected PCRs.
+-- If a hasher was fed the values of the selected PCRs below 24, it was fed those of all selected
+-- PCRs.
 pub taken_all : (all : BankValues) (bank : BankSelection) (n : ℕ) (start after : Hasher) → n ≡ 24
     → Takes start (text_below all bank n) after → Takes start (concat (selected_values all bank)) after
 taken_all all bank n start after done so_far =
     subst (λ (text : List ℕ). Takes start text after) (ap (text_below all bank) done ∙ text_below_all all bank) so_far
 
--- If a hasher was fed the values of the first banks and is fed those of one more bank, it was fed
--- the values of all these banks.
+-- If a hasher was fed the values of the first i banks, feeding it those of bank i completes those
+-- of the first i + 1 banks.
 pub held_more : (all : BankValues) (banks : List BankSelection) (i : ℕ) (bank : BankSelection) (hash : HashAlg)
     (before after : Hasher) → i < length banks → bank ≡ get_or banks i bank
     → Holds before hash (concat (flat_map (selected_values all) (take i banks)))

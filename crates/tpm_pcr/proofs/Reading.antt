@@ -21,8 +21,8 @@ le_false a b e = grind (arith, nat_tests)
 lt_false : (a b : ℕ) → nat_lt a b ≡ false → a < b → ⊥
 lt_false a b e below = let above : b ≤ a = grind (arith, nat_tests) in absurd (omega arith)
 
--- If there is room for one more value, it is appended to the first few; otherwise these are
--- unchanged.
+-- If a list has fewer than `room` elements, an element appended to it is also appended to its first
+-- `room` elements. Otherwise these do not change.
 take_push_room : {X : Type 0} (room : ℕ) (xs : List X) (x : X) → nat_lt (length xs) room ≡ true → take room (xs ++ x ∷ []) ≡ take room xs ++ x ∷ []
 take_push_room room xs x e =
     let below : length xs < room = grind (arith, nat_tests) in
@@ -46,12 +46,13 @@ same_test a b c d false false e f h k = refl
 same_test a b c d true false e f h k = absurd (lt_false c d f (h (lt_true a b e)))
 same_test a b c d false true e f h k = absurd (lt_false a b e (k (lt_true c d f)))
 
--- After `old` values and up to k others, there is room for another of eight values exactly if k is
+-- After `old` values and up to k others, eight at most, there is room for one more exactly if k is
 -- less than 8 - `old`.
 pub room_left : (old k : ℕ) → nat_lt (old + min (8 - old) k) 8 ≡ nat_lt k (8 - old)
 room_left old k = same_test (old + min (8 - old) k) 8 k (8 - old) _ _ refl refl (λ h. omega arith) (λ h. omega arith)
 
--- The first few chosen PCRs below n + 1 are those below n, and PCR n if it is chosen and fits.
+-- The first `room` chosen PCRs below n + 1 are those below n, followed by PCR n if it is chosen and
+-- there is room for it.
 chosen_by : (p : ℕ → Bool) (n room : ℕ) (b : Bool) → p n ≡ b → take room (filter p (numbers_below (n + 1))) ≡ cond (b && nat_lt (length (filter p (numbers_below n))) room) (take room (filter p (numbers_below n)) ++ n ∷ []) (take room (filter p (numbers_below n)))
 chosen_by p n room true e =
     rw (add-one, filter-append p (numbers_below n) (n ∷ []), e) (take_push room (filter p (numbers_below n)) n _ refl)
@@ -69,7 +70,7 @@ values_cond : (b : Bool) (f : ℕ → List ℕ) (front : List (List ℕ)) (pcrs 
 values_cond true f front pcrs n = append_assoc front (map f pcrs) (f n ∷ []) ∙ ap (λ (l : List (List ℕ)). front ++ l) (sym (map-append f pcrs (n ∷ [])))
 values_cond false f front pcrs n = refl
 
--- The number of values read so far decides whether the next PCR is read.
+-- The next PCR is read exactly if it is chosen and fewer than 8 - `old` chosen PCRs are below it.
 reads_next : (p : ℕ → Bool) (n pcr old count : ℕ) → pcr ≡ n → count ≡ old + min (8 - old) (length (filter p (numbers_below n))) → (p pcr && nat_lt count 8) ≡ (p n && nat_lt (length (filter p (numbers_below n))) (8 - old))
 reads_next p n pcr old count is counted =
     ap (λ k. p k && nat_lt count 8) is
@@ -122,8 +123,8 @@ take-append room xs ys = take_by room xs ys _ refl
 pub room_after : (old new k : ℕ) → new ≡ old + min (8 - old) k → 8 - new ≡ (8 - old) - k
 room_after old new k e = omega arith
 
--- If one more bank is read, the returned selection continues with that bank, and then with the
--- selection that is returned for the remaining banks.
+-- The selection returned for the remaining banks starts with the next bank, followed by the
+-- selection returned for the banks after it.
 pub answered_more : (room after i : ℕ) (banks front : List BankSelection) (bank : BankSelection) (select : ℕ) → i < length banks → bank ≡ get_or banks i bank → select ≡ select_with (take room (selected_pcrs bank)) → after ≡ room - length (selected_pcrs bank) → (front ++ record bank { select = select } ∷ []) ++ answer_selection after (drop (i + 1) banks) ≡ front ++ answer_selection room (drop i banks)
 answered_more room after i banks front bank select below is kept left =
     append_assoc front _ _
@@ -134,7 +135,7 @@ answered_more room after i banks front bank select below is kept left =
     ∙ sym (ap (answer_selection room) (drop_more banks i bank below))
     )
 
--- If the values of one more bank are read, the values are those of that bank and of the remaining
+-- The values read from the remaining banks are those of the next bank, followed by those of the
 -- banks after it.
 pub read_more : (all : BankValues) (room after i : ℕ) (banks : List BankSelection) (bank : BankSelection) (front : List (List ℕ)) → i < length banks → bank ≡ get_or banks i bank → after ≡ room - length (selected_pcrs bank) → (front ++ take room (selected_values all bank)) ++ read_values all after (drop (i + 1) banks) ≡ front ++ read_values all room (drop i banks)
 unfolding read_values

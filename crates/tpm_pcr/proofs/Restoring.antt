@@ -1,4 +1,4 @@
--- If the first values of a bank are restored, it is still a bank.
+-- A bank whose first values are replaced by saved ones still contains 24 values of the right size.
 use Rattle.std.proofs.Common.{arith, ◌≡◌, ℕ, List, ◌++◌, length, drop, length-append, length-drop}
 use Rattle.std.proofs.lemmas.List.Elements.{All-append, All-drop}
 use Rattle.tpm_pcr.specs.Saved.{IsSavedBank}

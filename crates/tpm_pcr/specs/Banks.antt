@@ -66,9 +66,8 @@ select_with pcrs = fold with_pcr 0 pcrs
 unfoldable pub read_values : BankValues → ℕ → List BankSelection → List (List ℕ)
 read_values banks room selection = take room (flat_map (selected_values banks) selection)
 
--- the selection of exactly the values that read_values returns. Each bank keeps its first PCRs, up
--- to this number; the rest of the number applies to the banks after it. A bank that keeps no PCR
--- remains in the list
+-- the selection of exactly the PCRs whose values `read_values` returns: the first selected PCRs, up
+-- to this number over all banks. A bank without any of them remains in the list
 abbrev pub answer_selection : ℕ → List BankSelection → List BankSelection
 answer_selection room [] = []
 answer_selection room (bank ∷ selection) =

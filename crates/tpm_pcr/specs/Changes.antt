@@ -55,14 +55,15 @@ with_value alg.Sha256 pcr value banks = record banks {
   update_count = banks.update_count + 1;
 }
 
--- a PCR after its extension by a digest: the hash of its old value followed by the digest
+-- the banks after a PCR was extended with a digest: its value is the hash of its old value followed
+-- by the digest
 unfoldable pub with_extension : ℕ → BankValues → DigestValue → BankValues
 with_extension pcr banks digest =
     let hash = hash_of_value digest in
     with_value hash pcr (hash_of hash (pcr_value banks hash pcr ++ digest_of digest)) banks
 
--- the value of a PCR in a bank after an extension by a digest; it is unchanged if the digest is
--- not by the bank's hash
+-- the value of a PCR in a bank after an extension with a digest; it is unchanged if the digest has
+-- another hash algorithm than the bank
 abbrev pub value_extended : HashAlg → List ℕ → DigestValue → List ℕ
 value_extended alg.Sha1 old (Sha1 digest) = hash_of alg.Sha1 (old ++ digest)
 value_extended alg.Sha1 old (Sha256 digest) = old
@@ -76,7 +77,7 @@ change_check may updates banks = do
   locality ← refused_if (not may) fault.Locality
   refused_if (nat_lt (2 ^ 64 - 1) (banks.update_count + updates)) fault.Failure
 
--- the banks after TPM2_PCR_Extend, which extends a PCR by each digest in turn
+-- the banks after TPM2_PCR_Extend, which extends a PCR with each digest in turn
 unfoldable pub extend_of : ℕ → ℕ → List DigestValue → BankValues → Result BankValues ChangeFault
 extend_of pcr locality digests banks = do
   passed ← change_check (may_extend (use_of pcr) locality) (length digests) banks

@@ -2,8 +2,8 @@
 use Rattle.std.specs.Prelude.{◌≡◌, ℕ, ◌<◌, ◌^◌, List, length}
 use Rattle.std.specs.List.{All}
 
--- the values of PCRs 0 to 23 in each bank, and the update counter: how many times a value was
--- written, plus the number of TPM2_Clear commands counted
+-- the values of PCRs 0 to 23 in each bank, and the update counter: the number of values written and
+-- of TPM2_Clear commands, both since the last TPM2_Startup
 pub record BankValues : Type 0 where
   pub sha1 : List (List ℕ)
   pub sha256 : List (List ℕ)
@@ -13,7 +13,7 @@ pub record BankValues : Type 0 where
 abbrev pub IsBank : ℕ → List (List ℕ) → Type 0
 IsBank size values = (length values ≡ 24) × All (λ value. length value ≡ size) values
 
--- The conditions that all banks meet: values are 20 bytes long for SHA-1 and 32 for SHA-256, and
+-- The conditions that all banks satisfy: values are 20 bytes long for SHA-1 and 32 for SHA-256, and
 -- the update counter fits in 64 bits.
 pub record IsBanks (banks : BankValues) : Type 0 where
   pub sha1 : IsBank 20 banks.sha1

@@ -183,7 +183,7 @@ impl Banks {
     }
 
     /// Reads the PCRs in one bank's selection until there are eight values. Returns the selection
-    /// of those that were read.
+    /// of the PCRs that were read.
     fn read_bank(&self, bank: &BankSelection, values: &mut ArrayVec<Digest, 8>) -> PcrSelect
         ensures select { result
             ≡ select_with (take (8 - length values.old.items) (selected_pcrs bank.now)) }
@@ -223,8 +223,8 @@ impl Banks {
 }
 
 impl Banks {
-    /// The digest of the values of all PCRs in a selection, in its order and without a limit (Part
-    /// 3, section 23.7). Only the value that is being hashed is copied.
+    /// The digest of the values of all PCRs in a selection, in the selection's order and without a
+    /// limit on their number (Part 3, section 23.7). Copies only one value at a time.
     #[tactic(auto, unfolding(crate::specs::Banks::select_digest_of))]
     pub fn select_digest(&self, hash: HashAlg, selection: &PcrSelection) -> Digest
         ensures value { result.items

@@ -108,8 +108,8 @@ fn check(banks: &Banks, may: bool, updates: u64) -> Result<(), ChangeFault>
 }
 
 impl Banks {
-    /// Extends a PCR by each digest in turn (TPM2_PCR_Extend). The fault is Locality if the PCR
-    /// may not be extended from this locality, else Failure if the update counter would overflow.
+    /// Extends a PCR with each digest in turn (TPM2_PCR_Extend). Returns `Locality` if the PCR may
+    /// not be extended from this locality, or else `Failure` if the update counter would overflow.
     #[tactic(auto, unfolding(crate::specs::Changes::extend_of))]
     pub fn extend(
         &mut self,
@@ -131,8 +131,8 @@ impl Banks {
         Ok(())
     }
 
-    /// Extends a PCR by the digests of the data (TPM2_PCR_Event), and returns the digests. The
-    /// faults are those of `extend`.
+    /// Extends a PCR with the digests of the data (TPM2_PCR_Event), and returns the digests.
+    /// Returns the same faults as `extend`.
     pub fn event(
         &mut self,
         pcr: PcrIndex,
@@ -148,8 +148,8 @@ impl Banks {
         Ok(digests)
     }
 
-    /// Sets a PCR to zeros in both banks (TPM2_PCR_Reset). The fault is Locality if the PCR may
-    /// not be reset from this locality, else Failure if the update counter would overflow.
+    /// Sets a PCR to zeros in both banks (TPM2_PCR_Reset). Returns `Locality` if the PCR may not be
+    /// reset from this locality, or else `Failure` if the update counter would overflow.
     #[tactic(auto, unfolding(crate::specs::Changes::reset_of))]
     pub fn reset(&mut self, pcr: PcrIndex, locality: Locality) -> Result<(), ChangeFault>
         ensures { ChangesBanks (reset_of pcr (locality_number locality) self.old)
@@ -161,7 +161,7 @@ impl Banks {
         Ok(())
     }
 
-    /// Counts a TPM2_Clear as an update, which changes no value. The fault is Failure if the
+    /// Counts a TPM2_Clear as an update, although it changes no value. Returns `Failure` if the
     /// update counter would overflow.
     #[tactic(auto, unfolding(crate::specs::Changes::clear_counted))]
     pub fn count_clear(&mut self) -> Result<(), ChangeFault>

@@ -66,8 +66,8 @@ impl SavedPcrs {
         &self.sha256
     }
 
-    /// Facts that follow from the types of the values: each bank contains sixteen, of the size of
-    /// its digests. A proof only: it has no effect at run time.
+    /// A proof only: states that each bank contains sixteen values of the size of its digests. It
+    /// has no effect at run time.
     #[inline(always)]
     pub fn read_sizes(&self)
         ensures { IsSaved self.now }

@@ -10,7 +10,7 @@ use Rattle.tpm_policy.specs.Comparison.{signed_number, unsigned_number}
 abbrev pub AreBytes : List ℕ → Type 0
 AreBytes bytes = (i : ℕ) → slice_index bytes i < 256
 
--- the number encoded by these bytes after a prefix that encodes this number
+-- the number that a prefix and these bytes encode together, where the prefix alone encodes `n`
 abbrev number_after : ℕ → List ℕ → ℕ
 number_after n bytes = number_from_digits_after 256 n bytes
 
@@ -72,7 +72,7 @@ less_by_first x y xs ys same fit fits =
     ∙ ap (λ (less : Bool). nat_lt x y || (x == y && less))
     (sym (less_after xs ys same (λ i. fit (suc i)) (λ i. fits (suc i)) 0))
 
--- If the operands of two comparisons are ordered in the same way, the comparisons agree.
+-- If a and b are ordered in the same way as x and y, both comparisons have the same result.
 same_lt : (a b x y : ℕ) → (x < y → a < b) → (y ≤ x → b ≤ a) → nat_lt a b ≡ nat_lt x y
 same_lt a b x y up down = by (nat_lt x y) refl
   where
@@ -91,8 +91,7 @@ all_below : (bytes : List ℕ) → AreBytes bytes → AllBelowBase 256 bytes
 all_below [] fit = tt
 all_below (x ∷ xs) fit = (fit 0, all_below xs (λ i. fit (suc i)))
 
--- If a larger natural number is subtracted from a smaller one, the difference is the negative
--- integer.
+-- Subtracting a larger natural number from a smaller one yields a negative integer.
 below_zero : (n whole : ℕ) → n < whole → pos n -ℤ pos whole ≡ negsuc (whole - suc n)
 below_zero n zero below = absurd (omega arith)
 below_zero n (suc more) below = rw (lt-ltb n (suc more) below) refl
@@ -101,7 +100,7 @@ below_zero n (suc more) below = rw (lt-ltb n (suc more) below) refl
 abbrev raised : ℕ → ℕ
 raised byte = (byte + 128) % 256
 
--- Adding the same number to both first bytes does not change which of the two is less.
+-- If two bytes are raised by the same number, the smaller one remains the smaller.
 raised_alike : (x y : ℕ) (less : Bool) → (raised x + y ≡ raised y + x)
     → (nat_lt x y || (x == y && less)) ≡ (nat_lt (raised x) (raised y) || (raised x == raised y && less))
 raised_alike x y less alike =

@@ -51,9 +51,9 @@ pub record SecretParts : Type 0 where
   pub reference : List ℕ
   pub expiration : ℕ
 
--- the data of TPM2_PolicyNV: the Name of the index, the operand, the offset of the compared bytes,
--- the operation, and the compared bytes of the index, of the same size as the operand, or the
--- reason why they cannot be read
+-- the data of TPM2_PolicyNV: the Name of the index; the operand; the offset of the compared bytes;
+-- the operation; and the compared bytes of the index, as many as the operand has, or the error if
+-- they cannot be read
 pub record NvParts : Type 0 where
   pub name : List ℕ
   pub operand : List ℕ
@@ -61,7 +61,7 @@ pub record NvParts : Type 0 where
   pub operation : Operation
   pub compared : Result (List ℕ) ActionFault
 
--- the data of a PCR assertion, regardless of where they are in memory
+-- the data of a TPM2_PolicyPCR assertion, as values instead of references
 abbrev pub pcr_parts : PcrAssertion → PcrParts
 pcr_parts asserted = record {
   given = asserted.given.now;
@@ -106,7 +106,7 @@ pub data Assertion : Type 0 where
   Secret : SecretParts → Assertion
   Nv : NvParts → Assertion
 
--- whether a value other than this one is recorded
+-- whether a value is recorded that differs from this one
 abbrev pub is_other : Option ℕ → ℕ → Bool
 is_other None number = false
 is_other (Some recorded) number = not (recorded == number)
@@ -115,8 +115,8 @@ abbrev pub is_other_hash : Option (List ℕ) → List ℕ → Bool
 is_other_hash None hash = false
 is_other_hash (Some recorded) hash = not (bytes_eq recorded hash)
 
--- whether the policy requires a written index or an unwritten one, and the index is absent or in
--- the other state
+-- whether the policy requires a written or an unwritten index, but there is no index or it is in
+-- the opposite state
 abbrev pub is_other_written : Option Bool → Option Bool → Bool
 is_other_written None found = false
 is_other_written (Some recorded) None = true
@@ -147,8 +147,8 @@ pcr_asserted hash trial pcr policy = do
     update_count = Some pcr.update_count;
   })
 
--- TPM2_PolicyOR (section 23.6): the list contains the policy digest. The new digest is the hash
--- of zeros and the whole list; recorded values stay unchanged
+-- TPM2_PolicyOR (section 23.6): the list must contain the policy digest. The new digest is the hash
+-- of zeros, the command code and the whole list; recorded values stay unchanged
 unfoldable pub or_digest : HashAlg → (digests : List (List ℕ)) → List ℕ
 or_digest hash digests =
     hash_of hash (replicate (digest_size hash) 0 ++ to_be_bytes w32 (code_number served.PolicyOr)
@@ -163,7 +163,7 @@ or_asserted hash trial digests policy = do
 
 -- TPM2_PolicyAuthValue (section 23.17), and TPM2_PolicyPassword (section 23.18), which extends the
 -- digest in the same way. The first demands that the HMAC key include the entity's authorization
--- value; the second demands the value as a password
+-- value; the second demands that the value be sent as a password
 abbrev demanding : HashAlg → Demand → Policy → Policy
 demanding hash wanted policy = record (extended hash served.PolicyAuthValue [] policy) { demand = wanted }
 
@@ -173,8 +173,8 @@ auth_value_asserted hash policy = demanding hash demand.AuthValue policy
 unfoldable pub password_asserted : HashAlg → Policy → Policy
 password_asserted hash policy = demanding hash demand.Password policy
 
--- TPM2_PolicyCommandCode (section 23.11): only this command is allowed. A trial session makes
--- both checks too (this device's own choice)
+-- TPM2_PolicyCommandCode (section 23.11): only this command is allowed. It must be supported, and
+-- no other command may be recorded, in a trial session too (this device's own choice)
 unfoldable pub command_code_asserted : HashAlg → (number : ℕ)
     → Policy → Result Policy ActionFault
 command_code_asserted hash number policy = do
@@ -205,13 +205,13 @@ cp_hash_asserted hash cp_hash policy = do
   a2 ← refused_if (is_other_hash policy.cp_hash cp_hash) (plain_fault action.Second code.Cphash)
   Ok (record (extended hash served.PolicyCpHash cp_hash policy) { cp_hash = Some cp_hash })
 
--- the byte of yes (1) or no (0) (Part 2, section 9.2, TPMI_YES_NO)
+-- the encoding of yes (1) or no (0) (Part 2, section 9.2, TPMI_YES_NO)
 abbrev pub yes_no_text : Bool → List ℕ
 yes_no_text true = 1 ∷ []
 yes_no_text false = 0 ∷ []
 
--- TPM2_PolicyNvWritten (section 23.20): only a written index may be used, or only an unwritten
--- one. A trial session too checks that the opposite is not recorded (this device's own choice)
+-- TPM2_PolicyNvWritten (section 23.20): only a written index may be used, or only an unwritten one.
+-- The opposite must not be recorded, in a trial session too (this device's own choice)
 unfoldable pub nv_written_asserted : HashAlg → (is_written : Bool)
     → Policy → Result Policy ActionFault
 nv_written_asserted hash is_written policy = do
@@ -222,8 +222,8 @@ nv_written_asserted hash is_written policy = do
   })
 
 -- TPM2_PolicySecret (section 23.4): policyRef is hashed last, even if it is empty. Policies never
--- expire: expiration must be 0. A trial session checks that too, and the size of cpHashA (this
--- device's own choice)
+-- expire: expiration must be 0. A trial session also checks expiration and the size of cpHashA
+-- (this device's own choice)
 abbrev pub secret_digest : HashAlg → (digest name reference : List ℕ) → List ℕ
 secret_digest hash digest name reference =
     hash_of hash (hash_of hash (digest ++ to_be_bytes w32 (code_number served.PolicySecret) ++ name) ++ reference)
@@ -243,7 +243,7 @@ secret_asserted hash trial secret policy = do
     cp_hash = if is_given secret.cp_hash then Some secret.cp_hash else policy.cp_hash;
   })
 
--- TPM2_PolicyNV (section 23.9): the comparison of the index with the operand holds. A trial
+-- TPM2_PolicyNV (section 23.9): the comparison of the index with the operand must hold. A trial
 -- session checks nothing
 abbrev pub nv_compared : (trial : Bool) → NvParts → Result (Unit {0}) ActionFault
 nv_compared true nv = Ok tt

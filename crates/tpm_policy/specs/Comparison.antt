@@ -25,8 +25,8 @@ signed_number bytes =
     then pos (unsigned_number bytes) -ℤ pos (256 ^ length bytes)
     else pos (unsigned_number bytes)
 
--- whether every bit that is set in the operand is also set in the bytes of the index; and whether
--- every such bit is clear there
+-- whether every bit that is set in the operand is also set in the bytes of the index (`has_set`),
+-- or is clear in them (`has_clear`)
 abbrev pub has_set : (bytes operand : List ℕ) → Bool
 has_set bytes operand = pointwise (λ byte mask. bit_and byte mask == mask) bytes operand
 

@@ -30,8 +30,8 @@ pub record IsPolicy (policy : Policy) : Type 0 where
   pub cp_hash : IfSome policy.cp_hash (λ hash. length hash ≤ 32)
   pub localities : policy.localities ≤ 31
 
--- the initial policy of a session: a digest of all zeros, and everything allowed from localities
--- 0 to 4
+-- the initial policy state of a session: the digest is all zeros, and every command from localities
+-- 0 to 4 is allowed
 abbrev pub starting : HashAlg → Policy
 starting hash = record {
   digest = replicate (digest_size hash) 0;

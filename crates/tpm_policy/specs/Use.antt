@@ -61,19 +61,19 @@ parts_of u = record {
   entity = option_map entity_parts u.entity;
 }
 
--- whether the role is ADMIN and the policy names no command, which that role requires
+-- whether the role is ADMIN, which requires the policy to name the command, but the policy names
+-- none
 abbrev pub lacks_command : Role → Option ℕ → Bool
 lacks_command role.User command = false
 lacks_command role.Admin command = is_none command
 
--- whether a session's hash and digest are the policy of an entity: the hash is the entity's
--- nameAlg, and the digest its authPolicy
+-- whether a session's hash and policy digest are an entity's nameAlg and authPolicy
 abbrev pub is_policy_of : HashAlg → List ℕ → Option EntityParts → Bool
 is_policy_of hash digest None = false
 is_policy_of hash digest (Some entity) =
     hash_number entity.hash == hash_number hash && bytes_eq digest entity.digest
 
--- the result of the checks of this use: the first fault, or the demand of the policy
+-- the result of checking this use: the first fault, or what the policy demands
 unfoldable pub use_passes : Policy → UseParts → Result Demand Rc
 use_passes policy u = do
   trial ← refused_if (is_trial u.kind) (entry_fault u.entry code.Attributes)

@@ -1,4 +1,4 @@
-//! The assertions that need no other part of the device: PolicyOR, PolicyAuthValue,
+//! The assertions that depend on no other part of the device: PolicyOR, PolicyAuthValue,
 //! PolicyPassword, PolicyCommandCode, PolicyCpHash, PolicyNvWritten and PolicyLocality.
 
 ghost use Rattle.tpm_commands.specs.CommandCode.{code_number};
@@ -127,7 +127,7 @@ impl PolicyState {
     }
 
     /// TPM2_PolicyCpHash: returns SIZE if the hash is not as long as a digest of the session's
-    /// algorithm, and CPHASH if another command's cpHash is recorded.
+    /// algorithm, and CPHASH if a different cpHash is recorded.
     #[tactic(auto, unfolding(crate::specs::Assertion::cp_hash_asserted))]
     pub fn cp_hash(&mut self, hash: HashAlg, cp_hash: &[u8]) -> Result<(), ActionFault>
         ensures { Asserts (cp_hash_asserted hash cp_hash.now self.old) self.old result self.new }

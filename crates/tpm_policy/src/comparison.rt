@@ -21,8 +21,8 @@ fn is_less(bytes: &[u8], others: &[u8]) -> bool
     byte < other || byte == other && is_less(bytes, others)
 }
 
-/// The first byte of a signed number, plus half of a byte's range (128). The least signed number
-/// then starts with zero, so signed numbers compare like unsigned ones.
+/// Adds 128, half of a byte's range, to the first byte of a signed number, modulo 256. The least
+/// signed number then starts with zero. Therefore, signed numbers compare like unsigned ones.
 fn raised_byte(byte: u8) -> u8
     ensures { result ≡ (byte + 128) % 256 }
 {
@@ -70,7 +70,7 @@ fn has_clear(bytes: &[u8], operand: &[u8]) -> bool
     byte & mask == 0 && has_clear(bytes, operand)
 }
 
-/// Whether the comparison of an NV index's bytes with an operand holds.
+/// Whether the bytes of an NV index and an operand satisfy this comparison.
 #[tactic(auto, unfolding(crate::specs::Comparison::compares))]
 pub(crate) fn compares(operation: Operation, bytes: &[u8], operand: &[u8]) -> bool
     ensures { result ≡ compares operation bytes.now operand.now }

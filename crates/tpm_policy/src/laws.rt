@@ -1,4 +1,5 @@
-//! An assertion changes the policy as defined, and its digest keeps the size of the session's hash.
+//! An assertion changes the policy as defined, and the new policy digest has the size of the
+//! session's hash.
 
 ghost use Rattle.std.specs.Prelude.{◌≡◌, Bool, Ok, length};
 ghost use Rattle.tpm_mac.specs.Digest.{digest_size};
@@ -7,9 +8,9 @@ ghost use Rattle.tpm_policy.specs.Assertion.{Assertion, asserted};
 ghost use Rattle.tpm_policy.specs.Made.{policy_with};
 ghost use Rattle.tpm_policy.specs.State.{Policy};
 
-/// If an assertion passes its checks, the policy after it is `policy_with`, which is defined
-/// without checks. The new digest has the size of the session's hash. A proof only: it has no
-/// effect at run time.
+/// If an assertion passes its checks, the new policy is `policy_with`, which is defined without
+/// checks. The new digest has the size of the session's hash. A proof only: it has no effect at run
+/// time.
 #[inline(always)]
 #[tactic(auto, using(crate::proofs::Made::policy_made, crate::proofs::Sizes::made_sized))]
 pub fn assertion_laws()

@@ -19,7 +19,7 @@ pub struct NvAssertion<'a> {
     pub operand: &'a [u8],
     pub offset: u16,
     pub operation: Operation,
-    /// The bytes of the index to compare, of the same size as the operand, or the reason why they
+    /// The bytes of the index that are compared, as many as the operand has; or the error if they
     /// cannot be read.
     pub compared: Result<&'a [u8], ActionFault>,
 }
@@ -36,8 +36,8 @@ impl NvAssertion<'_> {
         digest_parts(hash, &[self.operand, &offset, &operation])
     }
 
-    /// Returns an error if the bytes cannot be read or the comparison does not hold. A trial
-    /// session always passes.
+    /// Returns an error if the bytes cannot be read or the comparison does not hold. Never returns
+    /// an error in a trial session.
     fn check(&self, trial: bool) -> Result<(), ActionFault>
         ensures { result ≡ nv_compared trial (nv_parts self.now) }
     {

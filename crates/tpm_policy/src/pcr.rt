@@ -1,4 +1,4 @@
-//! The assertion of TPM2_PolicyPCR: the values of the selected PCRs have this digest.
+//! The assertion of TPM2_PolicyPCR: the values of the selected PCRs have a certain digest.
 
 ghost use Rattle.tpm_commands.specs.CommandCode.{code_number};
 ghost use Rattle.tpm_commands.specs.declared.command_code.CommandCode.TheVariants as served;
@@ -28,7 +28,7 @@ pub struct PcrAssertion<'a> {
 }
 
 impl<'a> PcrAssertion<'a> {
-    /// The digest that the assertion uses: the digest of the PCRs. In a trial session it is the
+    /// The digest that extends the policy digest: that of the PCRs, or, in a trial session, the
     /// digest in the command, unless that is empty.
     fn taken(&self, trial: bool) -> &'a [u8]
         ensures { result.now ≡ taken_digest trial (pcr_parts self.now) }
@@ -52,7 +52,7 @@ impl PolicyState {
         }
     }
 
-    /// The policy digest after a PCR assertion.
+    /// The policy digest after TPM2_PolicyPCR.
     fn pcr_digest(&self, hash: HashAlg, trial: bool, about: &PcrAssertion) -> Digest
         ensures { result.items ≡ hash_of hash
             (self.now.digest ++ to_be_bytes w32 (code_number served.PolicyPcr)
@@ -66,9 +66,9 @@ impl PolicyState {
         digest_parts(hash, &[digest, &code, selection.as_slice(), taken])
     }
 
-    /// TPM2_PolicyPCR: returns PCR_CHANGED if a PCR has changed since the session's first
-    /// TPM2_PolicyPCR, and VALUE if the digest of the PCRs differs from the one in the command. A
-    /// trial session accepts any digest.
+    /// TPM2_PolicyPCR: returns PCR_CHANGED if the PCRs' update counter has changed since the
+    /// session's first TPM2_PolicyPCR, and VALUE if the command contains a digest that differs from
+    /// that of the PCRs. A trial session accepts any digest.
     #[tactic(auto, unfolding(crate::specs::Assertion::pcr_asserted))]
     pub fn pcr(
         &mut self,

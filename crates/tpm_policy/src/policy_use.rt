@@ -1,5 +1,5 @@
-//! Whether a policy session authorizes a use of an entity, and the demand of its policy. The first
-//! condition that fails causes the refusal.
+//! Whether a policy session authorizes a use of an entity, and what its policy demands. The first
+//! condition that fails determines the response code.
 
 ghost use Rattle.std.specs.Prelude.{◌≡◌, ◌==◌, option_map};
 ghost use Rattle.std.specs.Int.{bit_at};
@@ -21,7 +21,7 @@ pub struct EntityPolicy<'a> {
     pub digest: &'a [u8],
 }
 
-/// The use that a policy session has to authorize.
+/// The use of an entity that a policy session has to authorize.
 #[derive(Clone, Copy)]
 pub struct Use<'a> {
     /// The number of the authorization entry.
@@ -36,7 +36,7 @@ pub struct Use<'a> {
     pub update_count: u64,
     /// The command code.
     pub command: u32,
-    /// The role in which the entity is authorized.
+    /// The authorization role: USER or ADMIN.
     pub role: Role,
     /// The cpHash of the command.
     pub cp_hash: &'a [u8],
@@ -58,8 +58,8 @@ impl PolicyState {
         }
     }
 
-    /// Whether the policy requires a written NV index, or an unwritten one, and the entity is not
-    /// such an index.
+    /// Whether the policy requires a written or an unwritten NV index, but the entity is not an
+    /// index or is in the opposite state.
     pub(crate) fn records_other_written(&self, found: Option<bool>) -> bool
         ensures { result ≡ is_other_written self.now.nv_written found }
     {
@@ -78,7 +78,7 @@ impl PolicyState {
         (self.localities >> locality.number()) & 1 == 0
     }
 
-    /// Whether the session's policy is that of the entity: hash and digest are equal.
+    /// Whether the session's hash and policy digest are the entity's nameAlg and authPolicy.
     fn is_policy_of(&self, hash: HashAlg, entity: Option<EntityPolicy>) -> bool
         ensures { result
             ≡ is_policy_of hash self.now.digest (option_map entity_parts entity.entry) }
@@ -93,10 +93,11 @@ impl PolicyState {
     }
 
     /// Checks whether the policy authorizes this use, and returns the policy's demand. The first
-    /// condition that fails determines the error: ATTRIBUTES for a trial session; AUTH_UNAVAILABLE;
-    /// PCR_CHANGED; POLICY_CC for another command; POLICY_FAIL for the role, another cpHash, or an
-    /// index in the wrong written state; LOCALITY; POLICY_FAIL if the policy is not that of the
-    /// entity.
+    /// condition that fails determines the error: ATTRIBUTES for a trial session; AUTH_UNAVAILABLE
+    /// if the entity cannot be used now; PCR_CHANGED if the update counter has changed; POLICY_CC
+    /// for another command; POLICY_FAIL if the role requires a command code and none is recorded,
+    /// for another cpHash, or for an index in the wrong written state; LOCALITY for a forbidden
+    /// locality; POLICY_FAIL if the policy is not that of the entity.
     #[tactic(auto, unfolding(crate::specs::Use::use_passes))]
     pub fn check_use(&self, asked: &Use) -> Result<Demand, Rc>
         ensures { result ≡ use_passes self.now (parts_of asked.now) }

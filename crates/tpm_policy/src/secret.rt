@@ -20,7 +20,7 @@ pub struct SecretAssertion<'a> {
     pub nonce: &'a [u8],
     /// The session's nonceTPM.
     pub nonce_tpm: &'a [u8],
-    /// cpHashA: the cpHash of the only command that is allowed.
+    /// cpHashA: the cpHash of the only allowed command.
     pub cp_hash: &'a [u8],
     /// The parameter policyRef.
     pub reference: &'a [u8],

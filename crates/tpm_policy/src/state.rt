@@ -9,10 +9,10 @@ use std::marker::Model;
 use tpm_bytes::{append, copied};
 use tpm_mac::{Digest, HashAlg};
 
-/// The demand of a policy, in addition to its digest.
+/// What a policy requires in the authorization entry, in addition to its conditions.
 #[derive(Clone, Copy, PartialEq, Eq)]
 pub enum Demand {
-    /// Nothing more.
+    /// Nothing.
     None,
     /// An HMAC whose key includes the entity's authorization value.
     AuthValue,
@@ -25,15 +25,15 @@ pub enum Demand {
 #[derive(Drop)]
 pub struct PolicyState {
     pub(crate) digest: Digest,
-    /// The update counter of PCRs at the last TPM2_PolicyPCR.
+    /// The PCRs' update counter at the last TPM2_PolicyPCR.
     pub(crate) update_count: Option<u64>,
-    /// The code of the only command that is allowed.
+    /// The code of the only allowed command, if one is recorded.
     pub(crate) command: Option<u32>,
-    /// The cpHash of the only command that is allowed.
+    /// The cpHash of the only allowed command, if one is recorded.
     pub(crate) cp_hash: Option<Digest>,
-    /// Whether the NV index must have been written.
+    /// Whether the NV index must be written (true) or unwritten (false), if this is recorded.
     pub(crate) nv_written: Option<bool>,
-    /// The localities that are allowed, bit n for locality n.
+    /// The allowed localities, bit n for locality n.
     pub(crate) localities: u8,
     pub(crate) demand: Demand,
 }
@@ -119,35 +119,35 @@ impl PolicyState {
         }
     }
 
-    /// The update counter of PCRs at the last TPM2_PolicyPCR.
+    /// The PCRs' update counter at the last TPM2_PolicyPCR.
     pub fn recorded_update_count(&self) -> Option<u64>
         ensures { result ≡ self.now.update_count }
     {
         self.update_count
     }
 
-    /// The code of the only command that is allowed.
+    /// The code of the only allowed command, if one is recorded.
     pub fn recorded_command(&self) -> Option<u32>
         ensures { result ≡ self.now.command }
     {
         self.command
     }
 
-    /// The cpHash of the only command that is allowed.
+    /// The cpHash of the only allowed command, if one is recorded.
     pub fn recorded_cp_hash(&self) -> Option<&Digest>
         ensures { option_map (λ hash. hash.now.items) result ≡ self.now.cp_hash }
     {
         self.cp_hash.as_ref()
     }
 
-    /// Whether the NV index must have been written.
+    /// Whether the NV index must be written (true) or unwritten (false), if this is recorded.
     pub fn recorded_nv_written(&self) -> Option<bool>
         ensures { result ≡ self.now.nv_written }
     {
         self.nv_written
     }
 
-    /// The localities that are allowed, bit n for locality n.
+    /// The allowed localities, bit n for locality n.
     pub fn localities(&self) -> u8
         ensures { result ≡ self.now.localities }
     {
@@ -169,7 +169,7 @@ impl PolicyState {
         self.digest.as_slice()
     }
 
-    /// The demand of the policy, in addition to its digest.
+    /// What the policy requires in the authorization entry, in addition to its conditions.
     pub fn demand(&self) -> Demand
         ensures { result ≡ self.now.demand }
     {
@@ -191,7 +191,7 @@ impl PolicyState {
         }
     }
 
-    /// The cpHash is at most 32 bytes long.
+    /// States that the cpHash is at most 32 bytes long.
     #[inline(always)]
     fn read_cp_hash(&self)
         ensures { IfSome self.now.cp_hash (λ hash. length hash ≤ 32) }
@@ -201,7 +201,7 @@ impl PolicyState {
         }
     }
 
-    /// Each number fits its integer type.
+    /// States that the update counter fits its integer type.
     #[inline(always)]
     fn read_update_count(&self)
         ensures { IfSome self.now.update_count (λ count. count < 2 ^ 64) }

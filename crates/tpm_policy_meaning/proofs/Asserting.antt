@@ -22,7 +22,7 @@ use Rattle.tpm_policy_meaning.specs.PolicyDigest.{nv_arguments_text, or_update, 
 use Rattle.tpm_policy_meaning.proofs.Chains.{Breaking, Said, same_backs, same_fronts, same_hashed, unless_broken}
 use Rattle.tpm_policy_meaning.proofs.Spelled.{said_of}
 
--- ---- texts that determine their assertion
+-- ---- encodings that determine their values
 
 yes_no_same : (a b : Bool) → yes_no_text a ≡ yes_no_text b → a ≡ b
 yes_no_same true true is = refl
@@ -105,7 +105,7 @@ module _ (hash : HashAlg) (Broken : Type 0) (One Other : List ℕ → Type 0) (b
 
 -- ---- TPM2_PolicyOR
 
--- The assertion is a TPM2_PolicyOR with the same concatenation of digests as this list.
+-- The assertion is a TPM2_PolicyOR whose digests, joined, equal these digests, joined.
 abbrev pub IsOrOf : (digests : List (List ℕ)) → Assertion → Type 0
 IsOrOf digests one =
     (given : List (List ℕ)) × (one ≡ assertion.Or given)

@@ -1,5 +1,5 @@
--- If a digest occurs in the concatenation of digests of its size, it is one of them, or spans two
--- neighbours.
+-- If a digest occurs in a concatenation of digests of the same size, it either is one of them or
+-- spans two neighbours.
 use Rattle.std.proofs.Common.{◌≡◌, ◌≢◌, ◌⊎◌, ℕ, arith, List, [], ◌∷◌, ◌++◌, append_assoc, length, length-append, refl, ap, sym, ◌∙◌, inl, inr}
 use Rattle.std.proofs.lemmas.List.{append-nil}
 use Rattle.std.specs.List.{flat_map}
@@ -19,8 +19,8 @@ same_first x y xs ys is = (cc, cc)
 has_first : (x : ℕ) (xs : List ℕ) → x ∷ xs ≡ [] → ⊥
 has_first x xs is = absurd cc
 
--- The same text is split twice, and the front of the first split begins with the front of the
--- second.
+-- One text is split in two ways, as `front ++ back` and as `short ++ rest`, and `front` starts with
+-- `short`.
 abbrev GoesOn : (front back short rest : List ℕ) → Type 0
 GoesOn front back short rest = (more : List ℕ) × (front ≡ short ++ more) × (more ++ back ≡ rest)
 
@@ -57,7 +57,7 @@ behind_first text first digests none astride = record {
 }
 
 -- If a text starts within the first digest of a list and ends after it, and is not in the list, it
--- spans two neighbours of the list. All of them have the same size.
+-- spans two neighbours of the list. The text and the digests have the same size.
 next_begins : (text first front : List ℕ) (x y : ℕ) (end beginning : List ℕ) (digests : List (List ℕ)) (back : List ℕ) → (IsAmong text (first ∷ digests) → ⊥) → HaveSize (length text) digests → first ≡ front ++ x ∷ end → text ≡ (x ∷ end) ++ y ∷ beginning → joined digests ≡ (y ∷ beginning) ++ back → IsAstride text (first ∷ digests)
 next_begins text first front x y end beginning [] back none sizes is spelled stands = absurd (has_first y (beginning ++ back) (sym stands))
 next_begins text first front x y end beginning (next ∷ digests) back none sizes is spelled stands = by (two_ways next (joined digests) (y ∷ beginning) back stands)

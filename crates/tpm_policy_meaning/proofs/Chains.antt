@@ -1,4 +1,5 @@
--- If two chains of hashes end in the same digest, they have the same steps, or the hash is broken.
+-- If two chains of hashes end in the same digest, either they have the same steps or the hash is
+-- broken.
 use Rattle.std.proofs.Common.{◌≡◌, ◌≢◌, ◌⊎◌, ℕ, arith, Bool, true, false, cond, List, [], ◌∷◌, ◌++◌, length, length-append, take, drop, Option, Some, None, is_some, refl, ap, sym, ◌∙◌, inl, inr}
 use Rattle.std.proofs.lemmas.Bool.{false≢true}
 use Rattle.std.proofs.lemmas.List.{drop_at, length-replicate, take_at}
@@ -13,8 +14,8 @@ use Rattle.tpm_policy_meaning.specs.PolicyDigest.{digest_after, with_reference, 
 
 -- ---- lists of texts
 
--- If two equal texts are split at the same offset, their first parts are equal, and their second
--- parts too.
+-- If two equal texts are split at the same offset, their first parts are equal, and so are their
+-- second parts.
 pub same_fronts : (a b c d : List ℕ) → length a ≡ length c → a ++ b ≡ c ++ d → (a ≡ c) × (b ≡ d)
 same_fronts a b c d size is = (
   sym (take_at a b (length a) refl) ∙ ap (take (length a)) is ∙ take_at c d (length a) (sym size),
@@ -38,7 +39,7 @@ pub among_either : {X Elsewhere : Type 0} (x : X) (front back : List X) → IsAm
 among_either x front back (inl among) there = among_front x front back among
 among_either x front back (inr elsewhere) there = among_back x front back (there elsewhere)
 
--- Two texts are either equal or different; and a text is either in a list or not.
+-- Two texts are either equal or different. A text is either in a list or not.
 pub is_same_or_not : (t u : List ℕ) → (t ≡ u) ⊎ (t ≢ u)
 is_same_or_not t u = by (bytes_eq t u) refl
   where
@@ -59,8 +60,8 @@ is_among_or_not t (u ∷ texts) = by (is_same_or_not t u) (is_among_or_not t tex
     by (inr apart) (inl among) = inl (inr among)
     by (inr apart) (inr none) = inr (none_among t u texts apart none)
 
--- If a fact holds unless a hash is broken, and a conclusion follows from it, the conclusion holds
--- unless a hash is broken.
+-- If A holds unless the hash is broken, and A implies B unless the hash is broken, then B holds
+-- unless the hash is broken.
 pub unless_broken : {A B Broken : Type 0} → A ⊎ Broken → (A → B ⊎ Broken) → B ⊎ Broken
 unless_broken (inl a) next = next a
 unless_broken (inr broken) next = inr broken
@@ -80,14 +81,14 @@ pub length-chain : (hash : HashAlg) (steps : List (List ℕ)) → length (chain 
 length-chain hash [] = length-replicate (digest_size hash) 0
 length-chain hash (step ∷ earlier) = length-hash_of hash _
 
--- The hash is broken if a text of one kind and a different text of the other kind have the same
--- hash, or if the hash of a text is all zeros.
+-- The hash is broken in two cases: a text in `One` and a different text in `Other` have the same
+-- hash; or the hash of a text in either is all zeros.
 pub record Breaking (hash : HashAlg) (Broken : Type 0) (One Other : List ℕ → Type 0) : Type 0 where
   pub collision : (t u : List ℕ) → One t → Other u → t ≢ u → hash_of hash t ≡ hash_of hash u → Broken
   pub of_zeros : (t : List ℕ) → One t ⊎ Other t → hash_of hash t ≡ zeros hash → Broken
 
 module _ (hash : HashAlg) (Broken : Type 0) (One Other : List ℕ → Type 0) (breaking : Breaking hash Broken One Other) where
-  -- If two texts have the same hash, they are equal, or the hash is broken.
+  -- If two texts have the same hash, either they are equal or the hash is broken.
   pub same_hashed : (t u : List ℕ) → One t → Other u → hash_of hash t ≡ hash_of hash u → (t ≡ u) ⊎ Broken
   same_hashed t u one other is = by (is_same_or_not t u)
     where
@@ -111,7 +112,7 @@ module _ (hash : HashAlg) (Broken : Type 0) (One Other : List ℕ → Type 0) (b
 
 -- ---- steps of assertions
 
--- an assertion as it contributes to the digest: its policyRef, if it has one, and its encoding
+-- what an assertion contributes to the digest: its policyRef, if any, and its encoding
 abbrev pub Said : Type 0
 Said = Option (List ℕ) × List ℕ
 
@@ -134,7 +135,7 @@ abbrev pub AllFit : List Said → Type 0
 AllFit [] = Unit {0}
 AllFit (said ∷ earlier) = Fits said × AllFit earlier
 
--- whether a policyRef must follow these steps; after complete assertions none must follow
+-- whether the latest step is a TPM2_PolicySecret, whose policyRef must be the next step
 abbrev awaits : List (List ℕ) → Bool
 awaits [] = false
 awaits (step ∷ earlier) = cond (awaits earlier) false (is_secret step)
@@ -161,7 +162,7 @@ latest_aligned (Some r) None t u xs ys st su ax ay is =
     let rest : t ∷ xs ≡ ys = cc in
     absurd (false≢true (sym ay ∙ ap awaits (sym rest) ∙ rw (ax, st) refl))
 
--- If two lists of assertions have the same steps, they are equal.
+-- Two lists of assertions are equal if their steps are the same.
 pub aligned : (xs ys : List Said) → AllFit xs → AllFit ys → all_steps xs ≡ all_steps ys → xs ≡ ys
 aligned [] [] fx fy is = refl
 aligned [] (y ∷ ys) fx fy is = absurd (some_steps y.0 y.1 (all_steps ys) (sym is))

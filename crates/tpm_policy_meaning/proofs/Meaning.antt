@@ -1,4 +1,4 @@
--- If a policy session's digest is that of a policy, the session made the assertions that the
+-- If a policy session's digest is that of a policy, either the session made the assertions that the
 -- policy requires, or the hash is broken.
 use Rattle.std.proofs.Common.{◌≡◌, ◌≢◌, ◌⊎◌, ℕ, List, [], ◌∷◌, ◌++◌, append_assoc, length, refl, ap, sym, subst, ◌∙◌, inl, inr}
 use Rattle.tpm_mac.specs.Digest.{digest_size}
@@ -39,8 +39,8 @@ same_latest x y xs ys is = (cc, cc)
 none_said : (x : Said) (xs : List Said) → x ∷ xs ≡ [] → ⊥
 none_said x xs is = absurd cc
 
--- If a session's assertion asserts the same as one of a written policy, it is not a TPM2_PolicyOR,
--- and so it discards no earlier assertion.
+-- If a session's assertion asserts the same as an assertion of a written policy, it is not a
+-- TPM2_PolicyOR. Therefore it discards no earlier assertion.
 earlier_said : (one : Assertion) (written : PolicyAssertion) (said : List Said) → Says one written → said_before one said ≡ said
 earlier_said (assertion.Or digests) written said asserts = absurd asserts
 earlier_said _ written said asserts = refl

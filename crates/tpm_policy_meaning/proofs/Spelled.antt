@@ -1,5 +1,5 @@
--- The digests and the hashed texts of a policy, and of a session, are those of the chain of their
--- assertions' steps.
+-- The assertions of a policy or of a session form a chain of steps. This chain has the same digest
+-- and the same hashed texts as the policy or the session.
 use Rattle.std.proofs.Common.{◌≡◌, ℕ, List, [], ◌∷◌, ◌++◌, append_assoc, Option, Some, None, refl, ap, ◌∙◌, inl, inr}
 use Rattle.std.specs.Int.{w32, to_be_bytes}
 use Rattle.std.specs.List.{flat_map}

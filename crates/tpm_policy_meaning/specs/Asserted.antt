@@ -37,10 +37,10 @@ session_digest hash assertions = (evaluated hash false assertions).digest
 
 -- ---- assertions of a session and of a written policy
 
--- An assertion of a session asserts the same as one of a written policy. TPM2_PolicyAuthValue and
--- TPM2_PolicyPassword extend the digest in the same way, so each counts as the other. The session's
--- demand decides how a use must prove the authorization value; the use must always prove it
--- (`DemandsValue`).
+-- An assertion of a session asserts the same as an assertion of a written policy.
+-- TPM2_PolicyAuthValue and TPM2_PolicyPassword count as the same, since they extend the digest in
+-- the same way. After either, a caller must prove the authorization value (`DemandsValue`); the
+-- session's demand decides how.
 abbrev pub Says : Assertion → PolicyAssertion → Type 0
 Says (assertion.Pcr parts) (PolicyPcr selection digest) =
     (parts.selection ≡ selection_text selection) × (parts.digest ≡ digest)
@@ -74,7 +74,8 @@ HasWidths hash (assertion.CommandCode number) = number < 2 ^ 32
 HasWidths hash (assertion.Nv parts) = parts.offset < 2 ^ 16
 HasWidths hash _ = Unit {0}
 
--- The list of TPM2_PolicyOR contains the session's digest after the earlier assertions.
+-- If the assertion is a TPM2_PolicyOR, its list contains the session's digest after the earlier
+-- assertions.
 abbrev pub FindsDigest : HashAlg → Assertion → (earlier : List Assertion) → Type 0
 FindsDigest hash (assertion.Or digests) earlier =
     IsAmong (session_digest hash earlier) digests
@@ -89,7 +90,7 @@ AreAccepted hash (latest ∷ earlier) =
 
 -- ---- the texts that a session hashes
 
--- the contribution of an assertion to the digest
+-- what an assertion contributes to the digest
 abbrev pub update_by : HashAlg → Assertion → PolicyUpdate
 update_by hash (assertion.Pcr parts) =
     plain_update command.PolicyPcr (parts.selection ++ parts.digest)

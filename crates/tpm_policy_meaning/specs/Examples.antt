@@ -50,8 +50,8 @@ two_zero_pcrs =
     ∷ 0x43 ∷ 0x00 ∷ 0x3d ∷ 0x23 ∷ 0x20 ∷ 0xd9 ∷ 0xf0 ∷ 0xe8
     ∷ 0xea ∷ 0x98 ∷ 0x31 ∷ 0xa9 ∷ 0x27 ∷ 0x59 ∷ 0xfb ∷ 0x4b ∷ []
 
--- the policy that requires these values of PCRs 7 and 11 of the SHA-256 bank, and the authorization
--- value; and its digest
+-- the policy that requires zeros in PCRs 7 and 11 of the SHA-256 bank, and the authorization value;
+-- and its digest
 abbrev pub by_pcrs_and_value : PolicyExpression
 by_pcrs_and_value =
     let selection = record { hash = alg.Sha256; select = 0x000880 } ∷ [] in
@@ -75,7 +75,8 @@ by_either_digest =
     ∷ 0x43 ∷ 0x61 ∷ 0x42 ∷ 0xe1 ∷ 0x65 ∷ 0xcf ∷ 0xdf ∷ 0x51
     ∷ 0x45 ∷ 0x82 ∷ 0xb0 ∷ 0x5f ∷ 0x8b ∷ 0xb9 ∷ 0x22 ∷ 0xd9 ∷ []
 
--- the policy that requires eight bytes of the index with this Name to be at least 5, and its digest
+-- the Name of an index; the policy that requires the first eight bytes of this index to be at least
+-- 5; and its digest
 abbrev pub index_name : List ℕ
 index_name =
     0x00 ∷ 0x0b ∷ 0x00 ∷ 0x01 ∷ 0x02 ∷ 0x03 ∷ 0x04 ∷ 0x05
@@ -96,7 +97,7 @@ by_count_digest =
     ∷ 0xc8 ∷ 0xa4 ∷ 0x19 ∷ 0x7b ∷ 0x79 ∷ 0xc1 ∷ 0x64 ∷ 0x9e
     ∷ 0x75 ∷ 0x73 ∷ 0x9e ∷ 0xe2 ∷ 0x8c ∷ 0x3d ∷ 0x12 ∷ 0x15 ∷ []
 
--- Each of these policies has the digest given for it.
+-- The digest of each example policy is the one defined above.
 pub record ComputesDigests : Type 0 where
   pub by_value : policy_digest alg.Sha256 by_value ≡ by_value_digest
   pub by_endorsement : policy_digest alg.Sha256 by_endorsement ≡ by_endorsement_digest

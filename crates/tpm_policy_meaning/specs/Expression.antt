@@ -1,6 +1,6 @@
 -- Written policies. TPM 2.0 Library, Part 1, section 19.7 (enhanced authorization), and Part 3,
 -- section 23. A policy consists of assertions; each is made by the command with the same name.
--- TPM2_PolicyOR means any one of several policies.
+-- TPM2_PolicyOR offers a choice between several policies.
 use Rattle.std.specs.Prelude.{ℕ, Bool, List}
 use Rattle.tpm_types.specs.declared.operation.Operation.{Operation}
 use Rattle.tpm_types.specs.declared.pcr_selection.BankSelection.{BankSelection}
@@ -9,11 +9,10 @@ use Rattle.tpm_types.specs.declared.pcr_selection.BankSelection.{BankSelection}
 -- PCRs have this digest. PolicyAuthValue: the HMAC key includes the entity's authorization value.
 -- PolicyPassword: the entity's authorization value is sent as a password. PolicyCommandCode: the
 -- command has this code. PolicyLocality: the command comes from one of these localities, bit n for
--- locality n. PolicyCpHash: this is the hash of the command, its handles' Names and its
--- parameters. PolicyNvWritten: the entity is a written NV index, or an unwritten one.
--- PolicySecret: the entity with this Name was authorized for this policyRef. PolicyNv: the data of
--- the NV index with this Name, from this offset on, was compared with this operand, and the
--- comparison held.
+-- locality n. PolicyCpHash: the command has this cpHash. PolicyNvWritten: the entity is a written
+-- NV index, or an unwritten one. PolicySecret: the entity with this Name was authorized for this
+-- policyRef. PolicyNv: the data of the NV index with this Name, from this offset on, was compared
+-- with this operand, and the comparison held.
 pub data PolicyAssertion : Type 0 where
   PolicyPcr : (selection : List BankSelection) → (digest : List ℕ) → PolicyAssertion
   PolicyAuthValue : PolicyAssertion
@@ -25,8 +24,8 @@ pub data PolicyAssertion : Type 0 where
   PolicySecret : (name reference : List ℕ) → PolicyAssertion
   PolicyNv : (name operand : List ℕ) → (offset : ℕ) → (operation : Operation) → PolicyAssertion
 
--- A policy: the empty policy, which demands nothing; a policy followed by an assertion; or any
--- one of several policies.
+-- A policy: the empty policy, which demands nothing; a policy followed by an assertion; or a choice
+-- between several policies.
 mutual
   pub data PolicyExpression : Type 0 where
     Nothing : PolicyExpression

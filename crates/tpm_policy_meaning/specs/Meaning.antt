@@ -1,7 +1,7 @@
 -- The meaning of a policy session's digest. TPM 2.0 Library, Part 1, section 19.7. If a session's
--- digest is that of a policy, the session made the assertions that the policy requires, taking one
--- branch at each TPM2_PolicyOR. Otherwise, the policy and the session determine texts that break
--- the hash.
+-- digest is that of a policy, either the session made the assertions that the policy requires, on
+-- one branch at each TPM2_PolicyOR; or the policy and the session determine texts that break the
+-- hash.
 use Rattle.std.specs.Prelude.{◌≡◌, ◌≢◌, ◌⊎◌, ◌<◌, ◌^◌, ℕ, List, [], ◌∷◌, ◌++◌, length}
 use Rattle.tpm_mac.specs.Digest.{digest_size, hash_of}
 use Rattle.tpm_mac.specs.declared.algorithm.HashAlg.{HashAlg}
@@ -15,8 +15,8 @@ use Rattle.tpm_policy_meaning.specs.Expression.{PolicyBranches, NoBranch, Branch
 use Rattle.tpm_policy_meaning.specs.PolicyDigest.{branch_digests, policy_digest, policy_texts}
 use Rattle.tpm_policy_meaning.specs.PolicyDigest.{zeros}
 
--- A policy is met: each of its assertions has the property P, for one branch at each
--- TPM2_PolicyOR.
+-- A policy is satisfied: its assertions have the property P. For a TPM2_PolicyOR, it suffices that
+-- one branch is satisfied.
 abbrev mutual
   pub IsMet : (P : PolicyAssertion → Type 0) → PolicyExpression → Type 0
   IsMet P Nothing = Unit {0}
@@ -47,7 +47,7 @@ abbrev mutual
   ArePolicyBranches hash (Branch policy branches) =
       IsPolicyExpression hash policy × ArePolicyBranches hash branches
 
--- the branch digests of each TPM2_PolicyOR in a policy
+-- for each TPM2_PolicyOR in a policy, the digests of its branches
 abbrev mutual
   pub branch_lists : HashAlg → PolicyExpression → List (List (List ℕ))
   branch_lists hash Nothing = []
@@ -75,12 +75,12 @@ pub record IsAstride (text : List ℕ) (texts : List (List ℕ)) : Type 0 where
   pub has_beginning : beginning ≢ []
   pub is_none : IsAmong text texts → ⊥
 
--- Texts that a policy and a session's assertions determine break the hash. Collision: two different
--- texts have the same hash; one was hashed for the policy, the other by the session. HashOfZeros:
--- the hash of a text is all zeros, the initial digest of a session. AstrideBranches: a digest of
--- the session spans the digests of two neighbouring branches of a TPM2_PolicyOR in the policy.
--- TPM2_PolicyOR hashes the concatenation of its digests without their sizes, so a session may pass
--- the same bytes split at other offsets.
+-- The policy and the session's assertions determine texts that break the hash. Collision: two
+-- different texts have the same hash; one was hashed for the policy, the other by the session.
+-- HashOfZeros: the hash of a text is all zeros, the initial digest of a session. AstrideBranches: a
+-- digest of the session spans the digests of two neighbouring branches of a TPM2_PolicyOR in the
+-- policy. TPM2_PolicyOR hashes the concatenation of its digests without their sizes, so a session
+-- may pass the same bytes split at other offsets.
 pub data BreaksHash (hash : HashAlg) (policy : PolicyExpression) (assertions : List Assertion)
     : Type 0
   where
@@ -95,7 +95,7 @@ pub data BreaksHash (hash : HashAlg) (policy : PolicyExpression) (assertions : L
         → IsAmong digests (branch_lists hash policy) → IsAstride digest digests
         → BreaksHash hash policy assertions
 
--- If a policy session's digest is that of a policy, the session made the assertions that the
+-- If a policy session's digest is that of a policy, either the session made the assertions that the
 -- policy requires, or the hash is broken.
 abbrev pub DigestMeans : Type 0
 DigestMeans =

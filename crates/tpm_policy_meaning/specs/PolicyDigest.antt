@@ -20,8 +20,8 @@ use Rattle.tpm_policy_meaning.specs.Expression.{PolicyNv}
 use Rattle.tpm_policy_meaning.specs.Expression.{PolicyExpression, Nothing, Then, PolicyOr}
 use Rattle.tpm_policy_meaning.specs.Expression.{PolicyBranches, NoBranch, Branch}
 
--- the contribution of an assertion to the digest: its command code, its data, and policyRef, if it
--- has one; if the data contains the hash of a text, also that text
+-- what an assertion contributes to the digest: its command code, its data, its policyRef (if any),
+-- and each text whose hash is part of the data (`apart`)
 pub record PolicyUpdate : Type 0 where
   pub code : CommandCode
   pub about : List ℕ
@@ -86,11 +86,12 @@ abbrev pub texts_after : HashAlg → (digest : List ℕ) → PolicyUpdate → Li
 texts_after hash digest update =
     with_reference hash update.reference (digest ++ update_text update) ++ update.apart
 
--- the zeros from which the digest of a policy starts
+-- the initial policy digest, all zeros
 abbrev pub zeros : HashAlg → List ℕ
 zeros hash = replicate (digest_size hash) 0
 
--- the digest after these texts, the latest first: the hash of the latest text
+-- the digest after these texts were hashed, the latest first: the hash of the latest text, or zeros
+-- if there is none
 abbrev pub digest_after : HashAlg → (texts : List (List ℕ)) → List ℕ
 digest_after hash [] = zeros hash
 digest_after hash (text ∷ earlier) = hash_of hash text

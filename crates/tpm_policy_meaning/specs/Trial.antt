@@ -14,7 +14,7 @@ use Rattle.tpm_policy_meaning.specs.Meaning.{IsPolicyExpression}
 use Rattle.tpm_policy_meaning.specs.PolicyDigest.{branch_digests, policy_digest}
 
 -- the assertion that a trial session makes for an assertion of a written policy; `pcrs_now` is the
--- present digest of the device's PCRs
+-- current digest of the device's PCRs
 abbrev pub assertion_of : (pcrs_now : List ℕ) → PolicyAssertion → Assertion
 assertion_of pcrs_now (PolicyPcr selection digest) = assertion.Pcr (record {
   given = digest;
@@ -53,8 +53,8 @@ assertions_of hash pcrs_now (Then before written) =
 assertions_of hash pcrs_now (PolicyOr branches) =
     assertion.Or (branch_digests hash branches) ∷ []
 
--- Asserting a policy on a trial session yields the policy's digest, whatever the current values
--- of the PCRs are.
+-- Asserting a policy in a trial session yields the policy's digest, whatever the current values of
+-- the PCRs are.
 abbrev pub TrialComputes : Type 0
 TrialComputes =
     (hash : HashAlg) (pcrs_now : List ℕ) (policy : PolicyExpression)

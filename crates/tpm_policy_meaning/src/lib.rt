@@ -1,7 +1,7 @@
 #![tactic(auto)]
 
 //! The meaning of a policy session's digest: written policies, their digests, and what follows if a
-//! session's digest is that of a policy.
+//! session's digest equals that of a policy.
 //!
 //! The crate uses the definitions of tpm_policy. It does not refer to sessions, entities or
 //! histories. Each law is the contract of a function that has no effect at run time.
@@ -12,16 +12,16 @@ ghost use Rattle.tpm_policy_meaning.specs.Examples.{ComputesDigests};
 ghost use Rattle.tpm_policy_meaning.specs.Meaning.{DigestMeans};
 ghost use Rattle.tpm_policy_meaning.specs.Trial.{TrialComputes};
 
-/// If the digest of a policy session is that of a policy, the session made the assertions that the
-/// policy requires, taking one branch at each TPM2_PolicyOR. Otherwise the hash is broken in one of
-/// three ways; the texts that break it can be computed from the policy and the session's
-/// assertions.
+/// If a policy session's digest equals that of a policy, one of two things holds. Either the
+/// session made the assertions that the policy requires, on one branch at each TPM2_PolicyOR; or
+/// the hash is broken in one of three ways. The texts that break it can be computed from the policy
+/// and the session's assertions.
 #[inline(always)]
 pub fn meaning_laws()
     ensures { DigestMeans }
 {}
 
-/// Asserting a policy on a trial session yields the digest of the policy, whatever the current
+/// Asserting a policy in a trial session yields the digest of the policy, whatever the current
 /// values of the PCRs are.
 #[inline(always)]
 pub fn trial_laws()

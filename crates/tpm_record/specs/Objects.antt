@@ -10,7 +10,7 @@ use Rattle.tpm_containers.specs.declared.slots.SlotFault.TheVariants.{Full, NoMe
 use Rattle.tpm_types.specs.declared.handle.Handle.{Handle}
 use Rattle.tpm_record.specs.declared.objects.Objects.{Objects}
 
--- the slots of the transient objects, given a function that returns the slots of their container
+-- the slots of the transient objects. The function `places` returns the slots of their container
 abbrev pub objects_of : {O : Type 0}
     → (O → List (Option Object)) → Objects O → List (Option Object)
 objects_of places objects = places objects.places

@@ -18,7 +18,7 @@ no_persistent = []
 abbrev pub persistent_at : Entries Object → Handle → Option Object
 persistent_at objects handle = at_key objects handle.number
 
--- the persistent objects after one was added, and after one was removed
+-- the persistent objects after one was added (`with_persistent`) or removed (`without_persistent`)
 abbrev pub with_persistent : Entries Object → Handle → Object → Entries Object
 with_persistent objects handle object = with_key objects handle.number object
 

@@ -16,7 +16,7 @@ found_at r handle = record { handle = handle; entity = entity_at r handle }
 abbrev pub entities_at : Record → List Handle → List Found
 entities_at r handles = map (found_at r) handles
 
--- a handle and the entity that the code found for it, without its address in memory
+-- a handle and the entity that the code found for it, as values instead of references
 abbrev pub found_by : Resolved → Found
 found_by resolved =
     record { handle = resolved.handle; entity = entity_seen resolved.entity }

@@ -1,4 +1,4 @@
-//! Adds and removes objects of the device's state, transient or persistent, and finds the next one.
+//! Adds, removes and finds the transient and persistent objects in the device's state.
 
 ghost use Rattle.std.specs.Prelude.{◌≡◌, is_some, true};
 ghost use Rattle.tpm_record.specs.AnyObject.{AddsObject, AddsPersistent, next_object, next_transient};
@@ -20,7 +20,7 @@ pub fn add_object<K: Keep>(keep: &mut K, object: Object) -> Result<Handle, SlotF
     keep.objects_mut().add(object)
 }
 
-/// Adds a persistent object with a handle that must be free.
+/// Adds a persistent object with this handle. Returns an error if the handle is taken.
 pub fn add_persistent<K: Keep>(keep: &mut K, handle: Handle, object: Object) -> Result<(), KeyFault>
     requires named { is_persistent handle ≡ true }
     requires owned { can_persist object.hierarchy ≡ true }
@@ -43,8 +43,7 @@ pub fn remove_object<K: Keep>(keep: &mut K, handle: Handle) -> bool
     }
 }
 
-/// The number of the lowest handle, from this one on, that belongs to a transient or persistent
-/// object.
+/// The lowest handle of a transient or persistent object, at or above this one.
 pub fn next_object<K: Keep>(keep: &K, from: Handle) -> Option<u32>
     ensures { result ≡ next_object (K.record_of keep.now) from.number }
 {
@@ -54,7 +53,7 @@ pub fn next_object<K: Keep>(keep: &K, from: Handle) -> Option<u32>
     }
 }
 
-/// The number of the lowest handle, from this one on, that belongs to a transient object.
+/// The lowest handle of a transient object, at or above this one.
 #[tactic(auto, using(crate::proofs::Searching::none_more, crate::proofs::Searching::found_least))]
 fn next_transient<K: Keep>(keep: &K, from: Handle) -> Option<u32>
     ensures { result ≡ next_transient (K.record_of keep.now).objects from.number }

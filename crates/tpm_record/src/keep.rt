@@ -1,6 +1,6 @@
 //! The trait `Keep`, which types that contain the device's state implement. It provides read and
-//! write access to each part of the state. Contracts refer to such a value by the record that it
-//! represents.
+//! write access to each part of the state. Contracts refer to a value of such a type by the record
+//! that the value represents.
 
 ghost use Rattle.std.specs.Prelude.{◌≡◌, Bool, IfOk, OnErr, replicate, true};
 ghost use Rattle.std.specs.Borrow.{Lends, sem};
@@ -26,7 +26,7 @@ use tpm_session::{Session, Sessions};
 use tpm_types::{OBJECT_LIMIT, SESSION_LIMIT};
 
 /// A type that contains the device's state. Contracts refer to a value of this type by the record
-/// that it represents.
+/// that the value represents.
 pub trait Keep: Drop + Sized {
     /// The type of the slots for sessions.
     type SessionSlots: Slots<Session, SESSION_LIMIT>;

@@ -1,4 +1,4 @@
-//! The transient objects of a device as a map by handle, and laws of this map.
+//! The transient objects of a device as a map keyed by handle, and laws about this map.
 
 ghost use Rattle.tpm_types.specs.Limits.{object_limit};
 ghost use Rattle.std.specs.Prelude.{◌≡◌, ◌<◌, is_some, length, option_copied};
@@ -52,7 +52,7 @@ impl<O: Slots<Object, OBJECT_LIMIT>> Objects<O> {
         numbered::get(&self.places, handle.number)
     }
 
-    /// The handle that the next object gets, or None if no slot is free.
+    /// The handle that the next added object will get, or None if no slot is free.
     pub fn free(&self) -> Option<Handle>
         ensures { result ≡ next_handle (objects_of O.places self.now) }
     {
@@ -120,8 +120,9 @@ impl<O: Slots<Object, OBJECT_LIMIT>> Objects<O> {
     }
 }
 
-/// The transient objects of a device are a map by handle: after an object is added or removed, each
-/// handle finds the right object or none. A proof only: it has no effect at run time.
+/// The transient objects of a device form a map keyed by handle: after an object is added or
+/// removed, a lookup by handle returns the right object, or None. A proof only: it has no effect at
+/// run time.
 pub fn object_laws()
     ensures { MapLaws transient_byte }
 {

@@ -16,8 +16,8 @@ use tpm_containers::{KeyFault, ListMap, Sizes, SlotMap, SortedMap};
 use tpm_object::Object;
 use tpm_types::{Handle, PERSISTENT_LIMIT};
 
-/// The persistent objects of a device, at most [`PERSISTENT_LIMIT`], by handle. The calls do not
-/// check who may make an object persistent or remove it.
+/// The persistent objects of a device, at most [`PERSISTENT_LIMIT`], keyed by handle. The calls do
+/// not check who may make an object persistent or remove it.
 pub trait PersistentObjects: Drop + Sized {
     /// The handles in ascending order, each with its object.
     ghost entries: { Self → Entries ObjectParts };
@@ -41,11 +41,11 @@ pub trait PersistentObjects: Drop + Sized {
     fn get(&self, handle: Handle) -> Option<&Object>
         ensures { option_copied result ≡ persistent_at (entries self.now) handle };
 
-    /// The lowest handle of an object, from this one on.
+    /// The lowest handle of an object, at or above this one.
     fn next(&self, handle: Handle) -> Option<u32>
         ensures { result ≡ next_persistent (entries self.now) handle.number };
 
-    /// Adds an object with a handle that must be free.
+    /// Adds an object with this handle. Returns an error if the handle is taken.
     fn add(&mut self, handle: Handle, object: Object) -> Result<(), KeyFault>
         requires named { is_persistent handle ≡ true }
         requires owned { can_persist object.hierarchy ≡ true }
@@ -62,7 +62,7 @@ pub trait PersistentObjects: Drop + Sized {
     fn clear_hierarchies(&mut self)
         ensures { entries self.new ≡ cleared_persistent (entries self.old) };
 
-    /// The invariant of the persistent objects. A proof only: it has no effect at run time.
+    /// A proof only: states the invariant of the persistent objects. It has no effect at run time.
     fn read_sizes(&self)
         ensures { ArePersistent (entries self.now) };
 }

@@ -33,7 +33,7 @@ impl Model for Saved {
 }
 
 impl Saved {
-    /// The saved state without a TPM2_Shutdown: nothing.
+    /// The saved state if there was no TPM2_Shutdown: nothing.
     pub fn nothing() -> Saved
         ensures { result ≡ Nothing }
     {

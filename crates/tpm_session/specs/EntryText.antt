@@ -5,7 +5,8 @@ use Rattle.tpm_types.specs.declared.session_attributes.SessionAttributes.{Sessio
 use Rattle.tpm_session.specs.declared.entry.CommandText.{CommandText}
 use Rattle.tpm_session.specs.declared.session.Session.{Session}
 
--- the data that the HMAC of a command's entry covers, as values
+-- the data that the HMAC of a command's authorization entry covers, except the nonceTPM of the
+-- entry's session
 pub record EntryParts : Type 0 where
   pub hash : List ℕ
   pub nonce_caller : List ℕ
@@ -22,18 +23,18 @@ parts_of text = record {
   attributes = text.attributes;
 }
 
--- the HMAC key of an entry: sessionKey || authValue
+-- the HMAC key of an authorization entry: sessionKey || authValue
 abbrev pub entry_key : Session → List ℕ → List ℕ
 entry_key session auth_value = session.key ++ auth_value
 
--- the HMAC text of an entry: pHash || nonceNewer || nonceOlder || nonceTPM of the decrypt session
--- || nonceTPM of the encrypt session || sessionAttributes. The nonce of another session is empty
--- unless the entry authenticates it
+-- the data that an authorization entry's HMAC covers: pHash || nonceNewer || nonceOlder || nonceTPM
+-- of the decrypt session || nonceTPM of the encrypt session || sessionAttributes. The nonces of
+-- other sessions are empty unless the entry authenticates these sessions
 abbrev pub entry_text : (hash newer older decrypt encrypt : List ℕ) → SessionAttributes → List ℕ
 entry_text hash newer older decrypt encrypt attributes =
     hash ++ newer ++ older ++ decrypt ++ encrypt ++ attributes.octet ∷ []
 
--- the HMAC text of a command's entry: the caller's nonce is the newer one
+-- the data that the HMAC of a command's entry covers; the caller's nonce is the newer one
 abbrev pub command_text : Session → EntryParts → List ℕ
 command_text session p =
     entry_text p.hash p.nonce_caller session.nonce_tpm p.decrypt_nonce p.encrypt_nonce p.attributes
@@ -42,8 +43,8 @@ unfoldable pub command_mac_of : Session → (auth_value : List ℕ) → EntryPar
 command_mac_of session auth_value parts =
     hmac_of session.hash (entry_key session auth_value) (command_text session parts)
 
--- the HMAC text of a response's entry: the TPM's nonce is the newer one, and nonces of other
--- sessions are not included
+-- the data that the HMAC of a response's entry covers; the TPM's nonce is the newer one, and nonces
+-- of other sessions are not included
 abbrev pub response_text : Session → (hash nonce_caller : List ℕ) → SessionAttributes → List ℕ
 response_text session hash nonce_caller attributes =
     entry_text hash session.nonce_tpm nonce_caller [] [] attributes

@@ -1,5 +1,5 @@
--- The sized buffer at the start of the parameters, which sessions encrypt. TPM 2.0 Library, Part
--- 1, section 21: the bytes of the first parameter, without its size.
+-- The sized buffer at the start of the parameters. Sessions encrypt its bytes, but not its size
+-- field. TPM 2.0 Library, Part 1, section 21.
 use Rattle.std.specs.Prelude.{◌≡◌, ℕ, ◌+◌, ◌≤◌, ◌&&◌, nat_le, Bool, true, false, List, ◌++◌, length, take, drop, if◌then◌else◌, Option, Some, None}
 use Rattle.std.specs.Int.{w16, from_be_bytes}
 
@@ -11,15 +11,16 @@ first_size text = from_be_bytes w16 (take 2 text)
 abbrev pub has_first_buffer : List ℕ → Bool
 has_first_buffer text = nat_le 2 (length text) && nat_le (2 + first_size text) (length text)
 
--- a text after the bytes of the sized buffer at its start were replaced
+-- a text after `f` was applied to the bytes of the sized buffer at the start; unchanged if no
+-- complete buffer is there
 unfoldable pub with_first_buffer : (List ℕ → List ℕ) → List ℕ → List ℕ
 with_first_buffer f text =
     if has_first_buffer text
     then take 2 text ++ f (take (first_size text) (drop 2 text)) ++ drop (2 + first_size text) text
     else text
 
--- The call returned the size of the sized buffer at the start of a text, or None if there is no
--- such buffer.
+-- The call returned the size of the sized buffer at the start of a text, or None if no complete
+-- buffer is there.
 abbrev pub FindsFirst : List ℕ → Option ℕ → Type 0
 FindsFirst text (Some size) =
     (has_first_buffer text ≡ true) × (size ≡ first_size text) × (2 + size ≤ length text)

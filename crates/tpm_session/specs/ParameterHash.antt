@@ -19,7 +19,7 @@ unfoldable pub response_hash_of : HashAlg → (code : ℕ) (parameters : List �
 response_hash_of hash code parameters =
     hash_of hash (to_be_bytes w32 0 ++ to_be_bytes w32 code ++ parameters)
 
--- the data hashed by cpHash or rpHash, as values
+-- the data that cpHash or rpHash covers
 pub data HashedParts : Type 0 where
   OfCommand : (code : ℕ) (names : List (List ℕ)) (parameters : List ℕ) → HashedParts
   OfResponse : (code : ℕ) (parameters : List ℕ) → HashedParts

@@ -29,10 +29,10 @@ with_nonce session nonce = record session { nonce_tpm = nonce }
 abbrev pub with_policy : Session → Policy → Session
 with_policy session policy = record session { policy = policy }
 
--- whether nonceTPM, the key and the policy digest may have these sizes in a session with this
--- hash and binding. nonceTPM is as long as the caller's first nonce (section 19.6.3). The key is
--- as long as a digest, or empty if the session is not bound (section 19.6.8). The policy digest
--- is as long as a digest (section 19.7)
+-- whether nonceTPM, the key and the policy digest have sizes that a session with this hash and
+-- binding allows. nonceTPM is as long as the caller's first nonce (section 19.6.3). The key is as
+-- long as a digest, or empty if the session is not bound (section 19.6.8). The policy digest is as
+-- long as a digest (section 19.7)
 abbrev pub are_hash_sizes : HashAlg → Option Binding → (nonce_tpm key digest : List ℕ) → Bool
 are_hash_sizes hash binding nonce_tpm key digest =
     is_nonce_size hash (length nonce_tpm)
@@ -43,7 +43,7 @@ are_hash_sizes hash binding nonce_tpm key digest =
 abbrev pub has_hash_sizes : Session → Bool
 has_hash_sizes s = are_hash_sizes s.hash s.binding s.nonce_tpm s.key s.policy.digest
 
--- the session, if its hash allows its sizes
+-- the session if its hash allows the sizes of its parts, otherwise None
 abbrev pub if_hash_sized : Session → Option Session
 if_hash_sized session = if has_hash_sizes session then Some session else None
 

@@ -16,20 +16,20 @@ use tpm_types::{BUFFER_LIMIT, SymmetricDefinition};
 #[derive(Clone, Copy, PartialEq, Eq)]
 pub struct SymmetricFault;
 
-/// The label of KDFa for parameter encryption keys.
+/// The KDFa label for parameter encryption keys.
 const CIPHER_LABEL: &[u8] = b"CFB";
 
-/// The label of KDFa for parameter masks.
+/// The KDFa label for parameter masks.
 const MASK_LABEL: &[u8] = b"XOR";
 
-/// A cipher and its initial IV.
+/// A cipher and its IV.
 #[derive(Drop)]
 struct ParameterCipher {
     cipher: Aes128,
     iv: [u8; 16],
 }
 
-/// The cipher and its IV: the first 16 bytes are the key, the rest is the IV.
+/// Builds a cipher from 32 bytes: the first 16 bytes are the key, the rest is the IV.
 fn cipher_from(bytes: &[u8; 32]) -> ParameterCipher
     ensures key { result.cipher ≡ cipher_key bytes.now }
     ensures iv { result.iv ≡ cipher_iv bytes.now }
@@ -45,7 +45,8 @@ fn cipher_from(bytes: &[u8; 32]) -> ParameterCipher
 }
 
 impl Session {
-    /// The cipher for a parameter, derived from two nonces.
+    /// The cipher for a parameter. Its key and IV are derived from the session's key, the
+    /// authorization value and two nonces.
     #[tactic(auto, unfolding(crate::specs::Encryption::cipher_bytes))]
     fn parameter_cipher(&self, auth_value: &[u8], newer: &[u8], older: &[u8]) -> ParameterCipher
         requires { length auth_value.now ≤ 32 }
@@ -67,7 +68,8 @@ impl Session {
         cipher_from(&bytes)
     }
 
-    /// Masks or unmasks a parameter, with the mask derived from two nonces.
+    /// Masks or unmasks a parameter. The mask is derived from the session's key, the authorization
+    /// value and two nonces.
     #[tactic(auto, unfolding(crate::specs::Encryption::mask_bytes))]
     fn mask(&self, auth_value: &[u8], newer: &[u8], older: &[u8], bytes: &mut [u8])
         requires auth_value { length auth_value.now ≤ 32 }
@@ -88,7 +90,7 @@ impl Session {
 
     /// Decrypts a parameter in place. If the session has no symmetric algorithm, returns an error
     /// and leaves the parameter unchanged. `auth_value` is that of the entity that the session
-    /// authorizes, or empty (TPM 2.0 Library, Part 1, sections 21.2 and 21.3).
+    /// authorizes, or empty if there is none (TPM 2.0 Library, Part 1, sections 21.2 and 21.3).
     #[tactic(auto, unfolding(crate::specs::Encryption::plain_parameter))]
     pub fn open_parameter(
         &self,

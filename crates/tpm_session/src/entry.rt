@@ -1,5 +1,5 @@
-//! The HMAC by which a session authenticates an entry of a command or a response, and the data
-//! that this HMAC covers (TPM 2.0 Library, Part 1, section 19.6.5).
+//! The HMAC with which a session authenticates a command or a response, and the data that this HMAC
+//! covers (TPM 2.0 Library, Part 1, section 19.6.5).
 
 ghost use Rattle.std.specs.Prelude.{◌≡◌, ◌+◌, ◌≤◌, ◌++◌, IsTrue, ◌↔◌, length};
 ghost use Rattle.tpm_bytes.specs.Writing.{Puts};
@@ -14,8 +14,8 @@ use tpm_bytes::{Full, Sink, append};
 use tpm_mac::{Digest, HashAlg, KeyedMac};
 use tpm_types::SessionAttributes;
 
-/// The data that the HMAC of a command's entry covers, apart from the session's own (TPM 2.0
-/// Library, Part 1, section 19.6.5).
+/// The data that the HMAC of a command's authorization entry covers, except the nonceTPM of the
+/// entry's session (TPM 2.0 Library, Part 1, section 19.6.5).
 #[derive(Clone, Copy)]
 pub struct CommandText<'a> {
     /// The cpHash of the command.
@@ -30,8 +30,8 @@ pub struct CommandText<'a> {
     pub attributes: SessionAttributes,
 }
 
-/// The data that an entry's HMAC covers, in parts (TPM 2.0 Library, Part 1, section 19.6.5).
-/// Contracts treat it as its bytes.
+/// The data that an authorization entry's HMAC covers, as separate slices (TPM 2.0 Library, Part 1,
+/// section 19.6.5). Contracts treat it as one list of bytes.
 #[derive(Drop)]
 pub struct EntryText<'a> {
     hash: &'a [u8],
@@ -52,9 +52,9 @@ impl<'a> Model for EntryText<'a> {
         entry_text t.hash.now t.newer.now t.older.now t.decrypt.now t.encrypt.now t.attributes };
 }
 
-/// The HMAC text of an entry, made of these parts without copying them: the hash of the command
-/// or the response; the nonces of the entry's session, the newer first; and the nonces of the
-/// decrypt and encrypt sessions, if the entry authenticates them.
+/// Combines the data that an authorization entry's HMAC covers, without copying it: cpHash or
+/// rpHash; the newer and the older nonce of the entry's session; the nonceTPM of a separate decrypt
+/// and encrypt session, if the entry authenticates them; and the attributes.
 pub fn entry_text<'a>(
     hash: &'a [u8],
     newer: &'a [u8],
@@ -76,7 +76,7 @@ pub fn entry_text<'a>(
     }
 }
 
-/// Appends three texts, for which the sink must have enough free space.
+/// Appends three texts. The sink must have enough free space for them.
 fn append_three<const N: usize>(sink: &mut Sink<N>, first: &[u8], second: &[u8], third: &[u8])
     requires { length sink.old + (length first.now + (length second.now + length third.now)) ≤ N }
     ensures { sink.new ≡ sink.old ++ (first.now ++ (second.now ++ third.now)) }
@@ -109,7 +109,7 @@ impl<'a> EntryText<'a> {
         Ok(())
     }
 
-    /// The HMAC of the text with a key.
+    /// The HMAC of the text, computed with this key.
     fn mac(&self, alg: HashAlg, key: ArrayVec<u8, 64>, keyed: &mut KeyedMac) -> Digest
         ensures value { result.items ≡ hmac_of alg key.items self.now }
         ensures size { length result.items ≡ digest_size alg }
@@ -128,7 +128,8 @@ impl<'a> EntryText<'a> {
 impl Session {
     ghost use Rattle.tpm_session.specs.EntryText.{command_mac_of, command_text, entry_key, parts_of, response_mac_of, response_text};
 
-    /// The HMAC key of an entry: the session's key, followed by an authorization value.
+    /// The HMAC key of an authorization entry: the session's key, followed by an authorization
+    /// value.
     pub fn entry_key(&self, auth_value: &[u8]) -> ArrayVec<u8, 64>
         requires { length auth_value.now ≤ 32 }
         ensures { result.items ≡ entry_key self.now auth_value.now }
@@ -139,7 +140,7 @@ impl Session {
         key
     }
 
-    /// The HMAC text of a command's entry for this session.
+    /// The data that the HMAC of a command's entry for this session covers.
     pub fn command_text<'a>(&'a self, text: &CommandText<'a>) -> EntryText<'a>
         ensures { result ≡ command_text self.now (parts_of text.now) }
     {
@@ -153,7 +154,7 @@ impl Session {
         )
     }
 
-    /// The HMAC text of a response's entry for this session, made with the hash of the response.
+    /// The data that the HMAC of a response's entry for this session covers. `hash` is rpHash.
     pub fn response_text<'a>(
         &'a self,
         hash: &'a [u8],
@@ -177,7 +178,7 @@ impl Session {
         self.command_text(text).mac(self.hash, key, keyed)
     }
 
-    /// The HMAC of a response's entry for this session, made with the hash of the response.
+    /// The HMAC of a response's entry for this session. `hash` is rpHash.
     #[tactic(auto, unfolding(crate::specs::EntryText::response_mac_of))]
     pub fn response_mac(
         &self,

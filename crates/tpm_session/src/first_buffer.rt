@@ -1,4 +1,4 @@
-//! The size of the sized buffer at the start of the parameters, which a session may encrypt.
+//! The size of the sized buffer at the start of the parameters. A session may encrypt its contents.
 
 ghost use Rattle.tpm_session.specs.FirstBuffer.{FindsFirst};
 

@@ -1,5 +1,5 @@
-//! The key of a session, derived from the bound entity and the first nonces (TPM 2.0 Library,
-//! Part 1, section 19.6.8).
+//! The key of a session, derived from the bound entity's authorization value and the first two
+//! nonces (TPM 2.0 Library, Part 1, section 19.6.8).
 
 ghost use Rattle.std.specs.Prelude.{◌≡◌, ◌≤◌, ◌++◌, [], length};
 ghost use Rattle.tpm_mac.specs.Digest.{digest_size};
@@ -12,10 +12,10 @@ use std::marker::Model;
 use tpm_bytes::copied;
 use tpm_mac::{HashAlg, kdfa};
 
-/// The label of KDFa for session keys.
+/// The KDFa label for session keys.
 const KEY_LABEL: &[u8] = b"ATH";
 
-/// The key of a session, at most 32 bytes. Contracts treat it as its bytes.
+/// The key of a session, at most 32 bytes. Contracts treat it as a list of bytes.
 #[derive(Drop)]
 pub struct SessionKey {
     bytes: ArrayVec<u8, 32>,

@@ -1,15 +1,15 @@
 #![tactic(auto)]
 
-//! Authorization sessions (TPM 2.0 Library, Part 1, sections 19.6 and 21): the sessions of a
-//! device by handle, the HMAC of an entry, and the encryption of parameters.
+//! Authorization sessions (TPM 2.0 Library, Part 1, sections 19.6 and 21): a device's sessions and
+//! their handles, the HMACs of authorization entries, and parameter encryption.
 //!
 //! The crate uses `tpm_policy` for the state of a policy session, `tpm_mac` and `tpm_aes` for
-//! HMACs, keys and encryption, `tpm_types_name` for the Names in a command's hash,
-//! `tpm_containers` for the slots of sessions, and `tpm_types`. Contracts treat
-//! [`sessions::Sessions`] as a list of slots, each free or occupied by a session, whatever
-//! container stores them (`tpm_containers::slots::Slots`). If a session is not started, nothing
-//! changes. Only starting a session, or storing one in a slot, may allocate memory; with fixed
-//! slots, no call allocates memory.
+//! HMACs, keys and encryption, `tpm_types_name` for the Names that cpHash covers, `tpm_containers`
+//! for the slots of sessions, and `tpm_types`. Contracts treat [`sessions::Sessions`] as a list of
+//! slots, each free or occupied by a session, whatever container stores them
+//! (`tpm_containers::slots::Slots`). If a session cannot be started, nothing changes. Only starting
+//! a session, or storing one in a slot, may allocate memory; with fixed slots, no call allocates
+//! memory.
 
 pub mod encryption;
 pub mod entry;

@@ -1,4 +1,4 @@
-//! Nonces, of at most 32 bytes (TPM2B_NONCE; TPM 2.0 Library, Part 2, section 10.4.4).
+//! Nonces of at most 32 bytes (TPM2B_NONCE; TPM 2.0 Library, Part 2, section 10.4.4).
 
 ghost use Rattle.std.specs.Prelude.{◌≡◌, ◌≤◌, length};
 
@@ -7,7 +7,7 @@ use std::marker::Model;
 use tpm_bytes::copied;
 
 /// A nonce: at most 32 bytes (TPM2B_NONCE of TPM 2.0 Library, Part 2, section 10.4.4). Contracts
-/// treat it as its bytes.
+/// treat it as a list of bytes.
 #[derive(Drop)]
 pub struct Nonce {
     bytes: ArrayVec<u8, 32>,

@@ -8,7 +8,7 @@ ghost use Rattle.tpm_session.specs.ParameterHash.{command_hash_of, response_hash
 use tpm_mac::{Digest, HashAlg, digest_parts};
 use tpm_types_name::Name;
 
-/// The bytes of the Name at this index, or no bytes if there is no such Name.
+/// The bytes of the Name at this index, or an empty slice if there is none.
 fn name_at(names: &[Name], place: usize) -> &[u8]
     ensures { result.now ≡ slice_index_or names.now place [] }
 {
@@ -18,8 +18,8 @@ fn name_at(names: &[Name], place: usize) -> &[u8]
     }
 }
 
-/// The hash of a command, over its code, the Names of its handles, and its parameters as sent
-/// (cpHash: TPM 2.0 Library, Part 1, section 18.7).
+/// cpHash: the hash of a command's code, the Names of its handles, and its parameters as sent (TPM
+/// 2.0 Library, Part 1, section 18.7).
 #[tactic(auto, unfolding(crate::specs::ParameterHash::command_hash_of))]
 pub fn command_hash(hash: HashAlg, code: u32, names: &[Name], parameters: &[u8]) -> Digest
     requires { length names.now ≤ 3 }
@@ -32,8 +32,8 @@ pub fn command_hash(hash: HashAlg, code: u32, names: &[Name], parameters: &[u8])
     digest_parts(hash, &[&code, first, second, third, parameters])
 }
 
-/// The hash of a successful response, over its response code, the command code, and its
-/// parameters as sent (rpHash: TPM 2.0 Library, Part 1, section 18.8).
+/// rpHash: the hash of a successful response's code, the command code, and the parameters as sent
+/// (TPM 2.0 Library, Part 1, section 18.8).
 #[tactic(auto, unfolding(crate::specs::ParameterHash::response_hash_of))]
 pub fn response_hash(hash: HashAlg, code: u32, parameters: &[u8]) -> Digest
     ensures value { result.items ≡ response_hash_of hash code parameters.now }
@@ -44,7 +44,7 @@ pub fn response_hash(hash: HashAlg, code: u32, parameters: &[u8]) -> Digest
     digest_parts(hash, &[&success, &code, parameters])
 }
 
-/// The data hashed by cpHash or rpHash.
+/// The data that cpHash or rpHash covers.
 #[derive(Clone, Copy)]
 pub enum HashedParameters<'a> {
     /// A command: its code, the Names of its handles, and its parameters as sent.

@@ -1,5 +1,5 @@
-//! The sessions of a device by handle: how they start, change and end (TPM 2.0 Library, Part 3,
-//! section 11.1).
+//! The sessions of a device, found by handle: how they start, change and end (TPM 2.0 Library, Part
+//! 3, section 11.1).
 
 ghost use Rattle.tpm_types.specs.Limits.{session_limit};
 ghost use Rattle.std.specs.Prelude.{◌≡◌, ◌<◌, true, IfSome, is_some, length, option_copied};
@@ -40,13 +40,14 @@ pub enum StartFault {
     Memory,
 }
 
-/// The sessions of a device by handle, at most [`SESSION_LIMIT`]. `S` stores their slots.
+/// The sessions of a device, found by handle. There are at most [`SESSION_LIMIT`]. `S` stores their
+/// slots.
 #[derive(Drop)]
 pub struct Sessions<S: Slots<Session, SESSION_LIMIT>> {
     slots: S,
 }
 
-/// The handle of a session with this type in this slot.
+/// The handle of a session of this type in this slot.
 pub fn handle_of(kind: SessionType, place: usize) -> Handle
     requires { place < session_limit }
     ensures { result ≡ handle_of kind place }
@@ -56,7 +57,7 @@ pub fn handle_of(kind: SessionType, place: usize) -> Handle
     }
 }
 
-/// The new session, with its key.
+/// Creates the session and derives its key.
 fn started_session(start: Start) -> Session
     requires { is_nonce_size start.hash (length start.nonce_tpm) ≡ true }
     ensures { result ≡ started_session start.entry }
@@ -110,7 +111,7 @@ impl<S: Slots<Session, SESSION_LIMIT>> Sessions<S> {
     #[tactic(auto, unfolding(crate::specs::Sessions::session_at))]
     pub fn get(&self, handle: Handle) -> Option<&Session>
         ensures session { option_copied result ≡ session_at (places_of S.places self.now) handle }
-        // The number of slots is always the limit of sessions.
+        // The number of slots is always the maximum number of sessions.
         ensures all { length (places_of S.places self.now) ≡ session_limit }
     {
         numbered::get(&self.slots, handle.number)
@@ -167,8 +168,8 @@ impl<S: Slots<Session, SESSION_LIMIT>> Sessions<S> {
         }
     }
 
-    /// Replaces the policy of the session with this handle by one whose digest has the size of
-    /// the session's hash; returns whether the session existed.
+    /// Replaces the policy state of the session with this handle; returns whether the session
+    /// existed. The new policy digest must have the size of the session's hash.
     #[tactic(auto, unfolding(crate::specs::Sessions::with_session_policy, crate::specs::Sessions::session_at))]
     pub fn set_policy(&mut self, handle: Handle, policy: PolicyState) -> bool
         requires { IfSome (session_at (places_of S.places self.old) handle)
@@ -190,7 +191,7 @@ impl<S: Slots<Session, SESSION_LIMIT>> Sessions<S> {
     #[inline(always)]
     pub fn read_sizes(&self)
         ensures each { AreAll IsSession (places_of S.places self.now) }
-        // The number of slots is always the limit of sessions.
+        // The number of slots is always the maximum number of sessions.
         ensures all { length (places_of S.places self.now) ≡ session_limit }
     {
         numbered::read_sizes(&self.slots);

@@ -11,9 +11,9 @@ use tpm_record::objects::Objects;
 use tpm_record::{Fixed, Keep, PersistentObjects};
 use tpm_session::Sessions;
 
-/// The device's state in fixed slots, one for each session, object and index that there can be.
-/// It allocates no memory, so it never runs out of memory. A value of this type is some 40,300
-/// bytes long: it is created once, and then passed by reference.
+/// The device's state in fixed slots, one for each session, object and index that a device can
+/// have. It allocates no memory, so it never runs out of memory. A value takes about 40,300 bytes.
+/// Therefore it is created once, and then passed by reference.
 #[derive(Drop)]
 pub struct SlotKeep {
     fixed: Fixed,

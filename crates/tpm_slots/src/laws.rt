@@ -10,7 +10,7 @@ use tpm_record::{Keep, PersistentObjects};
 use tpm_session::Session;
 use tpm_types::{OBJECT_LIMIT, SESSION_LIMIT};
 
-/// For the state in fixed slots an allocation never fails, neither when the state is created nor
+/// With the state in fixed slots, an allocation never fails, neither when the state is created nor
 /// when it grows. The same holds for each of its containers. A proof only: it has no effect at run
 /// time.
 #[inline(always)]

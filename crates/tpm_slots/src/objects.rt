@@ -5,7 +5,7 @@ use tpm_containers::{FixedSlots, SlotFault, Slots};
 use tpm_object::Object;
 use tpm_types::OBJECT_LIMIT;
 
-/// A slot for each transient object that there can be.
+/// A slot for each transient object that a device can have.
 #[derive(Drop)]
 pub struct ObjectPlaces {
     slots: FixedSlots<Object, OBJECT_LIMIT>,

@@ -7,7 +7,7 @@ use tpm_record::PersistentObjects;
 use tpm_record::persistent::SlotObjects;
 use tpm_types::Handle;
 
-/// A slot for each persistent object that there can be.
+/// A slot for each persistent object that a device can have.
 #[derive(Drop)]
 pub struct PersistentPlaces {
     stored: SlotObjects,

@@ -5,7 +5,7 @@ use tpm_containers::{FixedSlots, SlotFault, Slots};
 use tpm_session::Session;
 use tpm_types::SESSION_LIMIT;
 
-/// A slot for each session that there can be.
+/// A slot for each session that a device can have.
 #[derive(Drop)]
 pub struct SessionPlaces {
     slots: FixedSlots<Session, SESSION_LIMIT>,

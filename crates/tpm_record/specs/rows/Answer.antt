@@ -4,8 +4,8 @@ use Rattle.tpm_bytes.specs.Writing.{sized_text}
 use Rattle.tpm_types.specs.declared.handle.Handle.{Handle}
 use Rattle.tpm_record.specs.declared.rows.answer.Answer.{Answer}
 
--- the parameters of an answer. They may begin with a sized buffer, which a session can encrypt, and
--- which other parameters may follow
+-- the parameters of an answer. They may begin with a sized buffer, which a session can encrypt;
+-- other parameters may follow
 pub data Body : Type 0 where
   Sized : (bytes : List ℕ) → Body
   SizedFirst : (bytes rest : List ℕ) → Body

@@ -12,8 +12,8 @@ use Rattle.tpm_types.specs.declared.rc.ResponseCode.{ResponseCode}
 use Rattle.tpm_types.specs.declared.rc.ResponseCode.TheVariants as code
 use Rattle.tpm_types.specs.declared.refused.Refused.{Refused}
 
--- the refusal of a handle that does not name the entity that the general checks found. It never
--- occurs (later_handle_laws of tpm_step)
+-- the refusal if a handle names no entity, although the general checks found one. It never occurs
+-- (later_handle_laws of tpm_step)
 abbrev pub handle_refusal : Refused
 handle_refusal = refusal check.Handles (plain code.Failure)
 

@@ -1,4 +1,4 @@
--- The request of a command: all values that its row reads, without their addresses in memory.
+-- The request of a command: everything that its row reads, as values instead of references.
 use Rattle.std.specs.Prelude.{ℕ, List, [], ◌∷◌, Result, Ok, Err}
 use Rattle.tpm_types.specs.declared.handle.Handle.{Handle}
 use Rattle.tpm_types.specs.Locality.{locality_number}

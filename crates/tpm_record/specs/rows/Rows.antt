@@ -13,7 +13,7 @@ use Rattle.tpm_record.specs.rows.Answer.{AnswerParts, IsAnswer}
 use Rattle.tpm_record.specs.rows.Refusals.{memory_refusal}
 use Rattle.tpm_record.specs.declared.rows.answer.Answer.{Answer}
 
--- the refusal of the parameter with this number, by G11
+-- the refusal of the parameter with this number, by check G11
 abbrev pub parameter_refusal : ℕ → Rc → Refused
 parameter_refusal n rc = refusal check.Parameters (at (place.Parameter n) rc)
 
@@ -23,7 +23,7 @@ abbrev pub parameter : {X : Type 0} → ℕ → Result X Rc → Result X Refused
 parameter n (Ok x) = Ok x
 parameter n (Err rc) = Err (parameter_refusal n rc)
 
--- refuses bytes after the last parameter, which is part of G11
+-- refuses bytes after the last parameter, as part of check G11
 abbrev pub all_read : List ℕ → Result (Unit {0}) Refused
 all_read rest = refused_if (not (length rest == 0)) (refusal check.Parameters (plain code.Size))
 
@@ -43,9 +43,9 @@ pub record Success : Type 0 where
 abbrev pub unchanged : Record → AnswerParts → Success
 unchanged r answer = record { answer = answer; after = r }
 
--- A command that grows changed the record as its row says, and returned the row's answer. Or an
--- allocation can fail, and the command was refused with MEMORY instead of succeeding. A refusal
--- does not change the record. After a refusal of any command, the content of the answer is
+-- A command that grows either changed the record as its row says, and returned the row's answer; or
+-- it was refused with MEMORY instead of succeeding, which requires that an allocation can fail. A
+-- refusal does not change the record. After a refusal of any command, the content of the answer is
 -- unspecified: it may contain part of a success's answer. The response to a refusal is made only
 -- from the refusal.
 abbrev pub ActsIfRoom : Bool → Result Success Refused

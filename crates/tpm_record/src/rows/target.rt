@@ -49,8 +49,8 @@ pub fn target_of<K: Keep>(keep: &K, call: &Call) -> Result<Target, Refused>
 }
 
 impl Target {
-    /// Whether authHandle may use the index, given the attributes that allow this use to the owner
-    /// and to the platform.
+    /// Whether authHandle may use the index. The two arguments are the attributes that allow this
+    /// use to the owner and to the platform.
     fn may(&self, owner: NvAttribute, platform: NvAttribute) -> bool
         ensures { result ≡ may owner platform self.now }
     {
@@ -95,8 +95,8 @@ impl Target {
     }
 }
 
-/// Once a command has passed these checks, a read of its index is refused only if it goes past the
-/// end of the data. A proof only: it has no effect at run time.
+/// Once a command has passed the checks of `check_reading`, a read of its index fails only if it
+/// goes past the end of the data. A proof only: it has no effect at run time.
 #[inline(always)]
 #[tactic(auto, using(crate::proofs::rows::TargetLaws::reading_within))]
 pub fn reading_laws()
