@@ -138,7 +138,7 @@ less_torn j p Show c m laws lives (inl le) = absurd (omega (arith, le))
 less_torn j p Begin c m laws lives (inl le) = absurd (omega (arith, le))
 less_torn j p Cut c m laws lives (inl le) = absurd (omega (arith, le))
 
--- The text after a put: the complete entries, followed by the written part of the new entry.
+-- The text after a put: the complete entries and the written part of the new one.
 put_text : (j : Journal) (s : Shared) (k : Holder) (n : ℕ) (t : IsText j s.file.head s.file.start s.file.now) → Puts j s.file k.job k
     → (put_on j s.file k n).now.text
     ≡ body j s.file ++ take (n - length k.unsure) (entries j (spot_of j s.file) (adds j k.job k.command))

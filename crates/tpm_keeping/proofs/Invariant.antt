@@ -140,8 +140,7 @@ Gives Execute j state c response = response ≡ j.response state c
 Gives Show j state c response = response ≡ j.head state
 Gives job j state c response = Unit {0}
 
--- The command is the last one of the history, with this response, and no response was sent for it
--- yet.
+-- The command is the last one of the history, with this response, which was not sent yet.
 pub record IsLast (j : Journal) (origin : List ℕ) (history : List (List ℕ)) (answers : List Answer) (command response : List ℕ) : Type 0 where
   pub before : List (List ℕ)
   pub is : history ≡ before ++ command ∷ []
@@ -178,8 +177,7 @@ pub record Puts (j : Journal) (f : File) (job : Job) (k : Holder) : Type 0 where
   pub out : k.out ≡ k.unsure ++ entries j (spot_of j f) (adds j job k.command)
   pub gives : Gives job j (state_of j f) k.command k.response
 
--- The holder has executed the whole file; if its job was to execute a command, the history ends
--- with it.
+-- The holder has executed the whole file, and the command of its job, if any, is the last one.
 pub record Stays (j : Journal) (origin : List ℕ) (f : File) (history : List (List ℕ)) (answers : List Answer) (force : Force) (file : ℕ) (device : Option Spot) (place : ℕ) (unsure : List ℕ) (job : Job) (command response : List ℕ) : Type 0 where
   pub all : HasAll j f force file place unsure
   pub has : device ≡ Some (spot_of j f)

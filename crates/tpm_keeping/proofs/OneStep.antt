@@ -387,8 +387,7 @@ last_named Show j s c response still named gives =
 last_named Begin j s c response still named gives = tt
 last_named Cut j s c response still named gives = tt
 
--- The new file contains the text that the holder wrote, and the holder's device is that of the new
--- file.
+-- The new file contains the holder's text, and its device is the holder's.
 pub record IsNew (j : Journal) (origin : List ℕ) (s : Shared) (k : Holder) : Type 0 where
   pub body : body j (named_from j origin s k).file ≡ k.out
   pub has : k.device ≡ Some (spot_of j (named_from j origin s k).file)

@@ -186,7 +186,7 @@ shows k p response = record k {
   response = response;
 }
 
--- the holder when it does its job, after the device has executed the whole file
+-- the holder when it does its job, after it has executed the whole file
 abbrev pub acts : Journal → Job → Holder → (p : Spot) → Holder
 acts j Execute k p = executes j k p
 acts j Renew k p = renews j k p.state []
@@ -249,7 +249,7 @@ looked j k file size =
       size = size;
     }))
 
--- the holder if there is no journal: it begins one if that is its job, and fails if it is not
+-- the holder if there is no journal: it begins one if that is its job, or else fails
 abbrev pub begins_of : Journal → Holder → Option (List ℕ) → Holder
 begins_of j k None = dropped fault.Unreadable k
 begins_of j k (Some s) = renews j (record k { place = 0 }) s []
@@ -275,7 +275,7 @@ has_named k file = record k {
   settled = false;
 }
 
--- the holder after its next step, which depends on the host's report
+-- the holder after its next step, given the host's report
 abbrev pub next_in : Journal → Phase → Holder → Told → Holder
 next_in j Locking k Done = goes Looking k
 next_in j Locking k told = forgets (Ended (ending.Failed (fault_told Locking told))) k

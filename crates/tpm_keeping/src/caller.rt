@@ -111,8 +111,7 @@ impl<D: Device> CuttingKeeper<D> {
         next
     }
 
-    /// If damage has to be cut: begins the cut after a call that found damage, and the call again
-    /// after the cut.
+    /// If damage has to be cut: begins the cut after the call, and the call again after the cut.
     fn goes_on(&mut self)
         ensures { caller_of D.spot self.new ≡ goes_on (caller_of D.spot self.old) }
     {

@@ -85,8 +85,7 @@ pub trait Device: Drop + Sized {
         ensures { OnOk result (out.new.items
             ≡ out.old.items ++ journal.head (spot self.now).state) };
 
-    /// Appends the text with which a journal in the device's state begins, and continues with that
-    /// journal.
+    /// Does what `show` does, and continues with the journal that begins with this text.
     fn renew(&mut self, out: &mut Vec<u8>) -> Result<(), Exhausted>
         ensures spot { OnOk result (spot self.new ≡ started journal (spot self.old).state) }
         ensures head { OnOk result (out.new.items

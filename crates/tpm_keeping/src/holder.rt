@@ -68,9 +68,9 @@ pub enum Fault {
 }
 
 impl Fault {
-    /// Returns the message for the fault, which is to be written after a path: the lock's path for
-    /// `Lock`, the new journal's for `Make` and `Name`, the folder's for `Settle`, and the
-    /// journal's for all others.
+    /// Returns the message for the fault, to be written after a path: the lock's path for `Lock`,
+    /// the new journal's for `Make` and `Name`, the folder's for `Settle`, and the journal's for
+    /// all others.
     pub fn sentence(self) -> &'static str
         ensures { result.now ≡ sentence self }
     {

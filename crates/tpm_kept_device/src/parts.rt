@@ -161,7 +161,7 @@ impl Parts {
     }
 
     /// Opens the device of the head and the complete entries at the start of a journal, and ignores
-    /// all bytes after them. None if the head and these entries do not open.
+    /// all bytes after them. None if this part does not open.
     #[tactic(auto, unfolding(tpm_kept_journal::specs::Salvage::salvaged_text))]
     pub fn salvage(alloc: Global, text: &[u8]) -> Result<Option<(Box<Parts>, usize)>, Exhausted>
         ensures { IfOk result (λ opened. MatchOption opened (salvaged_text text.now ≡ None)

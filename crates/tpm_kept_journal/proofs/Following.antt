@@ -214,7 +214,7 @@ damaged_end : (more : ℕ) (p : Spot) (taken : ℕ) (left : List ℕ) → length
 damaged_end zero p taken left less damaged = absurd (omega (arith, less))
 damaged_end (suc more) p taken left less damaged = walk_fails more p taken left (found_damaged p left damaged)
 
--- the last number of a list; 0 for an empty list
+-- the last number of a list, or 0
 abbrev last_of : List ℕ → ℕ
 last_of [] = 0
 last_of (x ∷ []) = x
@@ -227,13 +227,13 @@ last_is (y ∷ z ∷ front) x = last_is (z ∷ front) x
 
 -- ---- the result for a whole text
 
--- The result of executing a text agrees with the walk over it. Without a fault, the walk ends at
--- this position and has executed `taken` bytes. With a fault, the walk fails.
+-- Without a fault, the walk over a text ends at this position after `taken` bytes; with a fault, it
+-- fails.
 abbrev pub Tells : Option FollowFault → Option (Spot × ℕ) → Spot → (taken : ℕ) → Type 0
 Tells None found p taken = found ≡ Some (p, taken)
 Tells (Some fault) found p taken = found ≡ None
 
--- The walk over the text of these entries and a rest agrees with the fault that was found, if any.
+-- The walk over these entries and a rest agrees with the fault that was found, if any.
 told_by : (fault : Option FollowFault) (performances : List Performance) (before : Journal) (old : Record) (after : Journal) (new : Record) (taken : ℕ)
     (left text : List ℕ) → IsDeviceState (state_in before old) → AllByRecursion IsEntry (map entry_in performances)
     → LeadsBy false before old performances after new → AnswersAre fault (map response_sum performances) (map answer_said performances)

@@ -32,8 +32,8 @@ use Rattle.tpm_kept_journal.specs.State.{DeviceState}
 
 -- ---- without the completing layer
 
--- The number of bytes drawn does not depend on the reported check: a success reports check 0, and a
--- refused command draws none.
+-- The check that the step reports does not affect the number of bytes drawn: a refused command
+-- draws none.
 drawn_told : (r : Record) (random : List ℕ) (a : Result Accepted RefusedCommand)
     → drawn_by_command random a (stepped_of r random a).row.check ≡ drawn_by_command random a 0
 drawn_told r random (Ok a) = refl
@@ -72,8 +72,7 @@ module _ (c : Completion) (old : Record) (buffer : List ℕ) (locality elapsed :
       ap (seen_made c here) (steps_alike old buffer locality elapsed random other agree false)
       ∙ ap (λ (n : ℕ). seen_made c (λ (x : Stepped). n) (step old (event random))) draws
 
-  -- Replacing the random bytes that the command does not draw by zeros changes no byte that it
-  -- draws.
+  -- Zeros after the drawn bytes leave those bytes as they are.
   zeros_agree : length random ≡ 256 → AgreeOnDrawn old buffer locality elapsed random (zeros_behind drawn random)
   zeros_agree all = (
     length-append (take drawn random) (replicate (256 - drawn) 0)
@@ -91,15 +90,15 @@ module _ (c : Completion) (old : Record) (buffer : List ℕ) (locality elapsed :
   pub few_drawn : (passed c old (event random)).drawn ≤ length random
   few_drawn = omega (arith, passed_drawn, drawn_few)
 
-  -- If a command draws no random bytes, its effect is the same with any other bytes of the same
-  -- number.
+  -- If a command draws no random bytes, any others of the same number have the same effect.
   pub passed_anyhow : (other : List ℕ) → drawn ≡ 0 → length other ≡ length random → passed c old (event other) ≡ passed c old (event random)
   passed_anyhow other none as_long =
       passed_alike other (as_long, ap (λ (n : ℕ). take n other) none ∙ ap (λ (n : ℕ). take n random) (sym none))
 
 -- ---- a command that loads the context of an object draws no random bytes
 
--- A success is not a refusal with code 0x143: the third byte of its response code is 0, and not 1.
+-- A success does not look like the refusal 0x143: the third byte of its response code is 0, and not
+-- 1.
 framed_success : (tag : ℕ) (body : List ℕ) → is_refusal 0x143 (framed tag 0 body) ≡ true → ⊥
 framed_success tag body is =
     let same : framed tag 0 body ≡ refusal 0x143 = (bytes_eq-Decides (framed tag 0 body) (refusal 0x143)).0 is in
@@ -159,8 +158,7 @@ module _ (c : Completion) (old : Record) (buffer : List ℕ) (locality elapsed :
   few_behind (Some context) = few_content (opened_behind first context)
   few_behind None = few_drawn c old buffer locality elapsed random
 
-  -- The device's effect stays the same if zeros replace the random bytes that the whole command
-  -- does not draw.
+  -- The device's effect stays the same with zeros after the bytes that the whole command draws.
   first_again : (asked : Option (List ℕ)) → asked_behind first buffer ≡ asked
       → passed c old (Given buffer locality elapsed (zeros_behind (done_behind first buffer asked).drawn random)) ≡ first
   first_again None is = passed_again c old buffer locality elapsed random first.drawn refl all
@@ -183,7 +181,7 @@ module _ (c : Completion) (old : Record) (buffer : List ℕ) (locality elapsed :
 
 -- ---- entries
 
--- Padding the drawn bytes for an entry's execution gives the drawn bytes and zeros after them.
+-- An entry's padded random bytes are the drawn bytes, followed by zeros.
 padded_is : (n : ℕ) (random : List ℕ) → n ≤ length random → padded (take n random) ≡ zeros_behind n random
 padded_is n random few = ap (λ (m : ℕ). take n random ++ replicate (256 - m) 0) (length-take-le n random few)
 

@@ -79,8 +79,7 @@ front_ends bound p q taken n text leads ends =
     nothing (suc more) less here =
         walk_ends more p taken [] (found_torn p [] ((is_torn_text-Decides p.chain []).1 (torn_nothing p.chain))) ∙ here
 
--- The case that the text begins with an entry: the executed bytes are the entry and those of the
--- rest.
+-- The case that the text begins with an entry: that entry is also executed.
 front_goes : (p q s : Spot) (taken n : ℕ) (e : PlainEntry) (rest text : List ℕ) → IsEntry e → text ≡ entry_text p.chain e ++ rest
     → performed_on p.chain e (state_of_bytes p.state) ≡ Some s → IsFront s q (taken + length (entry_text p.chain e)) n rest
     → IsFront p q taken n text
@@ -124,8 +123,7 @@ walk_front (suc bound) p q taken n text leads =
 
 -- ---- a head and the text after it
 
--- If a head and a rest open as a journal, the head and only the executed bytes of the rest open as
--- the same journal.
+-- If a head and a rest open as a journal, so do the head and only the executed bytes of the rest.
 record IsFrontOf (h : PlainHead) (rest : List ℕ) (p : Spot) (n : ℕ) : Type 0 where
   size : ℕ
   is : n ≡ length (text_of_head h) + size

@@ -23,7 +23,7 @@ use Rattle.tpm_kept_journal.proofs.texts.TornText.{is_torn_text-Decides}
 
 -- ---- what a text begins with
 
--- If a text begins with an entry, `found_at` returns the result of executing that entry.
+-- For a text that begins with an entry, `found_at` returns the result of that entry.
 pub found_entry : (p : Spot) (e : PlainEntry) (rest : List ℕ) → IsEntry e
     → found_at p (entry_text p.chain e ++ rest) ≡ found_by (length (entry_text p.chain e)) (performed_on p.chain e (state_of_bytes p.state))
 unfolding found_at
@@ -59,7 +59,7 @@ pub walk_fails : (bound : ℕ) (p : Spot) (taken : ℕ) (text : List ℕ) → fo
 unfolding walk
 walk_fails bound p taken text found = ap (λ (f : Found). walk_by f bound p taken text) found
 
--- If a text begins with an entry that can be executed, the walk continues after that entry.
+-- If the first entry of a text can be executed, the walk continues after it.
 pub walk_entry : (bound : ℕ) (p q : Spot) (e : PlainEntry) (taken : ℕ) (rest : List ℕ) → IsEntry e
     → performed_on p.chain e (state_of_bytes p.state) ≡ Some q
     → walk (suc bound) p taken (entry_text p.chain e ++ rest) ≡ walk bound q (taken + length (entry_text p.chain e)) rest
@@ -68,7 +68,7 @@ walk_entry bound p q e taken rest is performed =
     walk_goes bound p q size taken (entry_text p.chain e ++ rest) (found_entry p e rest is ∙ ap (found_by size) performed)
     ∙ ap (walk bound q (taken + size)) (drop_at (entry_text p.chain e) rest size refl)
 
--- If a text begins with an entry that cannot be executed, the walk fails.
+-- If the first entry of a text cannot be executed, the walk fails.
 pub walk_otherwise : (bound : ℕ) (p : Spot) (e : PlainEntry) (taken : ℕ) (rest : List ℕ) → IsEntry e
     → performed_on p.chain e (state_of_bytes p.state) ≡ None
     → walk (suc bound) p taken (entry_text p.chain e ++ rest) ≡ None
@@ -98,7 +98,7 @@ module _ (p : Spot) (c : List ℕ) (found : IsEntered c) where
   abbrev entry : DeviceState → PlainEntry
   entry s = entry_of (command s) (effect s (command s))
 
-  -- the result for a position whose text encodes a state, and for one whose text does not
+  -- the result if the position's text encodes a state, and if it does not
   said : {X : Type 0} (other : X) (f : DeviceState → KeptCommand → X) (s : DeviceState) → state_of_bytes p.state ≡ Some s
       → with_both (state_of_bytes p.state) (command_of c) other f ≡ f s given_command
   said other f s is =
@@ -154,8 +154,8 @@ all p cs = entries device_journal p cs
 abbrev pub end_of : Spot → List (List ℕ) → Spot
 end_of p cs = trail device_journal p cs
 
--- If the walk over the entries of later commands is as claimed, so is the walk that begins with the
--- entry of the command before them.
+-- If a walk over the entries of later commands is right, so is a walk that begins with an earlier
+-- one.
 walk_led : (c : List ℕ) (cs : List (List ℕ)) (bound : ℕ) (p : Spot) (taken : ℕ) (tail : List ℕ)
     → ((bound taken : ℕ) → length (all (stepped device_journal p c) cs ++ tail) < bound
     → walk bound (stepped device_journal p c) taken (all (stepped device_journal p c) cs ++ tail)

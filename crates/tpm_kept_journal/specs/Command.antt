@@ -12,11 +12,10 @@ pub data Moment : Type 0 where
   At : (now : ℕ) → Moment
   After : (elapsed : ℕ) → Moment
 
--- A command. `Executes` is a command of the standard: when it arrives, its locality, whether the
--- completing layer is used, 256 random bytes, and its buffer. `Cycles` is a power cycle: the host's
--- clock in milliseconds, and a number that has no effect, since the completing layer keeps its
--- start number. `Begins` replaces the device, for example to restore a snapshot: the seed of the
--- new device.
+-- A command. `Executes`: a command of the standard, with its moment, its locality, whether the
+-- completing layer is used, 256 random bytes, and its buffer. `Cycles`: a power cycle at this time
+-- of the host's clock; `start` has no effect, since the completing layer keeps its start number.
+-- `Begins`: the device is replaced by one with this seed, for example to restore a snapshot.
 pub data KeptCommand : Type 0 where
   Executes : Moment → (locality : ℕ) → (completes : Bool) → (random buffer : List ℕ) → KeptCommand
   Cycles : (now start : ℕ) → KeptCommand
@@ -70,7 +69,7 @@ command_in text = do
   kind ← number_in w8 text
   by_kind kind.0 kind.1
 
--- the command that a text encodes; an error if the text contains numbers that are not bytes
+-- the command that a text encodes; the text must consist of bytes
 unfoldable pub command_of : List ℕ → Result KeptCommand Malformed
 command_of text = if are_bytes text then command_in text else Err malformed
 
@@ -83,8 +82,7 @@ abbrev pub is_entered_read : Result KeptCommand Malformed → Bool
 is_entered_read (Ok (Executes moment locality completes random buffer)) = true
 is_entered_read c = false
 
--- The fields of a command are valid: it comes from a locality from 0 to 4, it has 256 random bytes,
--- and its random bytes and buffer consist of bytes.
+-- A command of the standard has a locality from 0 to 4, 256 random bytes, and a buffer of bytes.
 abbrev pub IsGiven : KeptCommand → Type 0
 IsGiven (Executes moment locality completes random buffer) =
     (locality ≤ 4) × (length random ≡ 256) × AreBytes random × AreBytes buffer

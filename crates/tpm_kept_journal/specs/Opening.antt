@@ -51,9 +51,9 @@ found_next p Damaged = Fails
 unfoldable pub found_at : Spot → List ℕ → Found
 found_at p text = found_next p (next_at p.chain text)
 
--- executes the entries of a text, one after another. Returns the position after them and the size
--- of all executed bytes, of which `taken` were executed before; or None if the text does not
--- continue the journal. `bound` must exceed the number of entries
+-- the position after the entries of a text, and the size of all executed bytes, `taken` of which
+-- were executed before; None if the text does not continue the journal. `bound` must exceed the
+-- number of entries
 unfoldable pub walk : (bound : ℕ) → Spot → (taken : ℕ) → List ℕ → Option (Spot × ℕ)
 walk zero p taken text = None
 walk (suc bound) p taken text = elim (found_at p text) [

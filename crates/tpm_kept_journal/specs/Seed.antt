@@ -57,8 +57,7 @@ abbrev pub layer_restored : (start : ℕ) → Option Layer → Completion
 layer_restored start (Some layer) = record (completion_of (Some layer)) { start = start }
 layer_restored start None = new_completion start
 
--- the device that a state text contains, with the text's completing layer, or with a new one if the
--- text has none
+-- the device that a state text contains, with the text's layer, or a new one if the text has none
 abbrev pub state_restored : Seed → Result WholeState StateFault → Option DeviceState
 state_restored seed (Ok whole) = Some (record {
   time = seed.now;

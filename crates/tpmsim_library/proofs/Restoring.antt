@@ -17,7 +17,7 @@ use Rattle.tpmsim_library.specs.State.{record_of, whole_state}
 use Rattle.tpmsim_library.specs.Told.{no_memory, restore_number, state_number}
 use Rattle.tpmsim_library.specs.declared.device.Device.{Device}
 
--- If memory suffices, the reported number is that of the first error in the text.
+-- Unless memory runs out, the number is that of the first error in the text.
 pub fault_told : {B : Type 0} (device_in : B → Device) (text : List ℕ) (fault : RestoreFault) (told : ℕ) → told ≡ restore_number fault → RestoresDevice device_in text (Err fault) → told ≢ no_memory → (f : StateFault) × (told ≡ state_number f) × (state_of_text text ≡ Err f)
 fault_told device_in text (unrestored.Text f) told is read other = (f, is, read)
 fault_told device_in text unrestored.NoMemory told is read other = absurd (other is)

@@ -15,7 +15,7 @@ pub struct Request {
     /// The size to which the file must be truncated first; or, for a new journal, the size of the
     /// old journal's part that the device executed.
     pub cut: u64,
-    /// The offset in the file at which the host reads or writes.
+    /// The offset in the file for a read or a write.
     pub at: u64,
     /// The size of the text that the host must write, or of the response.
     pub size: usize,

@@ -56,7 +56,7 @@ unfolding without_zeros
 zeros_left [] = (0, refl)
 zeros_left (byte ∷ text) = one_more_left byte text (are_zeros (byte ∷ text)) refl (zeros_left text)
 
--- If zeros are added to a text, the result without its final zeros is a prefix of that text.
+-- If zeros follow a text, the result without its final zeros is a prefix of that text.
 one_more_front : (byte : ℕ) (front text : List ℕ) (b : Bool) → are_zeros (byte ∷ text) ≡ b
     → (back : List ℕ) × (front ≡ without_zeros text ++ back)
     → (back : List ℕ) × (byte ∷ front ≡ without_zeros (byte ∷ text) ++ back)
@@ -125,8 +125,7 @@ lines_end-Decides test place (byte ∷ lines) =
           ))),
     )
 
--- The test of line ends holds exactly if a text's lines end only where those of the mark's entry
--- end.
+-- The test decides whether a text's lines end only where those of the mark's entry end.
 pub lines_end_so : (mark text : List ℕ) → Decides (lines_end (ends_line mark) 0 (drop 72 text)) (LinesEnd mark text)
 lines_end_so mark text =
     let all = lines_end-Decides (ends_line mark) 0 (drop 72 text) in (

@@ -12,7 +12,7 @@ is_entry e =
     && ((nat_le (length e.drawn) 256 && are_bytes e.drawn)
     && (nat_le (length e.buffer) entry_limit && are_bytes e.buffer))
 
--- the mark of the entry at the start of a text; it follows the first word of the line
+-- the mark of the entry at the start of a text, after the first word of its line
 unfoldable pub mark_in : List ℕ → List ℕ
 mark_in text = hex_at 2 mark_size text
 

@@ -26,7 +26,7 @@ is_head h =
 unfoldable pub kind_in : List ℕ → HeadKind
 kind_in text = cond (begins_with text (head_word State)) State Image
 
--- the mark of the head at the start of a text; it follows the first word of the line
+-- the mark of the head at the start of a text, after the first word of its line
 unfoldable pub head_mark_in : List ℕ → List ℕ
 head_mark_in text = hex_at 19 20 text
 

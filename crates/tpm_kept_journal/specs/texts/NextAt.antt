@@ -18,14 +18,13 @@ plain_next (next.Whole entry size sum) = Whole (plain_entry entry)
 plain_next next.Torn = Torn
 plain_next next.Damaged = Damaged
 
--- the entry, if there is one; if not, whether the text is torn or damaged
+-- the entry, if there is one; if not, Torn or Damaged
 abbrev pub next_by : Option PlainEntry → (is_torn : Bool) → PlainNext
 next_by (Some e) is_torn = Whole e
 next_by None true = Torn
 next_by None false = Damaged
 
 -- the entry at the start of a text, or why there is none; `sum` is the checksum of the marks before
--- the text
 unfoldable pub next_at : (sum : ℕ) → List ℕ → PlainNext
 next_at sum text = next_by (entry_at sum text) (is_torn_text sum text)
 
