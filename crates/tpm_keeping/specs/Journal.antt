@@ -1,6 +1,6 @@
 -- A journal, as a keeper sees it. A state is a text that represents a whole device. A command is a
 -- text that contains its bytes, locality, time and random bytes. Most commands have an entry. A
--- power cycle and the restoring of a snapshot have none: the state after them begins a new journal.
+-- power cycle and restoring a snapshot have none: a new journal begins in the state after them.
 use Rattle.std.specs.Prelude.{◌≡◌, ℕ, ◌+◌, ◌-◌, ◌<◌, Bool, true, cond, List, [], ◌∷◌, ◌++◌, length, nat_le, take, Option, Some}
 use Rattle.std.specs.List.{AllByRecursion}
 

@@ -22,7 +22,7 @@ pub record IsTrue (j : Journal) (origin : List ℕ) (history : List (List ℕ)) 
   pub place : a.place ≡ length before + 1
   pub response : a.response ≡ j.response (run j origin before) a.command
 
--- the responses that are not gone have ascending positions, so that no two share one
+-- each response that is not gone has a later position than the earlier ones
 abbrev pub Ascend : List Answer → Type 0
 Ascend [] = Unit {0}
 Ascend (a ∷ before) =

@@ -84,7 +84,7 @@ impl<D: Device> CuttingKeeper<D> {
         self.keeper.job
     }
 
-    /// Returns the text that the host has to write at a `Put` or a `Make`.
+    /// Returns the text that the host has to write for a `Put` or a `Make`.
     pub fn out(&self) -> &[u8]
         ensures { result.now ≡ (caller_of D.spot self.now).holder.out }
     {

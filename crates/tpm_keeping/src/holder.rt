@@ -19,8 +19,8 @@ pub enum Force {
 #[derive(Clone, Copy, PartialEq, Eq)]
 pub enum Job {
     /// Execute a command. Its entry is appended to the journal, or begins a new journal if the old
-    /// one has grown. After a command without an entry, such as a power cycle or the restoring of a
-    /// snapshot, a new journal begins in the state after the command.
+    /// one has grown. After a command without an entry, such as a power cycle or restoring a
+    /// snapshot, a new journal begins in the state after it.
     Execute,
     /// Restart the journal in the same state: a checkpoint.
     Renew,

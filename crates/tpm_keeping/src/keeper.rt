@@ -23,7 +23,7 @@ pub enum Ask {
     /// Take the folder's lock, through an open file that only this process has. If that fails,
     /// close the file.
     Lock,
-    /// Open the file that is named journal, unless it is already open, and report its number and
+    /// Open the file that is named `journal`, unless it is already open, and report its number and
     /// its size.
     Look,
     /// Read some bytes of the file, from this offset on.

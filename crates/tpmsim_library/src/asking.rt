@@ -118,8 +118,8 @@ pub extern "C" fn tpmsim_keeper_seed(
     }
 }
 
-/// Begins the restoring of a state text. Since the state replaces the device, damage in the old
-/// journal is cut. On failure nothing changes.
+/// Begins to restore a state text. Since the state replaces the device, damage in the old journal
+/// is cut. On failure nothing changes.
 #[unsafe(no_mangle)]
 pub extern "C" fn tpmsim_keeper_restore(
     alloc: Global,

@@ -113,7 +113,7 @@ impl DeviceKeeper {
         self.keeper.begin(self.cuts, Job::Begin, text)
     }
 
-    /// Begins the restoring of a state text. Since the state replaces the device, damage in the old
+    /// Begins to restore a state text. Since the state replaces the device, damage in the old
     /// journal is cut.
     pub fn restore(
         &mut self,
