@@ -62,7 +62,7 @@ record IsFront (p q : Spot) (taken n : ℕ) (text : List ℕ) : Type 0 where
   within : size ≤ length text
   walks : (bound : ℕ) → size < bound → walk bound p taken (take size text) ≡ Some (q, n)
 
--- The case that the text ends: no byte is executed.
+-- If the text ends, no byte is executed.
 front_ends : (bound : ℕ) (p q : Spot) (taken n : ℕ) (text : List ℕ) → walk (suc bound) p taken text ≡ Some (q, n) → found_at p text ≡ Ends
     → IsFront p q taken n text
 front_ends bound p q taken n text leads ends =
@@ -79,7 +79,7 @@ front_ends bound p q taken n text leads ends =
     nothing (suc more) less here =
         walk_ends more p taken [] (found_torn p [] ((is_torn_text-Decides p.chain []).1 (torn_nothing p.chain))) ∙ here
 
--- The case that the text begins with an entry: that entry is also executed.
+-- If the text begins with an entry, that entry is executed too.
 front_goes : (p q s : Spot) (taken n : ℕ) (e : PlainEntry) (rest text : List ℕ) → IsEntry e → text ≡ entry_text p.chain e ++ rest
     → performed_on p.chain e (state_of_bytes p.state) ≡ Some s → IsFront s q (taken + length (entry_text p.chain e)) n rest
     → IsFront p q taken n text

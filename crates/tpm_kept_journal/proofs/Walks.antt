@@ -120,7 +120,7 @@ module _ (p : Spot) (c : List ℕ) (found : IsEntered c) where
       (performed_again s (command s) found.given.1)
       ∙ so_told (sum_of seen.step.response == sum_of seen.step.response) (spot_after s) (eq-eqb _ _ refl)
 
-  -- The case that the position's text encodes a state.
+  -- If the position's text encodes a state, the command leads to a next position.
   further : (s : DeviceState) → state_of_bytes p.state ≡ Some s → Leads p c
   further s is =
       let entry_is : entry_at_spot p c ≡ Some (entry s) = said None entered s is in
