@@ -17,7 +17,7 @@ use tpmsim_script::BadLine;
 /// The maximum size of a line in a report.
 const REPORT_LIMIT: usize = 256;
 
-/// The result if a line of the report is longer than that.
+/// The result if a line of the report is longer than `REPORT_LIMIT`.
 const TOO_LONG: usize = REPORT_LIMIT + 1;
 
 /// Writes the report on the line with this number, or nothing if the line is good. The line is
@@ -67,7 +67,7 @@ fn write_fault(text: &mut ArrayString<REPORT_LIMIT>, line: FaultLine) -> fmt::Re
     writeln!(text, "{line}")
 }
 
-/// A report line about a bad line: its number, its error, and what was expected there.
+/// A report line about a bad line: its number, its error, and what was expected.
 #[derive(Clone, Copy)]
 struct FaultLine {
     number: u32,
