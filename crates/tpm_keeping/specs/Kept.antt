@@ -22,7 +22,7 @@ pub record IsTrue (j : Journal) (origin : List ℕ) (history : List (List ℕ)) 
   pub place : a.place ≡ length before + 1
   pub response : a.response ≡ j.response (run j origin before) a.command
 
--- each response that is not gone has a later position than the earlier ones
+-- each response that is not gone has a later position than all earlier ones that are not gone
 abbrev pub Ascend : List Answer → Type 0
 Ascend [] = Unit {0}
 Ascend (a ∷ before) =
@@ -38,8 +38,8 @@ pub record IsKept (j : Journal) (w : Shared) : Type 0 where
   -- and the response is that of the device
   pub each : AllByRecursion (λ a. a.is_gone ≡ false → IsTrue j w.origin w.history a) w.answers
   pub once : Ascend w.answers
-  -- no response of a holder with `force=always` is gone, whatever the words of force of other
-  -- holders, and its command is promised
+  -- the responses of holders with `force=always` are not gone, whatever the words of force of other
+  -- holders, and their commands are promised
   pub always : AllByRecursion
       (λ a. is_always a.force ≡ true → (a.is_gone ≡ false) × (a.place ≤ w.promised))
       w.answers
