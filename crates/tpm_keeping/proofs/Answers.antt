@@ -16,7 +16,7 @@ use Rattle.tpm_keeping.specs.declared.holder.End.{End}
 use Rattle.tpm_keeping.specs.declared.holder.End.TheVariants as ending
 use Rattle.tpm_keeping.specs.declared.holder.Phase.TheVariants.{Leaving}
 
--- a call promises the whole history, or as much as was promised before
+-- A call promises the whole history, or only what was promised before.
 promise_is : (j : Journal) (force : Force) (job : Job) (c : List ℕ) (s : Shared)
     → ((promises j force job c ≡ true) × (promise j force job c s ≡ length s.history)) ⊎ (promise j force job c s ≡ s.promised)
 promise_is j Always job c s = inl (refl, refl)
@@ -96,7 +96,7 @@ left_older j s force job c still settled =
       | inr other ↦ subst (λ (fs : List File). AllByRecursion (IsFile j s.origin s.history (promise j force job c s) (cond (is_never force) s.lasting true) s.next) fs) (sym (settled other)) tt
     ]
 
--- ---- the answers
+-- ---- the responses
 
 safe_more : (answers : List Answer) (n m : ℕ) → n ≤ m → Safe n answers → Safe m answers
 safe_more [] n m le h = tt

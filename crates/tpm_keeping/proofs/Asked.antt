@@ -1,4 +1,4 @@
--- If all requested commands have a property, so have all commands of the history.
+-- If all requested commands have a property, all commands of the history have it.
 use Rattle.std.proofs.Common.{◌≡◌, ℕ, ◌+◌, ◌==◌, Bool, true, false, cond, List, [], ◌∷◌, ◌++◌, length, Some, None, Option, refl, sym, subst}
 use Rattle.std.specs.List.{AllByRecursion}
 use Rattle.std.specs.Prelude.{nat_le, ◌||◌}
@@ -200,7 +200,7 @@ choice : (test : List ℕ → Bool) (b : Bool) (v w : World) → AllFair test v 
 choice test true v w hv hw = hv
 choice test false v w hv hw = hw
 
--- a step that does not concern the lock preserves that all commands pass the test
+-- After a step that does not concern the lock, all commands still pass the test.
 moves_fair : (phase : Phase) (effect : Effect) (told : Told) (test : List ℕ → Bool) (j : Journal) (w : World) (p : ℕ) → AllFair test w → (w.holders p).phase ≡ phase
     → Fair test phase (w.holders p).command
     → AllFair test (with_holder (does j phase w.shared (w.holders p) effect) w.holders p (next_in j phase (w.holders p) told))

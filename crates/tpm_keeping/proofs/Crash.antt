@@ -10,9 +10,9 @@ use Rattle.tpm_keeping.specs.Kept.{Ascend, IsTrue}
 use Rattle.tpm_keeping.proofs.Entries.{whole, front_past, is_cut, is_front, keeps_sure, whole_in_entered}
 use Rattle.tpm_keeping.proofs.Invariant.{Each, IsContent, IsFile, IsText, Safe, Still}
 
--- ---- the answers
+-- ---- the responses
 
--- a prefix of the history that is long enough contains the command at each position within it
+-- A prefix of the history contains the same command at each position that is within the prefix.
 front_has : (before rest front more : List (List ℕ)) (c : List ℕ) → before ++ (c ∷ rest) ≡ front ++ more → length before < length front
     → (left : List (List ℕ)) × (front ≡ before ++ (c ∷ left))
 front_has [] rest [] more c e le = absurd (omega (arith, le))

@@ -67,7 +67,7 @@ acts_heads Show e j s k p n is le = shows_heads e j s k (acts j Show k p) n is l
 acts_heads Begin e j s k p n is le = shows_heads e j s k (acts j Begin k p) n is le
 acts_heads Cut e j s k p n is le = shows_heads e j s k (acts j Cut k p) n is le
 
--- after the whole file was read, the holder does its job, since the file is a journal
+-- After a holder has read the whole file, it does its job, since the file is a journal.
 reads_on_heads : (e : End) (j : Journal) (s : Shared) (k : Holder) (n : ℕ) → IsJournal j → Still j s → IsReading j (sight s) k → end_with j k.job k.command ≡ e
     → 4 + (k.size - k.seen) ≤ n → HeadsFor e j s (reads_on j k) n
 reads_on_heads e j s k n laws still r is le = by (is_read k) refl
@@ -83,7 +83,7 @@ reads_on_heads e j s k n laws still r is le = by (is_read k) refl
         (acts_heads k.job e j s (caught_up k c.taken) (spot_of j s.file) n is (omega (arith, le)))
     by false more = let less : k.seen < k.size = grind (arith, nat_tests) in (is, less, le)
 
--- after a read of at least one byte, the holder reaches the end within one step fewer
+-- After a read of at least one byte, the holder needs one step less to its end.
 has_read_heads : (e : End) (j : Journal) (s : Shared) (k : Holder) (bytes : List ℕ) (m n : ℕ) → IsJournal j → Still j s → IsReading j (sight s) k → end_with j k.job k.command ≡ e
     → bytes ≡ take m (drop k.seen s.file.now.text) → 0 < length bytes → 4 + (k.size - k.seen) ≤ suc n → k.seen < k.size → HeadsFor e j s (has_read j k bytes) n
 has_read_heads e j s k [] m n laws still r is from some le less = absurd (omega (arith, some))

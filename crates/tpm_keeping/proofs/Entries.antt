@@ -1,4 +1,4 @@
--- Lemmas about entries one after another, and what is left of them up to a byte.
+-- Lemmas about sequences of entries, and about what is left of them after a truncation.
 use Rattle.std.proofs.Common.{◌≡◌, ℕ, ◌+◌, ◌-◌, ◌<◌, ◌≤◌, Bool, true, false, List, [], ◌∷◌, ◌++◌, length, take, refl, sym, ap, ◌∙◌, subst, arith, append_assoc, length-append}
 use Rattle.std.specs.Prelude.{nat_le}
 use Rattle.std.proofs.lemmas.Bool.Decides.{nat_tests}
@@ -31,12 +31,12 @@ pub trail_both : (j : Journal) (p : Spot) (cs ds : List (List ℕ)) → trail j 
 trail_both j p [] ds = refl
 trail_both j p (c ∷ cs) ds = trail_both j (stepped j p c) cs ds
 
--- the state after entries is the one to which their commands lead
+-- The state after entries is the state after their commands.
 pub trail_state : (j : Journal) (p : Spot) (cs : List (List ℕ)) → (trail j p cs).state ≡ run j p.state cs
 trail_state j p [] = refl
 trail_state j p (c ∷ cs) = trail_state j (stepped j p c) cs
 
--- commands lead from a state to a state
+-- Commands that are executed in a state lead to a state.
 pub run_lives : (j : Journal) (s : List ℕ) (cs : List (List ℕ)) → IsJournal j → j.is_state s ≡ true → j.is_state (run j s cs) ≡ true
 run_lives j s [] laws lives = lives
 run_lives j s (c ∷ cs) laws lives = run_lives j (j.after s c) cs laws (laws.leads s c lives)
@@ -63,7 +63,7 @@ pub whole_length : (j : Journal) (head : List ℕ) (p : Spot) (cs ds : List (Lis
 whole_length j head p cs ds =
     omega (arith, ap length (whole_both j head p cs ds), length-append (whole j head p cs) (entries j (trail j p cs) ds))
 
--- ---- a prefix
+-- ---- prefixes
 
 pub front_past : (x y : List ℕ) (count : ℕ) → length x ≤ count → take count (x ++ y) ≡ x ++ take (count - length x) y
 front_past x y count le =
@@ -129,7 +129,7 @@ is_cut j s (c ∷ cs) tail count litter laws lives entered ok torn =
     let rest = is_cut j (stepped j s c) cs tail (count - length (j.entry s c)) litter laws (laws.leads s.state c lives) entered.1 ok torn in
     cut_one j s c cs tail count litter laws lives entered.0 ok (nat_le (length (j.entry s c)) count) refl rest
 
--- The commands in the first list are the first ones of the second list.
+-- The first list of commands is a prefix of the second.
 pub record IsFront (cs all : List (List ℕ)) : Type 0 where
   pub more : List (List ℕ)
   pub is : all ≡ cs ++ more
@@ -157,7 +157,7 @@ whole_in_entered j s cs count entered =
     let front = is_front j s cs count in
     entered_first j (whole_in j s cs count) front.more (subst (Entered j) front.is entered)
 
--- the commands whose entries end before the byte are among those that are left
+-- The commands whose entries end before the truncation are among those that are left.
 pub keeps_sure : (j : Journal) (s : Spot) (surely rest : List (List ℕ)) (count : ℕ) → length (entries j s surely) ≤ count
     → whole_in j s (surely ++ rest) count ≡ surely ++ whole_in j (trail j s surely) rest (count - length (entries j s surely))
 keeps_sure j s [] rest count le = let same : count ≡ count - 0 = omega arith in ap (whole_in j s rest) same

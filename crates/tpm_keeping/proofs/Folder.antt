@@ -73,7 +73,7 @@ each_longer j origin history more (a ∷ answers) h = (
 
 -- ---- a put
 
--- writing the same bytes again, and then others, only appends the others
+-- Writing the same bytes again, followed by others, only appends the others.
 again : (same rest : List ℕ) (n : ℕ)
     → take n (same ++ rest) ++ drop (length (take n (same ++ rest))) same ≡ same ++ take (n - length same) rest
 again [] rest n =
@@ -101,7 +101,7 @@ over front same rest n =
     ∙ (ap (λ (x : List ℕ). front ++ x) (again same rest n)
     ∙ sym (append_assoc front same (take (n - length same) rest))))
 
--- ---- what a job adds
+-- ---- the commands that a job adds
 
 -- each command that a job adds has an entry
 pub adds_entered : (j : Journal) (job : Job) (c : List ℕ) → Entered j (adds j job c)
@@ -138,7 +138,7 @@ less_torn j p Show c m laws lives (inl le) = absurd (omega (arith, le))
 less_torn j p Begin c m laws lives (inl le) = absurd (omega (arith, le))
 less_torn j p Cut c m laws lives (inl le) = absurd (omega (arith, le))
 
--- the text after a put
+-- The text after a put: the complete entries and the written part of the new one.
 put_text : (j : Journal) (s : Shared) (k : Holder) (n : ℕ) (t : IsText j s.file.head s.file.start s.file.now) → Puts j s.file k.job k
     → (put_on j s.file k n).now.text
     ≡ body j s.file ++ take (n - length k.unsure) (entries j (spot_of j s.file) (adds j k.job k.command))
@@ -199,7 +199,7 @@ is_put j s k n laws lives t puts = by (nat_le (length k.out) n) refl
         some n u r true is less = let le : u ≤ n = grind (arith, nat_tests) in inl (omega (arith, le, less))
         some n u r false is less = let le : n < u = grind (arith, nat_tests) in inr (omega (arith, le))
 
--- if there is a file, the state after its entries is that of the history
+-- If there is a file, the state after its entries is the state after the history.
 pub state_is : (j : Journal) (s : Shared) → Still j s → 0 < s.file.number → state_of j s.file ≡ run j s.origin s.history
 state_is j s still named =
     let h = still.file.headed named in
@@ -223,8 +223,8 @@ pub record Moves (j : Journal) (s t : Shared) : Type 0 where
   pub still : Still j t
   pub grows : Grows j s t
 
--- if at least the bytes that a holder has seen synced are still on the disk, the holder's spot is
--- still right
+-- If at least the bytes that a holder has seen synced are still on the disk, the holder's position
+-- is still right.
 forced_at : (j : Journal) (f g : File) (more : List (List ℕ)) (force : Force) (state : Spot) (place : ℕ) (unsure : List ℕ)
     → g.head ≡ f.head → g.start ≡ f.start → g.now.commands ≡ f.now.commands ++ more → min f.forced (length (body j f)) ≤ g.forced
     → IsAt j f.head f.start f.now.commands f.forced force state place unsure
@@ -465,7 +465,7 @@ follows_still j s k laws still h fresh enough =
 
 -- ---- the first journal
 
--- if there is no file, nothing depends on the state in which everything began
+-- If there is no file, its invariant does not depend on the state in which the history began.
 file_anew : (j : Journal) (origin other : List ℕ) (history : List (List ℕ)) (promised : ℕ) (lasting : Bool) (next : ℕ) (f : File) → f.number ≡ 0
     → IsFile j origin history promised lasting next f → IsFile j other history promised lasting next f
 file_anew j origin other history promised lasting next f none h = record {
@@ -480,7 +480,7 @@ file_anew j origin other history promised lasting next f none h = record {
   past = h.past;
 }
 
--- if the history is empty, no response depends on that state either
+-- If the history is empty, the responses do not depend on the state in which it began.
 pub each_gone : (j : Journal) (origin other : List ℕ) (history : List (List ℕ)) (answers : List Answer) → history ≡ []
     → Each j origin history answers → Each j other history answers
 each_gone j origin other history [] none h = tt

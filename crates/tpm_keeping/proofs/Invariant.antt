@@ -20,7 +20,7 @@ use Rattle.tpm_keeping.specs.declared.holder.Phase.TheVariants.{Ended, Locking, 
 abbrev pub body : Journal → File → List ℕ
 body j f = whole j f.head f.start f.now.commands
 
--- the spot after these entries, and its state
+-- the position after a file's complete entries, and its state
 abbrev pub spot_of : Journal → File → Spot
 spot_of j f = trail j f.start f.now.commands
 
@@ -32,7 +32,8 @@ pub record IsText (j : Journal) (head : List ℕ) (start : Spot) (c : Content) :
   pub is : c.text ≡ whole j head start c.commands ++ tail
   pub torn : j.is_torn (trail j start c.commands) tail ≡ true
 
--- A content of a file; its first commands are certainly on the disk.
+-- A content of a file: its commands are in the history, and the first of them are certainly on the
+-- disk.
 pub record IsContent (j : Journal) (head : List ℕ) (start : Spot) (number : ℕ) (history before surely : List (List ℕ)) (c : Content) : Type 0 where
   pub rest : List (List ℕ)
   pub has : c.commands ≡ surely ++ rest
@@ -42,7 +43,7 @@ pub record IsContent (j : Journal) (head : List ℕ) (start : Spot) (number : �
   pub text : 0 < number → IsText j head start c
   pub empty : number ≡ 0 → c.commands ≡ []
 
--- The state after a head is the one to which the commands before it lead.
+-- The state after a file's head is the state after all commands before the file's first entry.
 pub record IsHeaded (j : Journal) (origin head : List ℕ) (start : Spot) (before : List (List ℕ)) : Type 0 where
   pub after : j.after_head head ≡ Some start
   pub lives : j.is_state start.state ≡ true
@@ -101,8 +102,9 @@ sight s = record {
   answers = s.answers;
 }
 
--- The spot is that of a device that executed the first of these commands, up to an offset in the
--- file. The bytes that the holder has seen synced are on the disk.
+-- The position is that of a device that executed the first of these commands, up to an offset in
+-- the file. If the holder syncs before each response, the bytes that it has seen synced are on the
+-- disk.
 pub record IsAt (j : Journal) (head : List ℕ) (start : Spot) (cs : List (List ℕ)) (forced : ℕ) (force : Force) (spot : Spot) (place : ℕ) (unsure : List ℕ) : Type 0 where
   pub done : List (List ℕ)
   pub ahead : List (List ℕ)
@@ -132,13 +134,13 @@ pub record HasAll (j : Journal) (f : File) (force : Force) (file place : ℕ) (u
   pub reached : place ≡ length (body j f)
   pub sure : is_always force ≡ true → length front ≤ f.forced
 
--- The response is that of the job, in this state.
+-- The response is the right one for the job in this state.
 abbrev pub Gives : Job → Journal → (state command response : List ℕ) → Type 0
 Gives Execute j state c response = response ≡ j.response state c
 Gives Show j state c response = response ≡ j.head state
 Gives job j state c response = Unit {0}
 
--- The command is the last one of the history, and has no response yet.
+-- The command is the last one of the history, with this response, which was not sent yet.
 pub record IsLast (j : Journal) (origin : List ℕ) (history : List (List ℕ)) (answers : List Answer) (command response : List ℕ) : Type 0 where
   pub before : List (List ℕ)
   pub is : history ≡ before ++ command ∷ []
@@ -150,7 +152,7 @@ LastIf Execute j origin history answers c response = IsLast j origin history ans
 LastIf Show j origin history answers c response = response ≡ j.head (run j origin history)
 LastIf job j origin history answers c response = Unit {0}
 
--- The bytes that the holder has read are those of the file at that offset.
+-- The bytes that the holder has read are those of the file after the executed part.
 pub record IsReading (j : Journal) (v : Sight) (k : Holder) : Type 0 where
   pub knows : KnowsOf j v k
   pub same : k.file ≡ v.file.number
@@ -175,7 +177,7 @@ pub record Puts (j : Journal) (f : File) (job : Job) (k : Holder) : Type 0 where
   pub out : k.out ≡ k.unsure ++ entries j (spot_of j f) (adds j job k.command)
   pub gives : Gives job j (state_of j f) k.command k.response
 
--- The holder has executed the file, and the file contains its command.
+-- The holder has executed the whole file, and the command of its job, if any, is the last one.
 pub record Stays (j : Journal) (origin : List ℕ) (f : File) (history : List (List ℕ)) (answers : List Answer) (force : Force) (file : ℕ) (device : Option Spot) (place : ℕ) (unsure : List ℕ) (job : Job) (command response : List ℕ) : Type 0 where
   pub all : HasAll j f force file place unsure
   pub has : device ≡ Some (spot_of j f)

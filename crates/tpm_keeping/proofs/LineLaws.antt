@@ -101,10 +101,10 @@ head_is (Some found) p is = by found.1 refl is
         (ap (λ (x : List ℕ). Some (found.0, x)) none ∙ ap (λ (x : List ℕ). Some (x, [])) state, ap (spot_at 0) (sym state) ∙ same)
     by (b ∷ rest) some is = absurd cc
 
--- ---- what is salvaged
+-- ---- the salvaged part
 
--- execution ends at the start if no line has ended, and otherwise after the last line that has
--- ended, whatever follows
+-- Either no line ends in the text, and nothing is executed; or a prefix of the text, executed
+-- alone, leads to the same state, and its size is reported.
 walk_front : (text state part : List ℕ) (taken far : ℕ)
     → (walk state part taken far text ≡ (state, taken))
     ⊎ ((count : ℕ) × ((walk state part taken far text).1 ≡ far + count) × (walk state part taken far (take count text) ≡ walk state part taken far text))

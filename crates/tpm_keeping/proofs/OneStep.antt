@@ -138,7 +138,7 @@ begins_fits Renew j s p k laws is none next lock below calm = dropped_fits j s p
 begins_fits Show j s p k laws is none next lock below calm = dropped_fits j s p k fault.Absent next lock
 begins_fits Cut j s p k laws is none next lock below calm = dropped_fits j s p k fault.Absent next lock
 
--- the holder when it reads on in the file that it knows, from where it executed the file
+-- the holder when it continues to read the file that it knows, after the part that it executed
 abbrev pub again : Shared → Holder → Holder
 again s k = record k { size = length s.file.now.text; seen = k.place; read = [] }
 
@@ -226,8 +226,8 @@ has_read_fits j s p k (b ∷ bs) n laws still lock below calm r is =
 
 -- ---- putting
 
--- every response has a position below any number above the size of the history, so the command that
--- is written next is the last one
+-- The position of every response is within the history. Therefore, a command that is appended next
+-- has a later position.
 each_before : (j : Journal) (origin : List ℕ) (history : List (List ℕ)) (answers : List Answer) (n : ℕ) → length history < n → Each j origin history answers
     → AllByRecursion (λ a. a.is_gone ≡ false → a.place < n) answers
 each_before j origin history [] n le h = tt
@@ -373,7 +373,7 @@ forced_fits j s p k still lock below calm stays none =
 
 -- ---- naming
 
--- the command that led to the new journal is the last one
+-- The command that led to the new journal is the last one of the history.
 last_named : (job : Job) (j : Journal) (s : Shared) (c response : List ℕ) → Still j s → 0 < s.file.number → Gives job j (state_of j s.file) c response
     → LastIf job j s.origin ((s.history ++ leads j job c) ++ adds j job c) s.answers c response
 last_named Execute j s c response still named gives = by (j.is_entered c)
@@ -387,7 +387,7 @@ last_named Show j s c response still named gives =
 last_named Begin j s c response still named gives = tt
 last_named Cut j s c response still named gives = tt
 
--- The new journal is the file, and is completely on the disk.
+-- The new file contains the holder's text, and its device is the holder's.
 pub record IsNew (j : Journal) (origin : List ℕ) (s : Shared) (k : Holder) : Type 0 where
   pub body : body j (named_from j origin s k).file ≡ k.out
   pub has : k.device ≡ Some (spot_of j (named_from j origin s k).file)

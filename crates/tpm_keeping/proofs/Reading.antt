@@ -15,15 +15,15 @@ use Rattle.tpm_keeping.specs.declared.holder.Job.TheVariants.{Execute, Renew, Sh
 use Rattle.tpm_keeping.specs.declared.holder.End.TheVariants as ending
 use Rattle.tpm_keeping.specs.declared.holder.Phase.TheVariants.{Reading, Putting, Settling, Leaving}
 
--- ---- reading leads to the state of the file
+-- ---- reading the file leads to its state
 
 pub record IsCaughtUp (j : Journal) (s : Shared) (k : Holder) : Type 0 where
   pub taken : ℕ
   pub is : found j k.device k.read ≡ Some (spot_of j s.file, taken)
   pub all : HasAll j s.file k.force k.file (k.place + taken) (cond (is_always k.force) (k.unsure ++ take taken k.read) [])
 
--- after it read the file, a holder keeps the bytes that it has not seen synced, if its word of
--- force requires that
+-- After it read the file, a holder keeps the bytes that it has not seen synced, if its word of
+-- force requires this.
 unsure_by : (j : Journal) (s : Shared) (k : Holder) (place : ℕ) (front unsure : List ℕ) (b : Bool) → is_always k.force ≡ b
     → k.file ≡ s.file.number → 0 < s.file.number → body j s.file ≡ front ++ unsure → place ≡ length (body j s.file)
     → (is_always k.force ≡ true → length front ≤ s.file.forced)

@@ -218,7 +218,7 @@ rests_fits (Ended e) j s p child k is now h = record {
 }
 rests_fits phase j s p child k is now h = newborn_fits j s child k.force k.limit (omega (arith, h.below))
 
--- if the system drops bytes by itself, the invariant still holds
+-- If the system drops bytes by itself, the invariant still holds.
 drops_by_itself : (j : Journal) (w : World) → Fine j w → (b : Bool) → w.shared.locked ≡ b
     → Fine j (cond b w (record w { shared = record w.shared { file = record w.shared.file { is_dropped = true } } }))
 drops_by_itself j w h true is = h
@@ -255,7 +255,7 @@ pub steps : (j : Journal) (events : List Event) (w : World) → IsJournal j → 
 steps j [] w laws h = h
 steps j (e ∷ events) w laws h = steps j events (happens j w e) laws (step j w e laws h)
 
--- ---- what follows
+-- ---- what follows from the invariant
 
 kept : (j : Journal) (w : World) → IsJournal j → Fine j w → IsKept j w.shared
 kept j w laws h =
@@ -281,7 +281,7 @@ kept j w laws h =
       lasts = still.file.lasts;
     }
 
--- ---- how it starts
+-- ---- the invariant at the start
 
 found_entered : (j : Journal) (w : World) → IsStart j w → (b : Bool) → (w.shared.file.number == 0) ≡ b → Entered j w.shared.file.now.commands
 found_entered j w h true is =

@@ -33,7 +33,7 @@ caller_of state k = record {
 abbrev pub idle : Holder → Caller
 idle k = record { holder = k; on_damage = Ends; job = Show; command = [] }
 
--- the keeper after a call begins; a call that was interrupted is dropped
+-- the keeper after a call begins; an interrupted call is dropped
 abbrev pub called : (cuts : Bool) → Job → List ℕ → Holder → Caller
 called true job command k = record {
   holder = asked (rests k) job command;
@@ -44,8 +44,8 @@ called true job command k = record {
 called false job command k =
     record { holder = asked (rests k) job command; on_damage = Ends; job = job; command = [] }
 
--- the keeper after a call ended; if damage has to be cut, a call that ended with damage is followed
--- by a cut, and a cut that is done is followed by the call
+-- the keeper after a call ended. If damage has to be cut, a cut follows a call that found damage,
+-- and the same call begins again after the cut is done
 abbrev pub goes_on_in : OnDamage → Phase → Caller → Caller
 goes_on_in IsCut (Ended (ending.Failed fault.Damaged)) c =
     record c { holder = asked c.holder Cut []; on_damage = BeginsAgain }
@@ -60,7 +60,7 @@ goes_on c = goes_on_in c.on_damage c.holder.phase c
 abbrev pub next_call : Journal → Caller → Told → Caller
 next_call j c told = goes_on (record c { holder = next_of j c.holder told })
 
--- The holder is unchanged, or a job was requested of it.
+-- The holder is unchanged, or a job was requested from it.
 abbrev pub IsOrIsAsked : (before after : Holder) → Type 0
 IsOrIsAsked before after =
     (after ≡ before) ⊎ ((job : Job) × (command : List ℕ) × (after ≡ asked before job command))

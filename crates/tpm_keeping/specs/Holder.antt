@@ -14,18 +14,18 @@ use Rattle.tpm_keeping.specs.declared.holder.Phase.{Phase}
 use Rattle.tpm_keeping.specs.declared.holder.Phase.TheVariants.{Ended, Locking, Looking, Reading, Putting, Forcing, Making, Naming, Settling, Leaving}
 
 pub record Holder : Type 0 where
-  -- when the holder syncs, and the size from which on a journal may be restarted
+  -- when the holder syncs, and the size from which on it may restart a journal
   pub force : Force
   pub limit : ℕ
   pub phase : Phase
   pub job : Job
   pub command : List ℕ
-  -- the spot of the device in memory, the number of the file from which the device was read, and
-  -- the number of the file's bytes that it executed
+  -- the position of the device in memory, the number of the file from which the device was read,
+  -- and the number of this file's bytes that the device executed
   pub device : Option Spot
   pub file : ℕ
   pub place : ℕ
-  -- the last of these bytes, which the holder has not itself seen synced
+  -- the last executed bytes, if the holder has not itself seen them synced
   pub unsure : List ℕ
   -- the size of the file, the number of bytes read, and the bytes that are not executed yet
   pub size : ℕ
@@ -83,8 +83,8 @@ newborn force limit = record {
   response = [];
 }
 
--- the holder after it dropped a call in progress, which was interrupted, or which the parent of a
--- fork made
+-- the holder without the call in progress, if there is one: the call was interrupted, or was made
+-- by the parent of a fork
 abbrev pub rests_in : Phase → Holder → Holder
 rests_in (Ended e) k = k
 rests_in phase k = newborn k.force k.limit
@@ -92,7 +92,7 @@ rests_in phase k = newborn k.force k.limit
 abbrev pub rests : Holder → Holder
 rests k = rests_in k.phase k
 
--- a holder of which a job was requested; if a call is in progress, it is unchanged
+-- the holder after a job was requested; during another call, the holder stays unchanged
 abbrev pub asked_in : Phase → Holder → Job → List ℕ → Holder
 asked_in (Ended e) k job command = record k { phase = Locking; job = job; command = command }
 asked_in phase k job command = k
@@ -100,7 +100,7 @@ asked_in phase k job command = k
 abbrev pub asked : Holder → Job → List ℕ → Holder
 asked k job command = asked_in k.phase k job command
 
--- the holder after it forgot everything: its next look opens the device from the file
+-- the holder after it forgot everything; at its next look, it opens the device from the file
 abbrev pub forgets : Phase → Holder → Holder
 forgets p k = record (newborn k.force k.limit) { phase = p }
 
@@ -122,8 +122,8 @@ is_never f = false
 abbrev pub sure : Holder → ℕ
 sure k = k.place - length k.unsure
 
--- the phase after the file is as required; the folder is synced once, before the first response
--- from a file, unless the holder never syncs
+-- the phase after all work on the file is done: the folder is synced once, before the first
+-- response from a file, unless the holder never syncs
 abbrev pub settles : Holder → Phase
 settles k = cond (k.settled || is_never k.force) (Leaving ending.Done) Settling
 
@@ -132,9 +132,9 @@ settles k = cond (k.settled || is_never k.force) (Leaving ending.Done) Settling
 abbrev pub is_grown : Journal → Holder → (p : Spot) → Bool
 is_grown j k p = nat_le k.limit k.place && nat_le (length (j.head p.state)) (k.place / 2)
 
--- the holder after it executed a command that has an entry; the text to write is the bytes that the
--- holder has not seen synced, followed by the entry, or, if the old journal has grown, a new
--- journal that begins with the entry
+-- the holder after it executed a command that has an entry. It has to write the bytes that it has
+-- not seen synced, followed by the entry. If the journal has grown, it has to write a new journal
+-- that begins with the entry
 abbrev pub enters : Journal → Holder → (p : Spot) → (grown : Bool) → Holder
 enters j k p true = record k {
   phase = Making;
@@ -149,7 +149,7 @@ enters j k p false = record k {
   response = j.response p.state k.command;
 }
 
--- the holder when a state begins a new journal
+-- the holder when it begins a new journal in this state
 abbrev pub renews : Journal → Holder → (state response : List ℕ) → Holder
 renews j k state response = record k {
   phase = Making;
@@ -158,8 +158,8 @@ renews j k state response = record k {
   response = response;
 }
 
--- the holder after it executed a command that has no entry; the state after the command begins a
--- new journal
+-- the holder after it executed a command that has no entry; a new journal begins in the state after
+-- the command
 abbrev pub leaps : Journal → Holder → (p : Spot) → Holder
 leaps j k p = renews j k (j.after p.state k.command) (j.response p.state k.command)
 
@@ -186,7 +186,7 @@ shows k p response = record k {
   response = response;
 }
 
--- the holder after the device has executed the whole file
+-- the holder when it does its job, after it has executed the whole file
 abbrev pub acts : Journal → Job → Holder → (p : Spot) → Holder
 acts j Execute k p = executes j k p
 acts j Renew k p = renews j k p.state []
@@ -202,8 +202,9 @@ caught_up k taken = record k {
   read = [];
 }
 
--- the holder if the bytes that it read are damaged; the file stays as it is, unless a cut has read
--- all of it: then the state after the undamaged beginning begins a new journal
+-- the holder if the bytes that it read are damaged. The call fails, and the file stays as it is,
+-- unless a cut has read the whole file. Then a new journal begins in the state after the undamaged
+-- beginning
 abbrev pub salvages_of : Journal → Holder → Option (Spot × ℕ) → Holder
 salvages_of j k None = dropped fault.Damaged k
 salvages_of j k (Some salvaged) = renews j (caught_up k salvaged.1) salvaged.0.state []
@@ -232,8 +233,8 @@ abbrev pub has_read : Journal → Holder → List ℕ → Holder
 has_read j k [] = dropped fault.Read k
 has_read j k bytes = reads_on j (record k { seen = k.seen + length bytes; read = k.read ++ bytes })
 
--- whether the holder knows this file, and the file still has all bytes that the holder executed;
--- otherwise the holder opens the file
+-- whether the holder knows this file, and the file still has all bytes that the holder executed; if
+-- not, the holder opens the file again
 abbrev pub knows_file : Holder → (file size : ℕ) → Bool
 knows_file k file size = k.file == file && nat_le k.place size
 
@@ -248,7 +249,7 @@ looked j k file size =
       size = size;
     }))
 
--- the holder if there is no journal; one begins, if that is the job
+-- the holder if there is no journal: it begins one if that is its job, or else fails
 abbrev pub begins_of : Journal → Holder → Option (List ℕ) → Holder
 begins_of j k None = dropped fault.Unreadable k
 begins_of j k (Some s) = renews j (record k { place = 0 }) s []
@@ -274,7 +275,7 @@ has_named k file = record k {
   settled = false;
 }
 
--- the holder after the next step
+-- the holder after its next step, given the host's report
 abbrev pub next_in : Journal → Phase → Holder → Told → Holder
 next_in j Locking k Done = goes Looking k
 next_in j Locking k told = forgets (Ended (ending.Failed (fault_told Locking told))) k

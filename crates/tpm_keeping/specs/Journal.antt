@@ -1,10 +1,10 @@
 -- A journal, as a keeper sees it. A state is a text that represents a whole device. A command is a
 -- text that contains its bytes, locality, time and random bytes. Most commands have an entry. A
--- power cycle and the restoring of a snapshot have none: the state after them begins a new journal.
+-- power cycle and restoring a snapshot have none: a new journal begins in the state after them.
 use Rattle.std.specs.Prelude.{◌≡◌, ℕ, ◌+◌, ◌-◌, ◌<◌, Bool, true, cond, List, [], ◌∷◌, ◌++◌, length, nat_le, take, Option, Some}
 use Rattle.std.specs.List.{AllByRecursion}
 
--- A spot in a journal: the state after an entry, and the checksum to which the next entry is
+-- A position in a journal: the state after an entry, and the checksum to which the next entry is
 -- chained.
 pub record Spot : Type 0 where
   pub state : List ℕ
@@ -21,33 +21,33 @@ pub record Journal : Type 0 where
   pub response : List ℕ → List ℕ → List ℕ
   -- the state in which a device begins, from random bytes or a text; None if they are not valid
   pub begun : List ℕ → Option (List ℕ)
-  -- the entry of a command at a spot, and the checksum to which the next entry is then chained
+  -- the entry of a command at a position, and the checksum to which the next entry is then chained
   pub entry : Spot → List ℕ → List ℕ
   pub link : Spot → List ℕ → ℕ
   -- the text with which a journal begins in a state, and the checksum to which its first entry is
   -- chained
   pub head : List ℕ → List ℕ
   pub first : List ℕ → ℕ
-  -- the spot after a text that is a head, also of a kind that is no longer written
+  -- the position after a head; the head may be of a kind that is no longer written
   pub after_head : List ℕ → Option Spot
-  -- the spot to which a text leads, by itself or from a spot, and the size of the part that leads
-  -- there
+  -- the position after a journal, or after the entries that follow a position; and the size of the
+  -- executed text
   pub opened : List ℕ → Option (Spot × ℕ)
   pub followed : Spot → List ℕ → Option (Spot × ℕ)
-  -- the same for the undamaged beginning of a damaged text
+  -- the position after the undamaged beginning of a damaged text, and the size of that beginning
   pub salvaged : List ℕ → Option (Spot × ℕ)
-  -- whether this text can be the remains of an entry at a spot that was not written completely
+  -- whether a text can be what is left of an entry at a position, if it was not written completely
   pub is_torn : Spot → List ℕ → Bool
   -- whether a crash of the host may leave these bytes, such as zeros, after a file's bytes; no
   -- entry looks like them
   pub is_litter : List ℕ → Bool
 
--- the state to which commands lead from a state
+-- the state after these commands are executed, one after another
 abbrev pub run : Journal → List ℕ → List (List ℕ) → List ℕ
 run j s [] = s
 run j s (c ∷ cs) = run j (j.after s c) cs
 
--- the spots after a head, after the entry of one command, and after the entries of several
+-- the positions after a head, after the entry of one command, and after the entries of several
 abbrev pub started : Journal → List ℕ → Spot
 started j s = record { state = s; chain = j.first s }
 
@@ -82,7 +82,7 @@ pub record IsJournal (j : Journal) : Type 0 where
   pub leads : (s c : List ℕ) → j.is_state s ≡ true → j.is_state (j.after s c) ≡ true
   -- the text that is written as the head of a state is a head
   pub heads : (s : List ℕ) → j.is_state s ≡ true → j.after_head (j.head s) ≡ Some (started j s)
-  -- a journal opens at the spot after its head, and executes each complete entry
+  -- opening a journal starts at the position after its head, and executes each complete entry
   pub opens : (head : List ℕ) (p : Spot) (cs : List (List ℕ)) (tail : List ℕ)
       → j.after_head head ≡ Some p → j.is_state p.state ≡ true → Entered j cs
       → j.is_torn (trail j p cs) tail ≡ true

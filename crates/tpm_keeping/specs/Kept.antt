@@ -22,7 +22,7 @@ pub record IsTrue (j : Journal) (origin : List ℕ) (history : List (List ℕ)) 
   pub place : a.place ≡ length before + 1
   pub response : a.response ≡ j.response (run j origin before) a.command
 
--- each response has a position of its own, after those of the earlier responses
+-- each response that is not gone has a later position than all earlier ones that are not gone
 abbrev pub Ascend : List Answer → Type 0
 Ascend [] = Unit {0}
 Ascend (a ∷ before) =
@@ -30,20 +30,22 @@ Ascend (a ∷ before) =
     × Ascend before
 
 pub record IsKept (j : Journal) (w : Shared) : Type 0 where
-  -- the journal, where there is one, opens as the device that executed the history
+  -- if there is a journal, it opens as the device that executed the history
   pub opens : 0 < w.file.number
       → (p : Spot) × (taken : ℕ) × (j.opened w.file.now.text ≡ Some (p, taken))
       × (p.state ≡ run j w.origin w.history)
-  -- which has the command of each answer that is not gone, in a place of its own
+  -- the history contains the command of each response that is not gone, at a position of its own,
+  -- and the response is that of the device
   pub each : AllByRecursion (λ a. a.is_gone ≡ false → IsTrue j w.origin w.history a) w.answers
   pub once : Ascend w.answers
-  -- no answer of a holder with `force=always` is gone, whatever word others have
+  -- the responses of holders with `force=always` are not gone, whatever the words of force of other
+  -- holders, and their commands are promised
   pub always : AllByRecursion
       (λ a. is_always a.force ≡ true → (a.is_gone ≡ false) × (a.place ≤ w.promised))
       w.answers
-  -- what was promised is there
+  -- the promised commands are in the history
   pub promised : w.promised ≤ length w.history
-  -- and so is the device, once a holder that forces has done a call
+  -- after a holder that syncs has completed a call, the device exists
   pub lasts : w.lasting ≡ true → 0 < w.file.number
 
 -- No fewer commands are promised than before, and the commands that were promised before are still
@@ -68,13 +70,13 @@ rank Settling = 5
 rank (Leaving e) = 6
 rank (Ended e) = 7
 
--- A report of the host advances the call to a later phase, or more of the file has been read.
+-- After a report of the host, the call is in a later phase, or more of the file has been read.
 abbrev pub Advances : Holder → Holder → Type 0
 Advances old new =
     (rank old.phase < rank new.phase)
     ⊎ ((old.phase ≡ Reading) × (new.phase ≡ Reading) × (old.seen < new.seen))
 
--- how a call ends if its host does all its tasks: without a journal,
+-- how a call ends if there is no journal and the host does all its tasks
 abbrev pub begun_or : Option (List ℕ) → End
 begun_or None = ending.Failed fault.Unreadable
 begun_or (Some s) = ending.Done
@@ -83,7 +85,7 @@ abbrev pub end_without : Journal → Job → (command : List ℕ) → End
 end_without j Begin c = begun_or (j.begun c)
 end_without j job c = ending.Failed fault.Absent
 
--- and with a journal
+-- how a call ends if there is a journal and the host does all its tasks
 abbrev pub end_with : Journal → Job → (command : List ℕ) → End
 end_with j Execute c = cond (j.is_command c) ending.Done (ending.Failed fault.NoCommand)
 end_with j job c = ending.Done
@@ -102,14 +104,13 @@ HasEnded w p e = ((w.holders p).phase ≡ Ended e) × (w.shared.locked ≡ false
 
 -- ---- a cut
 
--- the bytes that a holder has read of a file that it does not know yet, including those that the
--- host reports
+-- the bytes of the file that a holder has read but not executed, including those that the host now
+-- reports
 abbrev pub text_read : Phase → Holder → Told → List ℕ
 text_read Reading k (Bytes bytes) = k.read ++ bytes
 text_read phase k told = []
 
--- The text that a holder has to write is the head of the state to which a prefix of this text
--- leads.
+-- A prefix of this text opens in some state, and the holder has to write the head of that state.
 pub record KeepsFront (j : Journal) (text : List ℕ) (k : Holder) : Type 0 where
   pub spot : Spot
   pub is : j.opened (take k.place text) ≡ Some (spot, k.place)

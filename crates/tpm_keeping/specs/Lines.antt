@@ -31,7 +31,7 @@ walk state part taken far [] = (state, taken)
 walk state part taken far (suc zero ∷ rest) = walk (state ++ part) [] (suc far) (suc far) rest
 walk state part taken far (b ∷ rest) = walk state (part ++ b ∷ []) taken (suc far) rest
 
--- the spot with this state; no entry depends on the checksum of a spot
+-- the position with this state; no entry depends on the checksum of its position
 abbrev pub spot_at : (chain : ℕ) → List ℕ → Spot
 spot_at chain state = record { state = state; chain = chain }
 

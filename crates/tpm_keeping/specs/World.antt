@@ -11,9 +11,9 @@
 -- again. The system may also drop bytes by itself when it writes back (`Drops`). If it does so
 -- between a holder's write and its sync, that sync reports the failure: it is the holder's `Fails`.
 --
--- One process has the lock. Processes read less than they requested, fail during a write or after
--- it, finish an operation and still report an error, die at any byte, and fork. A fork has the
--- memory of its parent, but not the lock. Each process has its own word of force.
+-- Only one process can have the lock. Processes may read less than they requested, fail during a
+-- write or after it, finish an operation and still report an error, die at any byte, and fork. A
+-- fork has the memory of its parent, but not the lock. Each process has its own word of force.
 --
 -- A host whose write fails cuts the file back. If the write left part of an entry, this is another
 -- process here, which takes the lock next and dies after its cut (`Dies p (Part 0)`).
@@ -52,41 +52,42 @@ pub record Content : Type 0 where
 -- A file. Its number is 0 if there is no file, and no two files ever have the same number.
 pub record File : Type 0 where
   pub number : ℕ
-  -- its head, and the spot after it
+  -- the file's head, and the position after the head
   pub head : List ℕ
   pub start : Spot
-  -- the commands before its first entry
+  -- the commands that were executed before the file's first entry
   pub before : List (List ℕ)
   pub now : Content
-  -- its contents since it was last synced
+  -- the file's earlier contents since it was last synced
   pub past : List Content
-  -- the number of its first bytes that are on the disk
+  -- the number of bytes, from the file's start, that are on the disk
   pub forced : ℕ
-  -- whether bytes after these were dropped, and not written since
+  -- whether bytes after `forced` were dropped, and have not been written again
   pub is_dropped : Bool
 
 -- a response that was sent
 pub record Answer : Type 0 where
-  -- the number of commands in the history at that time, of which its own is the last
+  -- the number of commands in the history when the response was sent, of which its own is the last
   pub place : ℕ
-  -- the word of force of the holder that sent it
+  -- the word of force of the holder that sent the response
   pub force : Force
   pub command : List ℕ
   pub response : List ℕ
-  -- whether a crash of the host has removed its command from the history
+  -- whether a crash of the host has removed the response's command from the history
   pub is_gone : Bool
 
 -- what the processes share
 pub record Shared : Type 0 where
   -- the state in which the first journal began
   pub origin : List ℕ
-  -- the file that is named journal, and the files that had this name since the folder was last
+  -- the file that is named `journal`, and the files that had this name since the folder was last
   -- synced
   pub file : File
   pub older : List File
   -- the number of the next file that is created
   pub next : ℕ
-  -- the bytes of the new file that has no name yet, and the number of them that are on the disk
+  -- the bytes of the new file that has no name yet, and the number of these bytes that are on the
+  -- disk
   pub fresh : List ℕ
   pub fresh_forced : ℕ
   pub locked : Bool
@@ -94,9 +95,9 @@ pub record Shared : Type 0 where
   -- The device's history: each command whose entry was written completely, or after which a journal
   -- began, except those that a crash of the host has removed.
   pub history : List (List ℕ)
-  -- the number of first commands that no crash removes
+  -- the number of commands, from the start of the history, that no crash removes
   pub promised : ℕ
-  -- whether a holder that syncs has done a call; then no crash removes the device
+  -- whether a holder that syncs has completed a call; if so, no crash removes the device
   pub lasting : Bool
   -- the responses that were sent, the latest first
   pub answers : List Answer
@@ -111,7 +112,7 @@ pub data Effect : Type 0 where
   Part : (count : ℕ) → Effect
   All : Effect
 
--- What may happen. `p` is the process.
+-- Everything that may happen. `p` is the process that does it.
 pub data Event : Type 0 where
   -- the process begins, with its own word of force
   Starts : (p : ℕ) → (force : Force) → (limit : ℕ) → Event
@@ -122,8 +123,8 @@ pub data Event : Type 0 where
   Dies : (p : ℕ) → (effect : Effect) → Event
   Forks : (p child : ℕ) → Event
   Drops : Event
-  -- The host crashes. It leaves this file with one of its contents, up to this byte but no less
-  -- than is on the disk, followed by this litter.
+  -- The host crashes. One of the contents of this file is left, truncated at the byte `far`, but
+  -- not before the end of the bytes on the disk. This litter follows.
   Crashes : (file content far : ℕ) → (litter : List ℕ) → Event
 
 abbrev pub with_holder : Shared → (ℕ → Holder) → ℕ → Holder → World
@@ -135,8 +136,8 @@ with_holder s holders p k = record { shared = s; holders = λ q. cond (q == p) k
 abbrev pub written : (text : List ℕ) → (at : ℕ) → (bytes : List ℕ) → List ℕ
 written text at bytes = take at text ++ (bytes ++ drop (at + length bytes) text)
 
--- the commands whose entries a job appends, to the journal or to a new one; then, the commands that
--- lead to the state in which its new journal begins
+-- the commands whose entries a job writes to the journal or to a new one; and the commands without
+-- an entry that lead to the state in which a new journal begins
 abbrev pub adds : Journal → Job → List ℕ → List (List ℕ)
 adds j Execute c = cond (j.is_entered c) (c ∷ []) []
 adds j job c = []
@@ -193,7 +194,7 @@ forced f = record f {
 abbrev pub lost : Shared → Shared
 lost s = record s { file = record s.file { is_dropped = true } }
 
--- the state of a holder's device; everything begins in this state when the first file gets the
+-- the state of a holder's device; the history begins in this state when the first file gets the
 -- journal's name
 abbrev pub state_in : Option Spot → List ℕ
 state_in None = []
@@ -223,7 +224,7 @@ named_from j origin s k =
 abbrev pub named : Journal → Shared → Holder → Shared
 named j s k = named_from j (cond (s.file.number == 0) (state_in k.device) s.origin) s k
 
--- the folder after the host did a holder's request, or a part of it
+-- the folder after the host did all or a part of what a holder requested
 abbrev pub does_asked : Journal → Ask → Shared → Holder → Effect → Shared
 does_asked j (ask.Put cut at) s k (Part count) = put j s k count
 does_asked j (ask.Put cut at) s k All = put j s k (length k.out)
@@ -240,7 +241,7 @@ does_asked j asked s k effect = s
 abbrev pub does : Journal → Phase → Shared → Holder → Effect → Shared
 does j phase s k effect = does_asked j (ask_in phase k) s k effect
 
--- the report of the host about this
+-- the host's report after it did what a holder requested
 abbrev pub tells_asked : Ask → Shared → (more : ℕ) → Told
 tells_asked ask.Look s more =
     cond (s.file.number == 0) Gone (Stands s.file.number (length s.file.now.text))
@@ -303,7 +304,7 @@ fails_in j (Leaving e) w p k effect told =
 fails_in j phase w p k effect told =
     with_holder (does j phase w.shared k effect) w.holders p (next_in j phase k told)
 
--- the folder after a process died, which then has no lock
+-- the folder after a process died, which then no longer has the lock
 abbrev pub freed : Shared → ℕ → Shared
 freed s p = record s { locked = cond (s.locker == p) false s.locked }
 
@@ -343,6 +344,7 @@ left_of j f c count litter = record {
 }
 
 -- the responses after a crash: a response is gone if its command is not among the first `count`
+-- commands
 abbrev pub within : ℕ → List Answer → List Answer
 within count [] = []
 within count (a ∷ answers) =

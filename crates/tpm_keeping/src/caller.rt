@@ -84,7 +84,7 @@ impl<D: Device> CuttingKeeper<D> {
         self.keeper.job
     }
 
-    /// Returns the text that the host has to write at a `Put` or a `Make`.
+    /// Returns the text that the host has to write for a `Put` or a `Make`.
     pub fn out(&self) -> &[u8]
         ensures { result.now ≡ (caller_of D.spot self.now).holder.out }
     {
@@ -98,8 +98,8 @@ impl<D: Device> CuttingKeeper<D> {
         self.keeper.response()
     }
 
-    /// Takes what the host did or saw, and makes the next step. On `Err`, an allocation failed, and
-    /// the keeper's call ends.
+    /// Takes the host's report and does the next step. On `Err`, an allocation failed, and the
+    /// keeper's call ends.
     pub fn next(&mut self, got: Got<'_>) -> Result<(), Exhausted>
         ensures ok { OnOk result (caller_of D.spot self.new
             ≡ next_call D.journal (caller_of D.spot self.old) (told_of got.entry)) }
@@ -111,7 +111,7 @@ impl<D: Device> CuttingKeeper<D> {
         next
     }
 
-    /// After a call has ended, begins the cut of its damage, or begins the call again.
+    /// If damage has to be cut: begins the cut after the call, and the call again after the cut.
     fn goes_on(&mut self)
         ensures { caller_of D.spot self.new ≡ goes_on (caller_of D.spot self.old) }
     {

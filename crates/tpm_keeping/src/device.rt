@@ -13,10 +13,11 @@ pub struct Exhausted;
 
 /// A device in memory that executes the entries of a journal.
 pub trait Device: Drop + Sized {
-    /// The definition of its journal.
+    /// The definition of the device's journal.
     ghost journal: { Journal };
 
-    /// The text that represents its state, and the checksum to which its next entry is chained.
+    /// The text that represents the device's state, and the checksum to which its next entry is
+    /// chained.
     ghost spot: { Self → Spot };
 
     /// The journal satisfies a keeper's requirements.
@@ -79,12 +80,12 @@ pub trait Device: Drop + Sized {
         ensures response { OnOk result (response.new.items
             ≡ response.old.items ++ journal.response (spot self.old).state command.now) };
 
-    /// Appends the text with which a journal in this state begins.
+    /// Appends the text with which a journal in the device's state begins.
     fn show(&self, out: &mut Vec<u8>) -> Result<(), Exhausted>
         ensures { OnOk result (out.new.items
             ≡ out.old.items ++ journal.head (spot self.now).state) };
 
-    /// Appends this text, and continues with the journal that begins with it.
+    /// Does what `show` does, and continues with the journal that begins with this text.
     fn renew(&mut self, out: &mut Vec<u8>) -> Result<(), Exhausted>
         ensures spot { OnOk result (spot self.new ≡ started journal (spot self.old).state) }
         ensures head { OnOk result (out.new.items

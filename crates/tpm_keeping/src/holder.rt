@@ -19,8 +19,8 @@ pub enum Force {
 #[derive(Clone, Copy, PartialEq, Eq)]
 pub enum Job {
     /// Execute a command. Its entry is appended to the journal, or begins a new journal if the old
-    /// one has grown. The state after a command without an entry, such as a power cycle or the
-    /// restoring of a snapshot, begins a new journal.
+    /// one has grown. After a command without an entry, such as a power cycle or restoring a
+    /// snapshot, a new journal begins in the state after it.
     Execute,
     /// Restart the journal in the same state: a checkpoint.
     Renew,
@@ -68,8 +68,9 @@ pub enum Fault {
 }
 
 impl Fault {
-    /// Returns the sentence of the fault, to be written after a path: the lock's path for `Lock`,
-    /// the new journal's for `Make` and `Name`, the folder's for `Settle`, otherwise the journal's.
+    /// Returns the message for the fault, to be written after a path: the lock's path for `Lock`,
+    /// the new journal's for `Make` and `Name`, the folder's for `Settle`, and the journal's for
+    /// all others.
     pub fn sentence(self) -> &'static str
         ensures { result.now ≡ sentence self }
     {
@@ -125,7 +126,7 @@ pub enum Phase {
 }
 
 impl Phase {
-    /// Returns the fault if the host does not do its task in this phase.
+    /// Returns the fault of a call whose host does not do its task in this phase.
     pub fn fault(self) -> Fault
         ensures { result ≡ fault_of self }
     {

@@ -23,7 +23,7 @@ pub enum Ask {
     /// Take the folder's lock, through an open file that only this process has. If that fails,
     /// close the file.
     Lock,
-    /// Open the file that is named journal, unless it is already open, and report its number and
+    /// Open the file that is named `journal`, unless it is already open, and report its number and
     /// its size.
     Look,
     /// Read some bytes of the file, from this offset on.
@@ -44,7 +44,7 @@ pub enum Ask {
     Unlock,
 }
 
-/// What the host did or saw.
+/// The host's report: what it did or found.
 #[derive(Clone, Copy)]
 pub enum Got<'a> {
     Done,
@@ -125,7 +125,7 @@ impl<D: Device> Keeper<D> {
         }
     }
 
-    /// Returns the text that the host has to write at a `Put` or a `Make`.
+    /// Returns the text that the host has to write for a `Put` or a `Make`.
     pub fn out(&self) -> &[u8]
         ensures { result.now ≡ self.now.out.items }
     {
@@ -146,8 +146,8 @@ impl<D: Device> Keeper<D> {
         self.place.saturating_sub(self.unsure.len() as u64)
     }
 
-    /// Begins a call. A call that was interrupted is dropped: the host that interrupted it, or a
-    /// fork of that host, first has to close its lock.
+    /// Begins a call. An interrupted call is dropped: the host that interrupted it, or a fork of
+    /// that host, first has to close its lock.
     pub fn begin(&mut self, job: Job, command: &[u8]) -> Result<(), Exhausted>
         ensures ok { OnOk result (holder_of D.spot self.new
             ≡ asked (rests (holder_of D.spot self.old)) job command.now) }
@@ -162,8 +162,7 @@ impl<D: Device> Keeper<D> {
         Ok(())
     }
 
-    /// Begins a call with a command that the keeper then owns. A call that was interrupted is
-    /// dropped.
+    /// Begins a call with a command that the keeper then owns. An interrupted call is dropped.
     pub(crate) fn begin_with(&mut self, job: Job, command: Vec<u8>)
         ensures { holder_of D.spot self.new
             ≡ asked (rests (holder_of D.spot self.old)) job command.items }
@@ -174,7 +173,7 @@ impl<D: Device> Keeper<D> {
         self.phase = Phase::Locking;
     }
 
-    /// If a call is in progress, drops it and everything that is known.
+    /// If a call is in progress, drops the call and everything that the keeper knows.
     fn rest(&mut self)
         ensures holder { holder_of D.spot self.new ≡ rests (holder_of D.spot self.old) }
         ensures ended { (e : End) × (self.new.phase ≡ Ended e) }
@@ -185,7 +184,7 @@ impl<D: Device> Keeper<D> {
         *self = Keeper::new(self.alloc, self.force, self.limit);
     }
 
-    /// Forgets everything: the next look opens the device from the file.
+    /// Forgets everything; at the next look, the keeper opens the device from the file.
     fn forget(&mut self, phase: Phase)
         ensures { holder_of D.spot self.new ≡ forgets phase (holder_of D.spot self.old) }
     {
@@ -200,8 +199,8 @@ impl<D: Device> Keeper<D> {
         self.forget(Phase::Leaving(End::Failed(fault)));
     }
 
-    /// Takes what the host did or saw, and makes the next step. On `Err`, an allocation failed, and
-    /// the call ends.
+    /// Takes the host's report and does the next step. On `Err`, an allocation failed, and the call
+    /// ends.
     pub fn next(&mut self, got: Got<'_>) -> Result<(), Exhausted>
         ensures ok { OnOk result (holder_of D.spot self.new
             ≡ next_of D.journal (holder_of D.spot self.old) (told_of got.entry)) }
@@ -232,7 +231,7 @@ impl<D: Device> Keeper<D> {
         Ok(())
     }
 
-    /// Returns the phase after the file is as required: the folder is synced before the first
+    /// Returns the phase after all work on the file is done: the folder is synced before the first
     /// response from a file, unless the holder never syncs.
     pub(crate) fn settles(&self) -> Phase
         ensures { result ≡ settles (holder_of D.spot self.now) }

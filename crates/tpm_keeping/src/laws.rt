@@ -19,22 +19,22 @@ ghost use Rattle.tpm_keeping.specs.declared.holder.Phase.TheVariants.{Ended, Lea
 
 /// Whatever the holders of one device are asked to do, wherever each is killed, whatever fails and
 /// whenever the host crashes: the journal opens as the device that executed the history. Each
-/// response whose command no crash removed is that of the history, and what each holder promised by
-/// its word of force is still there.
+/// response whose command no crash removed is that of this device, and no crash removes what a
+/// holder promised by its word of force.
 pub fn kept_through_crashes()
     ensures { (j : Journal) (start : World) (events : List Event)
         → IsJournal j → IsStart j start → IsKept j (happen j events start).shared }
 {}
 
-/// Each report of the host advances the call to a later phase, or more of the file has been read.
+/// After each report of the host, the call is in a later phase, or more of the file has been read.
 pub fn calls_advance()
     ensures { (j : Journal) (k : Holder) (told : Told) → rank k.phase < 7
         → Advances k (next_of j k told) }
 {}
 
-/// If its host does all its tasks and memory suffices, a call ends. It is done, unless there is no
+/// If its host does all its tasks and memory suffices, a call ends. It succeeds, unless there is no
 /// journal and none can begin, or the text to execute is not a command. It takes at most six steps
-/// and one more for each byte of the file, and then the lock is free.
+/// and one more for each byte of the file. After it, the lock is free.
 pub fn calls_end()
     ensures { (j : Journal) (start : World) (events : List Event) (p : ℕ) (e : End) (job : Job)
         (command : List ℕ) (mores : List ℕ) → IsJournal j → IsStart j start
@@ -52,8 +52,8 @@ pub fn promises_are_kept()
         → let w = happen j events start in KeepsPromises w.shared (happens j w e).shared }
 {}
 
-/// If all commands of the journal at the start and all requested commands have a property, so have
-/// all commands of the history: it contains no others.
+/// If all commands of the journal at the start and all requested commands have a property, then all
+/// commands of the history have it. So nothing else is executed.
 pub fn only_what_was_asked()
     ensures { (j : Journal) (start : World) (events : List Event) (test : List ℕ → Bool)
         → IsJournal j → IsStart j start → AllByRecursion (λ c. test c ≡ true) start.shared.history
@@ -81,8 +81,9 @@ pub fn cuts_keep_a_front()
         → KeepsFront j (text_read k.phase k told) (next_of j k told) }
 {}
 
-/// A step of a keeper that cuts damage is a step of a keeper, possibly followed by a request for
-/// another call. So whatever holds after every run of all holders also holds with cuts.
+/// A step of a keeper that cuts damage is a step of an ordinary keeper, possibly followed by a
+/// request for another call. Therefore, whatever holds after every run of all holders also holds
+/// with cuts.
 pub fn cuts_are_calls()
     ensures { (j : Journal) (c : Caller) (told : Told)
         → IsOrIsAsked (next_of j c.holder told) (next_call j c told).holder }

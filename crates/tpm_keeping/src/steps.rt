@@ -1,4 +1,4 @@
-//! The steps of a keeper, after what its host did or saw.
+//! The steps of a keeper, after a report of its host.
 
 ghost use Rattle.std.specs.Prelude.{◌≡◌, ◌+◌, ◌++◌, ℕ, List, [], IfOk, OnErr, OnOk, length};
 ghost use Rattle.std.specs.Prelude.{false, take, true};
@@ -16,7 +16,8 @@ use crate::keeper::Keeper;
 use std::mem;
 
 impl<D: Device> Keeper<D> {
-    /// Continues with the journal's file: the file that is known, or another one.
+    /// Continues with the journal's file. Forgets the device if this is another file, or has become
+    /// shorter.
     pub(crate) fn looked(&mut self, file: u64, size: u64) -> Result<(), Exhausted>
         ensures ok { OnOk result (holder_of D.spot self.new
             ≡ looked D.journal (holder_of D.spot self.old) file size) }
@@ -57,7 +58,7 @@ impl<D: Device> Keeper<D> {
         self.reads_on()
     }
 
-    /// Reads more; or, if everything was read, executes it and does the job.
+    /// Reads on, or, if the whole file was read, executes it and does the job.
     fn reads_on(&mut self) -> Result<(), Exhausted>
         ensures ok { OnOk result (holder_of D.spot self.new
             ≡ reads_on D.journal (holder_of D.spot self.old)) }
@@ -196,8 +197,8 @@ impl<D: Device> Keeper<D> {
         }
     }
 
-    /// Whether the journal has grown: its size has reached the limit and twice the size of a new
-    /// journal's head.
+    /// Checks whether the journal has grown: its size has reached the limit and twice the size of a
+    /// new journal's head.
     fn is_grown(&self, device: &D) -> Result<bool, Exhausted>
         ensures { IfOk result (λ grown. grown ≡ is_grown D.journal (holder_of D.spot self.now)
             (D.spot device.now)) }
@@ -210,8 +211,8 @@ impl<D: Device> Keeper<D> {
         Ok(head.len() as u64 <= self.place / 2)
     }
 
-    /// Executes a command that has an entry. The text to write is the bytes that the holder has not
-    /// seen synced, followed by the entry; or a new journal that begins with the entry.
+    /// Executes a command that has an entry. The keeper then has to write the bytes that the holder
+    /// has not seen synced, followed by the entry; or a new journal that begins with the entry.
     fn enters(&mut self, mut device: D) -> Result<(), Exhausted>
         requires out { self.old.out.items ≡ [] }
         requires response { self.old.response.items ≡ [] }
@@ -236,7 +237,7 @@ impl<D: Device> Keeper<D> {
         Ok(())
     }
 
-    /// Executes a command that has no entry. The state after it begins a new journal.
+    /// Executes a command that has no entry, and begins a new journal in the state after it.
     fn leaps(&mut self, mut device: D) -> Result<(), Exhausted>
         requires out { self.old.out.items ≡ [] }
         requires response { self.old.response.items ≡ [] }
@@ -251,7 +252,7 @@ impl<D: Device> Keeper<D> {
         self.renews(device)
     }
 
-    /// Begins a new journal in this state.
+    /// Begins a new journal in the device's state.
     fn renews(&mut self, mut device: D) -> Result<(), Exhausted>
         requires out { self.old.out.items ≡ [] }
         ensures ok { OnOk result (holder_of D.spot self.new ≡ renews D.journal
@@ -265,8 +266,8 @@ impl<D: Device> Keeper<D> {
         Ok(())
     }
 
-    /// Returns the response. A holder that syncs before each response first has to write and sync
-    /// the bytes that it has not seen synced.
+    /// Stores the device; the call adds no entry. A holder that syncs before each response first
+    /// has to write and sync the bytes that it has not seen synced.
     fn shows(&mut self, device: D) -> Result<(), Exhausted>
         requires out { self.old.out.items ≡ [] }
         ensures ok { OnOk result (holder_of D.spot self.new ≡ shows (holder_of D.spot self.old)
@@ -285,7 +286,8 @@ impl<D: Device> Keeper<D> {
         Ok(())
     }
 
-    /// Begins a journal if there is none, and if that is the job; otherwise ends the call.
+    /// Begins a journal if that is the job; if it is not, the call fails because there is no
+    /// journal.
     pub(crate) fn begins(&mut self) -> Result<(), Exhausted>
         ensures ok { OnOk result (holder_of D.spot self.new
             ≡ begins D.journal self.old.job (holder_of D.spot self.old)) }

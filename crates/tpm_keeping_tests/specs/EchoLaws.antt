@@ -1,4 +1,4 @@
--- The journal of the device that echoes satisfies a keeper's requirements.
+-- The journal of the echoing device satisfies what a keeper requires.
 use Rattle.std.proofs.Common.{◌≡◌, ℕ, zero, suc, ◌+◌, ◌<◌, true, List, [], ◌∷◌, ◌++◌, length, take, Some, refl, sym, ap, ◌∙◌, arith}
 use Rattle.std.proofs.lemmas.List.{append-nil}
 use Rattle.tpm_keeping.specs.Journal.{IsJournal, Spot, entries, started, trail}
@@ -8,7 +8,7 @@ none : (text : List ℕ) → is_empty text ≡ true → text ≡ []
 none [] is = refl
 none (b ∷ text) is = absurd cc
 
--- no command changes the spot
+-- No command changes the position.
 still : (cs : List (List ℕ)) → trail echo nothing cs ≡ nothing
 still [] = refl
 still (c ∷ cs) = still cs
@@ -37,7 +37,7 @@ salvages (b ∷ text) p size is =
 begun : (s : List ℕ) → is_empty s ≡ true → started echo s ≡ nothing
 begun s is = ap (λ (x : List ℕ). started echo x) (none s is)
 
--- a head is one byte, and the spot after it is `nothing`
+-- A head is one byte, and the position after it is `nothing`.
 head_is : (head : List ℕ) (p : Spot) → headed_at head ≡ Some p
     → (b : ℕ) × (head ≡ b ∷ []) × (p ≡ nothing)
 head_is [] p is = absurd cc

@@ -1,5 +1,5 @@
-//! Calls of each job, by holders with each word of force. The letters say what the host did: lock,
-//! look (K), read, put, force, make, name, settle, unlock.
+//! Calls of each job, by holders with each word of force. The letters are the tasks that the host
+//! did: lock, look (K), read, put, force, make, name, settle, unlock.
 
 use crate::echo::Echo;
 use crate::folder::Folder;
@@ -120,8 +120,8 @@ fn without_a_journal_only_begin_is_done(rt: HostRuntime) {
     check(&rt, &mut folder, &mut never, Job::Begin, b"LKMNU", b"h");
 }
 
-// Each holder reads what others added. Only the holder that syncs before each response writes again
-// what it has not seen synced, which leaves the file unchanged.
+// Each holder reads what others added. Only the holder that syncs before each response writes the
+// bytes again that it has not seen synced, which leaves the file unchanged.
 #[test]
 fn holders_of_each_word_take_turns(rt: HostRuntime) {
     let mut folder = Folder::new(rt.alloc());
@@ -202,7 +202,8 @@ fn a_cut_of_a_whole_journal_changes_nothing(rt: HostRuntime) {
     answers(&rt, &always, b"");
 }
 
-// The undamaged beginning is the head. Only a cut continues with it, in a new journal.
+// The undamaged beginning of this journal is its head. Only a cut continues from there, in a new
+// journal.
 #[test]
 fn a_cut_begins_a_damaged_journal_anew(rt: HostRuntime) {
     let mut folder = Folder::new(rt.alloc());
@@ -228,7 +229,8 @@ fn a_cut_begins_a_damaged_journal_anew(rt: HostRuntime) {
     check(&rt, &mut folder, &mut power, Job::Execute, b"LKPU", b"he");
 }
 
-// The device in memory is that of other bytes, so it is dropped. The next cut reads the file.
+// The file no longer matches the device in memory, so the first cut drops the device. The second
+// cut reads the file.
 #[test]
 fn a_device_in_memory_is_dropped_before_a_cut(rt: HostRuntime) {
     let mut folder = Folder::new(rt.alloc());

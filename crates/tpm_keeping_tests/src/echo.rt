@@ -1,4 +1,4 @@
-//! A device without a state, which answers each command with the command.
+//! A device without a state, whose response to each command is the command itself.
 
 ghost use Rattle.std.specs.Prelude.{◌≡◌};
 ghost use Rattle.tpm_keeping_tests.specs.Echo.{echo, nothing};
@@ -7,11 +7,12 @@ ghost use Rattle.tpm_keeping_tests.specs.EchoLaws.{echo_is_a_journal};
 use std::alloc::Global;
 use tpm_keeping::device::{Device, Exhausted};
 
-/// The byte of each entry in its journal.
+/// The byte that an entry in the journal consists of.
 const ENTRY: u8 = 101;
 
-/// Answers each command with the command. A command that begins with a zero has no entry, and the
-/// empty text is not a command. A journal whose first entry is another byte is damaged.
+/// Responds to each command with the command itself. A command that begins with a zero has no
+/// entry, and the empty text is not a command. A journal whose first entry is another byte than
+/// `ENTRY` is damaged.
 #[derive(Drop)]
 pub struct Echo;
 

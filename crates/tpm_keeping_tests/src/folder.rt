@@ -1,4 +1,4 @@
-//! A folder in memory, and the host of its keepers.
+//! A folder in memory, and the host that runs its keepers.
 
 use std::alloc::{AllocError, Global};
 use std::mem;
@@ -12,9 +12,9 @@ const STEPS: u32 = 40;
 /// The number of bytes that are read at once.
 const PART: usize = 3;
 
-/// The journal, the new file that has no name yet, how much of the old journal was whole when the
-/// new file was written, and a letter for each task that the host did in the last call; an
-/// exclamation mark means that the keeper had no memory.
+/// The journal; the new file that has no name yet; the size of the old journal's part that was
+/// executed when the new file was written; and a letter for each task that the host did in the last
+/// call. An exclamation mark means that the keeper ran out of memory.
 #[derive(Drop)]
 pub struct Folder {
     pub number: u64,
@@ -73,7 +73,7 @@ impl Folder {
         Ok(End::Failed(Fault::Idle))
     }
 
-    /// Records that the keeper had no memory.
+    /// Records that the keeper ran out of memory.
     fn marks(&mut self, went_on: bool) -> Result<(), AllocError> {
         if !went_on {
             self.did.push(b'!')?;

@@ -1,6 +1,6 @@
 #![tactic(auto)]
 
-//! Tests of the keeper of a device for what no clause says: that each call can be done, and which
+//! Tests of the keeper of a device for what no clause says: that each call can succeed, and which
 //! tasks it requests.
 //!
 //! The crate uses `tpm_keeping`, and no crate uses it.

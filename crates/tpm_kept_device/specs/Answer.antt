@@ -7,7 +7,7 @@ use Rattle.tpm_image_text.specs.declared.fault.Malformed.{Malformed}
 use Rattle.tpm_types.specs.Limits.{buffer_limit}
 use Rattle.tpm_kept_device.specs.declared.answer.Answer.{Answer}
 
--- an answer: the command's code, the number of the check that refused the command, the number of
+-- an answer: the command code, the number of the check that refused the command, the number of
 -- random bytes that the command drew, and the device's response
 pub record PlainAnswer : Type 0 where
   pub code : ℕ
@@ -15,7 +15,7 @@ pub record PlainAnswer : Type 0 where
   pub drawn : ℕ
   pub response : List ℕ
 
--- the contents of an answer, independent of its place in memory
+-- the contents of an answer, as plain values without their memory
 abbrev pub plain_answer : Answer → PlainAnswer
 plain_answer a =
     record { code = a.code; check = a.check; drawn = a.drawn; response = a.response.now }

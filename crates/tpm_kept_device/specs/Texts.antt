@@ -3,14 +3,14 @@ use Rattle.std.specs.Prelude.{ℕ, Bool, List, ◌++◌, ◌∷◌}
 use Rattle.std.specs.Int.{w32, w64, to_be_bytes}
 use Rattle.tpm_image_text.specs.Fields.{yes_no_text}
 
--- the part of a command's text after its moment: its locality, whether the completing layer is on,
--- 256 random bytes, and its buffer
+-- the part of a command's text after its moment: the locality, whether the completing layer is
+-- used, 256 random bytes, and the buffer
 abbrev pub given_text : (locality : ℕ) → (completes : Bool) → (random buffer : List ℕ) → List ℕ
 given_text locality completes random buffer =
     locality ∷ (yes_no_text completes ++ (random ++ buffer))
 
--- the text of a command of the standard: at a time of the host's clock; and at a number of
--- milliseconds after the command before it
+-- the text of a command of the standard that arrives at a time of the host's clock; and of one that
+-- arrives some milliseconds after the previous command
 abbrev pub text_at : (now locality : ℕ) → (completes : Bool) → (random buffer : List ℕ) → List ℕ
 text_at now locality completes random buffer =
     0 ∷ (to_be_bytes w64 now ++ given_text locality completes random buffer)

@@ -1,4 +1,4 @@
--- The values of the code's types, in the terms of the definitions.
+-- The values of the code's types, as values of the definitions.
 use Rattle.std.specs.Prelude.{◌≡◌, ℕ, List, Option, Some, None}
 use Rattle.tpm_completion.specs.Execution.{Seen, seen_of}
 use Rattle.tpm_keeping.specs.Journal.{Spot}
@@ -19,14 +19,14 @@ abbrev pub plain_moment : declared_moment.Moment → Moment
 plain_moment (moment.At now) = At now
 plain_moment (moment.After elapsed) = After elapsed
 
--- the contents of a command, independent of its place in memory
+-- the contents of a command, as plain values without their memory
 abbrev pub plain_command : Command → KeptCommand
 plain_command (command.Execute moment locality completes random buffer) =
     Executes (plain_moment moment) (locality_number locality) completes random.now buffer.now
 plain_command (command.Cycle now start) = Cycles now start
 plain_command (command.Begin seed) = Begins seed.now
 
--- the contents of a seed, independent of its place in memory
+-- the contents of a seed, as plain values without their memory
 abbrev pub plain_seed : declared.Seed → Seed
 plain_seed seed = record {
   kind = seed.kind;
@@ -35,14 +35,14 @@ plain_seed seed = record {
   content = seed.content.now;
 }
 
--- the state of a device; and its spot, which also contains its journal's chain
+-- the state of a device; and its position, which also contains the checksum of its journal
 abbrev pub state_of : Parts → DeviceState
 state_of parts = state_in parts.journal (slot_record parts.machine.keep)
 
 abbrev pub spot_in : Parts → Spot
 spot_in parts = spot_of parts.journal (slot_record parts.machine.keep)
 
--- what a device shows of its latest command: the report, and the response
+-- the effect of a device's latest command; and the text of its report and response
 abbrev pub seen_in : Parts → Seen
 seen_in parts = seen_of slot_record parts.machine parts.journal.layer parts.outcome
 

@@ -19,13 +19,13 @@ use tpm_types::Locality;
 pub(crate) enum Moment {
     /// At this time of the host's clock.
     At(u64),
-    /// This many milliseconds after the command before it.
+    /// This many milliseconds after the previous command.
     After(u32),
 }
 
 impl Moment {
-    /// The time of the host's clock when the command arrives, if the command before it arrived at
-    /// `time`.
+    /// Returns the time on the host's clock when the command arrives, if the previous command
+    /// arrived at `time`.
     pub(crate) fn clock(self, time: u64) -> u64
         ensures { result ≡ clock_at (plain_moment self) time }
     {
@@ -50,7 +50,7 @@ pub(crate) enum Command<'a> {
         buffer: &'a [u8],
     },
     /// A power cycle at this time of the host's clock. The number `start` has no effect, because
-    /// the completing layer keeps its start.
+    /// the completing layer keeps its start number.
     Cycle {
         now_ms: u64,
         start: u64,
@@ -85,8 +85,8 @@ fn read_any<'a>(text: &'a [u8]) -> Result<Command<'a>, Malformed>
     }
 }
 
-/// Reads a command of the standard that arrives at a time of the clock, after the byte for its
-/// kind.
+/// Reads a command of the standard that arrives at a time of the host's clock. The byte for its
+/// kind was already read.
 #[tactic(auto, unfolding(tpm_kept_journal::specs::Command::executed_at_in))]
 fn read_executed_at<'a>(text: &mut Cursor<'a>) -> Result<Command<'a>, Malformed>
     ensures { Gives plain_command (executed_at_in text.old) result }
@@ -95,8 +95,8 @@ fn read_executed_at<'a>(text: &mut Cursor<'a>) -> Result<Command<'a>, Malformed>
     read_executed(Moment::At(now_ms), text)
 }
 
-/// Reads a command of the standard that arrives a number of milliseconds after the one before it,
-/// after the byte for its kind.
+/// Reads a command of the standard that arrives some milliseconds after the previous one. The byte
+/// for its kind was already read.
 #[tactic(auto, unfolding(tpm_kept_journal::specs::Command::executed_after_in))]
 fn read_executed_after<'a>(text: &mut Cursor<'a>) -> Result<Command<'a>, Malformed>
     ensures { Gives plain_command (executed_after_in text.old) result }
@@ -146,7 +146,7 @@ fn read_random<'a>(text: &mut Cursor<'a>) -> Result<&'a [u8], Malformed>
     }
 }
 
-/// Reads a power cycle, after the byte for its kind.
+/// Reads a power cycle. The byte for its kind was already read.
 #[tactic(auto, unfolding(tpm_kept_journal::specs::Command::cycled_in))]
 fn read_cycled<'a>(text: &mut Cursor<'a>) -> Result<Command<'a>, Malformed>
     ensures { Gives plain_command (cycled_in text.old) result }

@@ -2,11 +2,12 @@
 
 //! A device that a keeper stores in a journal: [`KeptDevice`], which tpm_keeping controls.
 //!
-//! tpm_kept_journal defines its journal: functions of texts, which satisfy what a keeper requires.
-//! This crate computes them with the real device: each method's contract is that of
-//! `tpm_keeping::device::Device` over that journal. So what tpm_keeping proves of a kept device,
-//! through kills, failures and crashes, holds for this one. [`writing`] writes the commands and
-//! seeds that a keeper takes, and [`answer`] reads its response to a command of the standard.
+//! tpm_kept_journal defines its journal as functions of texts, which satisfy what a keeper
+//! requires. This crate computes these functions with the real device: each method's contract is
+//! that of `tpm_keeping::device::Device` for that journal. Therefore, what tpm_keeping proves about
+//! a kept device, through kills, failures and crashes, holds for this one. [`writing`] writes the
+//! commands and seeds that a keeper takes, and [`answer`] reads its response to a command of the
+//! standard.
 
 pub mod answer;
 mod command;

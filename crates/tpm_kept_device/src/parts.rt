@@ -51,7 +51,7 @@ pub struct Parts {
 }
 
 impl Parts {
-    /// A new device; these random bytes become its secrets.
+    /// Creates a new device, whose secrets are these random bytes.
     fn manufacture(alloc: Global, random: &[u8; 256]) -> Result<Box<Parts>, Exhausted>
         ensures { IfOk result (λ b. slot_record b.value.machine.keep ≡ manufactured random.now) }
     {
@@ -71,7 +71,7 @@ impl Parts {
         }
     }
 
-    /// Restarts the device's journal at this time, with this completing layer.
+    /// Begins a new journal for the device, with this time and this completing layer.
     fn begin_journal(&mut self, now_ms: u64, layer: Completion)
         ensures { state_of self.new ≡ record (state_of self.old) { time = now_ms; layer = layer } }
     {
@@ -82,7 +82,7 @@ impl Parts {
         };
     }
 
-    /// A device that begins with a seed; None if the text is not a seed.
+    /// Creates the device that begins with a seed; None if the text is not a valid seed.
     #[tactic(auto, unfolding(tpm_kept_journal::specs::Seed::begun_of))]
     pub fn begin(alloc: Global, seed: &[u8]) -> Result<Option<Box<Parts>>, Exhausted>
         ensures { IfOk result (BeginsAs (λ b. b.value) (begun_in seed.now)) }
@@ -98,7 +98,7 @@ impl Parts {
         }
     }
 
-    /// A new device; the 256 random bytes of a seed become its secrets.
+    /// Creates a new device, whose secrets are the 256 random bytes of a seed.
     fn make(alloc: Global, seed: &Seed) -> Result<Option<Box<Parts>>, Exhausted>
         ensures { IfOk result (BeginsAs (λ b. b.value) (state_made (plain_seed seed.now))) }
     {
@@ -112,7 +112,7 @@ impl Parts {
         Ok(Some(parts))
     }
 
-    /// The device of a seed's image, as after a power cycle.
+    /// Creates the device that a seed's image contains, after a power cycle.
     fn power_on(alloc: Global, seed: &Seed) -> Result<Option<Box<Parts>>, Exhausted>
         ensures { IfOk result (BeginsAs (λ b. b.value)
             (state_opened (plain_seed seed.now) (image_of seed.now.content.now))) }
@@ -125,7 +125,8 @@ impl Parts {
         Ok(Some(parts))
     }
 
-    /// The device of a seed's state text. Its completing layer, if it has one, gets a new start.
+    /// Creates the device that a seed's state text contains. The completing layer gets the seed's
+    /// start number.
     fn restore(alloc: Global, seed: &Seed) -> Result<Option<Box<Parts>>, Exhausted>
         ensures { IfOk result (BeginsAs (λ b. b.value)
             (state_restored (plain_seed seed.now) (state_of_text seed.now.content.now))) }
@@ -160,7 +161,7 @@ impl Parts {
     }
 
     /// Opens the device of the head and the complete entries at the start of a journal, and ignores
-    /// all bytes after them; None without a head.
+    /// all bytes after them. None if this part does not open.
     #[tactic(auto, unfolding(tpm_kept_journal::specs::Salvage::salvaged_text))]
     pub fn salvage(alloc: Global, text: &[u8]) -> Result<Option<(Box<Parts>, usize)>, Exhausted>
         ensures { IfOk result (λ opened. MatchOption opened (salvaged_text text.now ≡ None)
@@ -223,7 +224,7 @@ impl Parts {
         self.put_answer(response)
     }
 
-    /// Appends the report of the latest command, and its response.
+    /// Appends the report on the latest command, and its response.
     fn put_answer(&self, out: &mut Vec<u8>) -> Result<(), Exhausted>
         requires { latest_drawn self.now.machine ≤ 256 }
         ensures { OnOk result (out.new.items ≡ out.old.items ++ answer_in self.now) }
@@ -281,7 +282,8 @@ impl Parts {
         )
     }
 
-    /// Power-cycles the device. Its layer keeps its start, and forgets the contexts of sessions.
+    /// Power-cycles the device. The completing layer keeps its start number, and forgets the
+    /// contexts of sessions.
     #[tactic(auto, unfolding(tpm_completion::specs::Completed::passed))]
     pub fn cycle_power(&mut self, now_ms: u64)
         ensures { state_of self.new ≡ cycled_at (state_of self.old) now_ms }
@@ -298,7 +300,7 @@ impl Parts {
         self.begin_journal(now_ms, layer);
     }
 
-    /// Appends the head with the device's state, and returns its sum.
+    /// Appends the head with the device's state, and returns the head's checksum.
     pub fn put_head(&self, alloc: Global, out: &mut Vec<u8>) -> Result<u64, Exhausted>
         ensures head { OnOk result (out.new.items
             ≡ out.old.items ++ head_of (bytes_of (state_of self.now))) }
@@ -311,7 +313,7 @@ impl Parts {
         put_head_of(alloc, self.journal.time, &text, out)
     }
 
-    /// The state text of the device, with its layer.
+    /// Returns the state text of the device and its completing layer.
     fn state_text(&self, alloc: Global) -> Result<Vec<u8>, Exhausted>
         ensures { IfOk result (λ text. text.items ≡ state_text (whole_of (state_of self.now))) }
     {
@@ -324,7 +326,7 @@ impl Parts {
         Ok(text)
     }
 
-    /// The next entry will follow a head with this sum.
+    /// Chains the next entry to a head with this checksum.
     pub fn chain_to(&mut self, sum: u64)
         ensures { spot_in self.new ≡ record (spot_in self.old) { chain = sum } }
     {
@@ -332,7 +334,7 @@ impl Parts {
     }
 }
 
-/// Appends the head with this clock and this state text, and returns its sum.
+/// Appends the head with this clock and this state text, and returns the head's checksum.
 fn put_head_of(
     alloc: Global,
     clock_ms: u64,
@@ -355,8 +357,8 @@ fn put_head_of(
     }
 }
 
-/// The completing layer of a restored device: the stored one with this start, or a new one if none
-/// is stored.
+/// Returns the completing layer of a restored device: the stored layer with this start number, or a
+/// new one if none is stored.
 fn layer_restored(start: u64, layer: Option<&Layer>) -> Completion
     ensures { result ≡ layer_restored start (option_copied layer.entry) }
 {

@@ -14,7 +14,7 @@ pub(crate) struct Seed<'a> {
     pub(crate) kind: u8,
     /// The host's clock in milliseconds.
     pub(crate) now_ms: u64,
-    /// The number of the completing layer's start; no earlier start had this number.
+    /// The start number of the completing layer; no earlier layer had this number.
     pub(crate) start: u64,
     pub(crate) content: &'a [u8],
 }

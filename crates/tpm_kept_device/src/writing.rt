@@ -9,7 +9,7 @@ ghost use Rattle.tpm_types.specs.Locality.{locality_number};
 use std::alloc::{AllocError, Global};
 use tpm_types::Locality;
 
-/// A command of the standard at this time of the host's clock, in milliseconds.
+/// Writes a command of the standard that arrives at this time of the host's clock, in milliseconds.
 #[tactic(auto, using(crate::proofs::Texts::at_read))]
 pub fn command_at(
     alloc: Global,
@@ -31,7 +31,7 @@ pub fn command_at(
     Ok(text)
 }
 
-/// A command of the standard, this many milliseconds after the one before it.
+/// Writes a command of the standard that arrives this many milliseconds after the previous one.
 #[tactic(auto, using(crate::proofs::Texts::after_read))]
 pub fn command_after(
     alloc: Global,
@@ -69,7 +69,7 @@ fn put_given(
     text.extend_from_slice(buffer)
 }
 
-/// A power cycle at this time of the host's clock. The number `start` has no effect.
+/// Writes a power cycle at this time of the host's clock. The number `start` has no effect.
 #[tactic(auto, using(crate::proofs::Texts::cycle_read))]
 pub fn power_cycle(alloc: Global, now_ms: u64, start: u64) -> Result<Vec<u8>, AllocError>
     ensures text { IfOk result (λ text. text.items ≡ cycle_text now_ms start) }
@@ -82,7 +82,7 @@ pub fn power_cycle(alloc: Global, now_ms: u64, start: u64) -> Result<Vec<u8>, Al
     Ok(text)
 }
 
-/// A command that replaces the device by one of this seed.
+/// Writes a command that replaces the device by one that begins with this seed.
 #[tactic(auto, using(crate::proofs::Texts::beginning_read))]
 pub fn beginning(alloc: Global, seed: &[u8]) -> Result<Vec<u8>, AllocError>
     ensures text { IfOk result (λ text. text.items ≡ 2 ∷ seed.now) }
@@ -94,7 +94,7 @@ pub fn beginning(alloc: Global, seed: &[u8]) -> Result<Vec<u8>, AllocError>
     Ok(text)
 }
 
-/// The seed of a new device, whose secrets are these random bytes.
+/// Writes the seed of a new device, whose secrets are these random bytes.
 pub fn seed_of_random(
     alloc: Global,
     now_ms: u64,
@@ -107,7 +107,7 @@ pub fn seed_of_random(
     seed(alloc, 0, now_ms, start, random)
 }
 
-/// The seed of the device of a state text.
+/// Writes the seed of the device that a state text contains.
 pub fn seed_of_state(
     alloc: Global,
     now_ms: u64,
@@ -120,7 +120,8 @@ pub fn seed_of_state(
     seed(alloc, 2, now_ms, start, state)
 }
 
-/// A seed. Kind 0: the content is 256 random bytes. Kind 1: an image. Kind 2: a state text.
+/// Writes a seed. For kind 0, the content is 256 random bytes; for kind 1, an image; for kind 2, a
+/// state text.
 #[tactic(auto, using(crate::proofs::Texts::seed_read))]
 pub fn seed(
     alloc: Global,

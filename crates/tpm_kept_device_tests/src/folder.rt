@@ -1,4 +1,4 @@
-//! A folder in memory, and the host of its keepers.
+//! A folder in memory, and the host that runs its keepers.
 
 use std::alloc::{AllocError, Global};
 use std::mem;
@@ -18,7 +18,7 @@ pub struct Folder {
 }
 
 impl Folder {
-    /// A folder with nothing in it.
+    /// Creates an empty folder.
     pub fn new(alloc: Global) -> Folder {
         Folder {
             number: 0,
@@ -27,7 +27,7 @@ impl Folder {
         }
     }
 
-    /// Does what a keeper asks for until the call has ended, and returns whether it is done.
+    /// Does what a keeper requests until the call has ended, and returns whether it succeeded.
     pub fn runs(
         &mut self,
         keeper: &mut Keeper<KeptDevice>,
@@ -45,7 +45,7 @@ impl Folder {
         Ok(false)
     }
 
-    /// Does one thing, and reports it to the keeper.
+    /// Does one task, and reports it to the keeper.
     fn does(&mut self, keeper: &mut Keeper<KeptDevice>, ask: Ask) -> Result<(), AllocError> {
         match ask {
             Ask::Read(from) => {

@@ -1,4 +1,4 @@
-//! A keeper keeps a device: it begins, executes, is dropped, and opens again.
+//! A keeper begins a device, executes commands, is dropped, and opens the device again.
 
 use crate::folder::Folder;
 use crate::words::{cycle, given, given_after, restoring, seed};
@@ -16,12 +16,13 @@ const GET_RANDOM: &[u8] = &[0x80, 1, 0, 0, 0, 12, 0, 0, 1, 0x7b, 0, 4];
 /// The report on TPM2_Startup, which draws 64 bytes, and its response.
 const STARTED: &[u8] = &[0, 0, 1, 0x44, 0, 0, 64, 0x80, 1, 0, 0, 0, 10, 0, 0, 0, 0];
 
-/// The report on TPM2_GetRandom of four bytes, which it draws, and the response: each byte is 5.
+/// The report on a TPM2_GetRandom that draws four bytes, and the response: each byte is 5.
 const FOUR_FIVES: &[u8] = &[
     0, 0, 1, 0x7b, 0, 0, 4, 0x80, 1, 0, 0, 0, 16, 0, 0, 0, 0, 0, 4, 5, 5, 5, 5,
 ];
 
-/// The report on TPM2_GetRandom without TPM2_Startup, which check 5 refuses by INITIALIZE (100).
+/// The report on TPM2_GetRandom without TPM2_Startup, which check 5 refuses with INITIALIZE
+/// (0x100).
 const INITIALIZE: &[u8] = &[0, 0, 1, 0x7b, 5, 0, 0, 0x80, 1, 0, 0, 0, 10, 0, 0, 1, 0];
 
 /// TPM2_ReadClock, and the report on it.
@@ -29,7 +30,7 @@ const READ_CLOCK: &[u8] = &[0x80, 1, 0, 0, 0, 10, 0, 0, 1, 0x81];
 
 const CLOCK_READ: &[u8] = &[0, 0, 1, 0x81, 0, 0, 0];
 
-/// A call is done, and has this response.
+/// Checks that a call is done, and has this response.
 fn answers<R: Abort>(
     rt: &R,
     folder: &mut Folder,
@@ -173,8 +174,7 @@ fn what_is_no_state_is_refused(rt: HostRuntime) {
     );
 }
 
-/// The number in the eight bytes at a place of a response to TPM2_ReadClock: the time since power
-/// came on.
+/// Reads the time since power came on from the report and the response of a TPM2_ReadClock.
 fn time_in(response: &[u8]) -> u64 {
     match response.get(17..25) {
         Some([a, b, c, d, e, f, g, h]) => u64::from_be_bytes([*a, *b, *c, *d, *e, *f, *g, *h]),
@@ -182,7 +182,7 @@ fn time_in(response: &[u8]) -> u64 {
     }
 }
 
-/// The time of a device that a command reads.
+/// Executes a TPM2_ReadClock, and returns the time since power came on.
 fn reads_time<R: Abort>(
     rt: &R,
     folder: &mut Folder,

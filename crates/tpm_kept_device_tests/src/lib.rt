@@ -1,7 +1,7 @@
 #![tactic(auto)]
 
-//! Tests of a kept device for what no clause says: that a keeper keeps one, that each call can be
-//! done, and what a TPM answers through it.
+//! Tests of a kept device for what no clause says: that a keeper can keep one, that each call can
+//! succeed, and how a TPM responds through the keeper.
 //!
 //! The crate uses `tpm_kept_device`, and no crate uses it.
 

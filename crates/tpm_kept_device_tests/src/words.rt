@@ -2,7 +2,7 @@
 
 use std::alloc::{AllocError, Global};
 
-/// A seed of a device that is manufactured: its kind, the clock, the start and 256 random bytes.
+/// The seed of a new device: its kind, the clock, the start number and 256 random bytes.
 pub fn seed(alloc: Global, now_ms: u64, random: u8) -> Result<Vec<u8>, AllocError> {
     let mut text = Vec::new(alloc);
     text.push(0)?;
@@ -12,7 +12,7 @@ pub fn seed(alloc: Global, now_ms: u64, random: u8) -> Result<Vec<u8>, AllocErro
     Ok(text)
 }
 
-/// A command of the standard from locality 0, completed by the layer, with 256 random bytes.
+/// A command of the standard from locality 0, with the completing layer and 256 random bytes.
 pub fn given(alloc: Global, now_ms: u64, random: u8, buffer: &[u8]) -> Result<Vec<u8>, AllocError> {
     let mut text = Vec::new(alloc);
     text.push(0)?;
@@ -23,7 +23,7 @@ pub fn given(alloc: Global, now_ms: u64, random: u8, buffer: &[u8]) -> Result<Ve
     Ok(text)
 }
 
-/// The same, so many milliseconds after the command before it.
+/// A command of the standard that arrives this many milliseconds after the previous one.
 pub fn given_after(
     alloc: Global,
     elapsed_ms: u32,
@@ -48,7 +48,7 @@ pub fn cycle(alloc: Global, now_ms: u64) -> Result<Vec<u8>, AllocError> {
     Ok(text)
 }
 
-/// The restoring of a state text, at this time.
+/// A command that restores a state text at this time.
 pub fn restoring(alloc: Global, now_ms: u64, state: &[u8]) -> Result<Vec<u8>, AllocError> {
     let mut text = Vec::new(alloc);
     text.extend_from_slice(&[2, 2])?;

@@ -1,4 +1,4 @@
--- A command of the standard that is read from a text has an entry.
+-- A command of the standard that is decoded from a text has an entry.
 use Rattle.std.proofs.Common.{◌≡◌, ◌<◌, ◌^◌, ◌==◌, ℕ, Bool, true, false, List, [], ◌∷◌, length, Result, Ok, Err, refl, subst, ap, ◌∙◌, cond, arith}
 use Rattle.std.specs.Prelude.{not}
 use Rattle.std.specs.Int.{w8, w32, w64}
@@ -19,7 +19,7 @@ use Rattle.tpm_kept_journal.specs.State.{DeviceState}
 use Rattle.tpm_kept_journal.specs.texts.Parts.{are_bytes}
 use Rattle.tpm_kept_journal.proofs.texts.Parts.{are_bytes-Decides}
 
--- ---- what is read
+-- ---- the fields of a decoded command are valid
 
 executed_given : (moment : Moment) (text : List ℕ) (c : KeptCommand) → AreBytes text → executed_in moment text ≡ Ok c → IsGiven c
 unfolding executed_in
@@ -112,7 +112,7 @@ entered_by text (Err why) e is = absurd cc
 pub is_entered : (text : List ℕ) → is_entered_read (command_of text) ≡ true → IsEntered text
 is_entered text is = entered_by text (command_of text) refl is
 
--- ---- its entry
+-- ---- the entry of a command
 
 pub sum_small : (sum : ℕ) (bytes : List ℕ) → sum < 2 ^ 64 → sum_from sum bytes < 2 ^ 64
 sum_small sum [] small = small
@@ -124,9 +124,9 @@ entry_of_given s moment locality completes random buffer seen (near, all, random
     entry_is buffer locality (clock_at moment s.time) s.time completes random seen near all random_bytes buffer_bytes
     (sum_small offset_basis seen.step.response (omega arith))
 
--- ---- what the code reads
+-- ---- what the code decodes
 
--- what was read from a text of bytes
+-- For a text of bytes, `command_of` has the same result as `command_in`.
 pub command_read : (text : List ℕ) (r : Result KeptCommand Malformed) → AreBytes text → command_in text ≡ r → command_of text ≡ r
 unfolding command_of
 command_read text r are is = ap (λ (b : Bool). cond b (command_in text) (Err malformed)) ((are_bytes-Decides text).1 are) ∙ is

@@ -1,4 +1,4 @@
--- What a device has executed is what the journal's functions say.
+-- A device's execution of a command has the effect that the journal's functions define.
 use Rattle.std.proofs.Common.{◌≡◌, ◌≤◌, ℕ, Bool, false, List, [], length, Option, Some, None, Result, Ok, refl, subst, sym, ap, ◌∙◌, arith}
 use Rattle.tpm_completion.specs.Execution.{Seen}
 use Rattle.tpm_completion.proofs.Exactly.{exactly}
@@ -22,7 +22,7 @@ module _ (j : Journal) (r : Record) (is : IsDeviceState (state_in j r)) (text : 
   abbrev s : DeviceState
   s = state_in j r
 
-  -- what is said of a state and a command is said of these
+  -- A function of the decoded state and command is applied to this state and this command.
   said : {X : Type 0} (other : X) (f : DeviceState → KeptCommand → X) → with_both (state_of_bytes (bytes_of s)) (command_of text) other f ≡ f s c
   said other f =
       ap (λ (o : Option DeviceState). with_both o (command_of text) other f) (state_told s is)
@@ -44,7 +44,8 @@ module _ (j : Journal) (r : Record) (is : IsDeviceState (state_in j r)) (text : 
 
 -- ---- a command of the standard
 
--- which came at a moment, and was executed by this clock
+-- A command of the standard arrived at this moment, and was executed when the host's clock showed
+-- `clock`.
 module _ (j : Journal) (r : Record) (is : IsDeviceState (state_in j r)) (text : List ℕ) (moment : Moment) (locality : ℕ) (completes : Bool)
     (random buffer : List ℕ) (read : command_of text ≡ Ok (kept.Executes moment locality completes random buffer)) (seen : Seen) (clock : ℕ)
     (told : clock ≡ clock_at moment j.time)

@@ -1,4 +1,4 @@
--- A device that executes the entries of a text goes where the text leads.
+-- A device that executes the entries of a text reaches the position that `walk` defines.
 use Rattle.std.proofs.Common.{◌≡◌, ◌<◌, ◌+◌, ◌==◌, ℕ, zero, suc, Bool, true, false, List, [], ◌∷◌, ◌++◌, length, drop, map, get_or, Option, Some, None, Result, Ok, Err, refl, subst, sym, ap, ◌∙◌, append_assoc, arith, length-append, eq-eqb, eqb-true}
 use Rattle.std.specs.List.{AllByRecursion}
 use Rattle.std.proofs.lemmas.Bool.{false≢true}
@@ -35,7 +35,7 @@ use Rattle.tpm_kept_journal.proofs.texts.NextAt.{next_only}
 use Rattle.tpm_kept_journal.proofs.texts.Parts.{so_told}
 use Rattle.tpm_kept_journal.proofs.texts.TornText.{is_torn_text-Decides}
 
--- ---- the record after an effect is one
+-- ---- the record after an effect is valid
 
 content_record : (refused : Bool) (first : Seen) (object : Object) (seen : Seen) → IsRecord first.step.after → PlacesIf false refused first object seen
     → IsRecord seen.step.after
@@ -67,7 +67,7 @@ pub record_after : (completes : Bool) (c : Completion) (old : Record) (event : P
 record_after false c old event seen passes = passes.executes.is_record
 record_after true c old event seen is = completes_record c old event seen is
 
--- the state after an effect is one of a device
+-- The state after an effect is one that a device can have.
 pub state_after : (s : DeviceState) (completes : Bool) (event : PlainEvent) (elapsed : ℕ) (seen : Seen) → IsDeviceState s
     → CompletesIf false completes s.layer s.device event seen → IsDeviceState (left_by s elapsed seen)
 state_after s completes event elapsed seen is done = record {
@@ -80,7 +80,7 @@ state_after s completes event elapsed seen is done = record {
   };
 }
 
--- ---- one performance
+-- ---- executing one entry again
 
 module _ (before : Journal) (old : Record) (one : Performance) (is : IsDeviceState (state_in before old))
     (performed : IsPerformed false before.layer old one.entry one.seen) where
@@ -103,12 +103,13 @@ module _ (before : Journal) (old : Record) (one : Performance) (is : IsDeviceSta
   pub next_is : IsDeviceState (state_in (journal_after before one.entry one.seen.layer) one.seen.step.after)
   next_is = state_after (state_in before old) one.entry.completes (event_of one.entry) one.entry.elapsed one.seen is performed
 
--- ---- all performances
+-- ---- executing several entries again
 
 abbrev text_of : ℕ → List Performance → List ℕ
 text_of sum performances = entries_text sum (map entry_in performances)
 
--- The walk over these entries and more goes on after them, from the spot to which they lead.
+-- Walking over these entries and a rest is the same as walking over the rest, from the position
+-- after the entries.
 pub record GoesOn (bound : ℕ) (before : Journal) (old : Record) (performances : List Performance) (after : Journal) (new : Record)
     (taken : ℕ) (left : List ℕ) : Type 0 where
   pub more : ℕ
@@ -162,8 +163,8 @@ goes_on (one ∷ performances) (suc bound) before old after new taken left is ar
           );
     }
 
--- where a device answers otherwise than an entry says, the walk fails: at this entry, or at a later
--- one
+-- If a device's response differs from the recorded one, the walk fails: at this entry, or at a
+-- later one.
 fails_at : (same : Bool) (one : Performance) (performances : List Performance) (bound : ℕ) (before : Journal) (old : Record) (taken : ℕ) (left : List ℕ)
     → IsDeviceState (state_in before old) → IsEntry one.entry → IsPerformed false before.layer old one.entry one.seen
     → (response_sum one == answer_said one) ≡ same
@@ -213,7 +214,7 @@ damaged_end : (more : ℕ) (p : Spot) (taken : ℕ) (left : List ℕ) → length
 damaged_end zero p taken left less damaged = absurd (omega (arith, less))
 damaged_end (suc more) p taken left less damaged = walk_fails more p taken left (found_damaged p left damaged)
 
--- the last of a list
+-- the last number of a list, or 0
 abbrev last_of : List ℕ → ℕ
 last_of [] = 0
 last_of (x ∷ []) = x
@@ -224,14 +225,15 @@ last_is [] x = refl
 last_is (y ∷ []) x = refl
 last_is (y ∷ z ∷ front) x = last_is (z ∷ front) x
 
--- ---- a text that was followed
+-- ---- the result for a whole text
 
--- What a device did with a text, as a function of the text alone.
+-- Without a fault, the walk over a text ends at this position after `taken` bytes; with a fault, it
+-- fails.
 abbrev pub Tells : Option FollowFault → Option (Spot × ℕ) → Spot → (taken : ℕ) → Type 0
 Tells None found p taken = found ≡ Some (p, taken)
 Tells (Some fault) found p taken = found ≡ None
 
--- the walk over the text of these performances, and what is left after them
+-- The walk over these entries and a rest agrees with the fault that was found, if any.
 told_by : (fault : Option FollowFault) (performances : List Performance) (before : Journal) (old : Record) (after : Journal) (new : Record) (taken : ℕ)
     (left text : List ℕ) → IsDeviceState (state_in before old) → AllByRecursion IsEntry (map entry_in performances)
     → LeadsBy false before old performances after new → AnswersAre fault (map response_sum performances) (map answer_said performances)

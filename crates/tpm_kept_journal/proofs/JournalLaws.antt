@@ -1,4 +1,4 @@
--- The journal of a kept device meets what a keeper needs.
+-- The journal of a kept device satisfies what a keeper requires.
 use Rattle.std.proofs.Common.{◌≡◌, ◌<◌, ◌+◌, ℕ, true, List, [], ◌++◌, length, take, replicate, Some, refl, sym, ap, ◌∙◌, append-nil, arith}
 use Rattle.tpm_journal_text.specs.Entry.{entry_text}
 use Rattle.tpm_journal_text.specs.Journal.{IsTorn}

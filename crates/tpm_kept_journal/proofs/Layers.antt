@@ -1,4 +1,4 @@
--- All that a completing layer remembers stays a number of 64 bits.
+-- All numbers that a completing layer stores fit 64 bits, also after each command.
 use Rattle.std.proofs.Common.{◌≡◌, ◌<◌, ◌+◌, ◌-◌, ◌^◌, ◌==◌, ℕ, zero, suc, Bool, true, false, cond, List, length, replicate, get_or, Option, Some, None, Result, Ok, Err, refl, subst, sym, ◌∙◌, arith, inl, inr, length-set, ltb-true}
 use Rattle.std.specs.Prelude.{nat_lt}
 use Rattle.std.specs.List.{All}
@@ -36,7 +36,7 @@ use Rattle.tpm_completion.specs.declared.capability.Asked.{Asked}
 use Rattle.tpm_completion.specs.declared.completion.Completion.{Completion}
 use Rattle.tpm_completion.specs.declared.context.Token.{Token}
 
--- A layer has a slot for each session, and numbers of 64 bits.
+-- A layer is valid: it has a slot for each session, and its numbers fit 64 bits.
 abbrev pub IsFine : Completion → Type 0
 IsFine c = IsLayer (layer_of c)
 
@@ -44,7 +44,7 @@ choice : {X : Type 0} (P : X → Type 0) (b : Bool) (x y : X) → P x → P y �
 choice P true x y p q = p
 choice P false x y p q = q
 
--- ---- layers that are made
+-- ---- new layers
 
 zeros_all : {X : Type 0} (P : X → Type 0) (n : ℕ) (x : X) → P x → All P (replicate n x)
 zeros_all P zero x p k d lt = absurd (omega (arith, lt))
@@ -59,7 +59,7 @@ new_fine start small = record {
   each_session = zeros_all (λ (context : ℕ). context < 2 ^ 64) session_limit 0 (omega arith);
 }
 
--- ---- what is remembered in a slot
+-- ---- the contexts that are stored in slots
 
 context_fine : (c : Completion) → IsFine c → (place : ℕ) → session_context c place < 2 ^ 64
 context_fine c is place =
@@ -103,7 +103,7 @@ counted_fine c number is small = record {
 abbrev LeavesFine : Reply → Type 0
 LeavesFine x = IsFine x.after
 
--- a number, if there is one, is one of 64 bits
+-- If there is a number, it fits 64 bits.
 abbrev IsSmall : Option ℕ → Type 0
 IsSmall (Some number) = number < 2 ^ 64
 IsSmall None = Unit {0}

@@ -1,4 +1,4 @@
--- No front of a text of bytes leads further than what is salvaged of it.
+-- No prefix of a text executes more bytes than the salvaged part of the text.
 use Rattle.std.proofs.Common.{◌≡◌, ◌≤◌, ◌+◌, ◌==◌, ℕ, zero, suc, List, [], ◌∷◌, ◌++◌, length, drop, take, Option, Some, None, Result, Ok, Err, refl, subst, sym, ap, ◌∙◌, append-nil, append_assoc, arith, drop_at, take_at, length-append}
 use Rattle.std.specs.List.{AllByRecursion}
 use Rattle.std.proofs.lemmas.List.{take-append-drop}
@@ -38,7 +38,8 @@ use Rattle.tpm_kept_journal.proofs.texts.Parts.{so_found}
 
 -- ---- the entries that a walk executed
 
--- A text has these entries at its front, of as many bytes as were taken, and no entry after them.
+-- A text consists of these entries and a rest that begins with no entry. `n` is `taken` plus the
+-- size of the entries.
 record IsWalked (chain taken n : ℕ) (text : List ℕ) : Type 0 where
   entries : List PlainEntry
   are : AllByRecursion IsEntry entries
@@ -92,7 +93,7 @@ walk_parts zero p q taken n text leads = absurd cc
 walk_parts (suc bound) p q taken n text leads =
     found_walked bound p q taken n text leads (λ s from left on. walk_parts bound s q from n left on) (finding p text)
 
--- ---- they are among the entries of the text, and all where the text has no more
+-- ---- the executed entries are among those of the text, and all of them if nothing follows
 
 few_entries : (sum : ℕ) (text : List ℕ) (entries : List PlainEntry) (rest : List ℕ) → AllByRecursion IsEntry entries
     → text ≡ entries_text sum entries ++ rest → length (entries_text sum entries) ≤ entries_size sum text
@@ -117,7 +118,7 @@ all_walked sum taken n text walked =
     let others : entries_at sum own ≡ w.entries = ap (entries_at sum) w.parts ∙ entries_again sum w.entries w.rest w.are w.ends in
     omega (arith, w.many, ap (λ (es : List PlainEntry). length (entries_text sum es)) (sym others ∙ mine))
 
--- ---- after a head
+-- ---- the entries after a head
 
 module _ (clock : ℕ) (content : List ℕ) (start : Start) where
   sum_by_image : (read : Result NonVolatile ImageFault) → start_by_image clock content read ≡ Ok start → start.journal.sum ≡ head_sum clock content
@@ -151,9 +152,9 @@ module _ (h : PlainHead) (rest : List ℕ) (p : Spot) (n : ℕ) (has : HasHead h
   opened_parts : IsWalked (head_sum h.clock h.content) (length (text_of_head h)) n rest
   opened_parts = parts_by (start_by h.kind h.clock h.content) refl
 
--- ---- the sizes
+-- ---- the sizes compared
 
--- what is salvaged has all bytes that are whole
+-- The salvaged part has the size of the intact part.
 salvaged_size : (text : List ℕ) (p : Spot) (n : ℕ) (found : Option PlainHead) → head_at text ≡ found
     → opened_text (take (size_with found text) text) ≡ Some (p, n) → n ≡ size_with found text
 unfolding opened_text
@@ -168,7 +169,7 @@ salvaged_size text p n (Some h) at leads =
     ap (take (length head + many)) found.1 ∙ take-append-add head rest many in
     all_walked sum (length head) n rest (opened_parts h (take many rest) p n found.0 (sym (ap opened_text so) ∙ leads))
 
--- and no front has more
+-- No prefix of a text executes more bytes than its intact part has.
 front_size : (text : List ℕ) (m : ℕ) (q : Spot) (k : ℕ) (found : Option PlainHead) → AreBytes text → head_at (take m text) ≡ found
     → opened_text (take m text) ≡ Some (q, k) → k ≤ size_with (head_at text) text
 front_size text m q k None are at leads =

@@ -1,4 +1,4 @@
--- A command whose entry is performed has the effect that it had.
+-- Executing an entry again has the same effect as the command had.
 use Rattle.std.proofs.Common.{◌≡◌, ◌≤◌, ◌-◌, ◌&&◌, ℕ, Bool, true, false, List, [], ◌∷◌, ◌++◌, length, replicate, take, Option, Some, None, Result, Ok, Err, refl, sym, ap, ◌∙◌, get_or, arith, if◌then◌else◌}
 use Rattle.std.specs.Int.{w32, to_be_bytes}
 use Rattle.std.proofs.lemmas.Bool.{false≢true}
@@ -30,15 +30,16 @@ use Rattle.tpm_kept_journal.specs.Effect.{effect}
 use Rattle.tpm_kept_journal.specs.Opening.{performance}
 use Rattle.tpm_kept_journal.specs.State.{DeviceState}
 
--- ---- the device alone
+-- ---- without the completing layer
 
--- the check that the step reports decides the number of bytes drawn, since a refusal draws none
+-- The check that the step reports does not affect the number of bytes drawn: a refused command
+-- draws none.
 drawn_told : (r : Record) (random : List ℕ) (a : Result Accepted RefusedCommand)
     → drawn_by_command random a (stepped_of r random a).row.check ≡ drawn_by_command random a 0
 drawn_told r random (Ok a) = refl
 drawn_told r random (Err e) = refl
 
--- no more random bytes are drawn than there are
+-- A command draws at most as many random bytes as there are.
 drawn_of_those : (random : List ℕ) (a : Result Accepted RefusedCommand) → drawn_by_command random a 0 ≤ length random
 drawn_of_those random (Ok a) = omega arith
 drawn_of_those random (Err e) = omega arith
@@ -53,7 +54,7 @@ module _ (c : Completion) (old : Record) (buffer : List ℕ) (locality elapsed :
   abbrev drawn : ℕ
   drawn = drawn_by old (event random) 0
 
-  -- the number of bytes drawn
+  -- The effect reports the number of random bytes that the command draws.
   pub passed_drawn : (passed c old (event random)).drawn ≡ drawn
   unfolding passed
   passed_drawn = drawn_told (ticked old elapsed) random (accepted (ticked old elapsed) buffer locality random)
@@ -61,7 +62,7 @@ module _ (c : Completion) (old : Record) (buffer : List ℕ) (locality elapsed :
   pub drawn_few : drawn ≤ length random
   drawn_few = drawn_of_those random (accepted (ticked old elapsed) buffer locality random)
 
-  -- the effect is the same with other bytes that agree on those that are drawn
+  -- The effect depends only on the random bytes that the command draws.
   pub passed_alike : (other : List ℕ) → AgreeOnDrawn old buffer locality elapsed random other → passed c old (event other) ≡ passed c old (event random)
   unfolding passed
   passed_alike other agree =
@@ -71,7 +72,7 @@ module _ (c : Completion) (old : Record) (buffer : List ℕ) (locality elapsed :
       ap (seen_made c here) (steps_alike old buffer locality elapsed random other agree false)
       ∙ ap (λ (n : ℕ). seen_made c (λ (x : Stepped). n) (step old (event random))) draws
 
-  -- zeros after the bytes that are drawn agree on them
+  -- Zeros after the drawn bytes leave those bytes as they are.
   zeros_agree : length random ≡ 256 → AgreeOnDrawn old buffer locality elapsed random (zeros_behind drawn random)
   zeros_agree all = (
     length-append (take drawn random) (replicate (256 - drawn) 0)
@@ -79,7 +80,7 @@ module _ (c : Completion) (old : Record) (buffer : List ℕ) (locality elapsed :
     front_kept drawn random (replicate (256 - drawn) 0) drawn_few,
   )
 
-  -- the effect is the same with zeros after the bytes that were drawn
+  -- The effect stays the same if zeros replace the random bytes that the command does not draw.
   pub passed_again : (n : ℕ) → n ≡ (passed c old (event random)).drawn → length random ≡ 256
       → passed c old (event (zeros_behind n random)) ≡ passed c old (event random)
   passed_again n is all =
@@ -89,14 +90,15 @@ module _ (c : Completion) (old : Record) (buffer : List ℕ) (locality elapsed :
   pub few_drawn : (passed c old (event random)).drawn ≤ length random
   few_drawn = omega (arith, passed_drawn, drawn_few)
 
-  -- where none is drawn, the effect is the same with any others, as many
+  -- If a command draws no random bytes, any others of the same number have the same effect.
   pub passed_anyhow : (other : List ℕ) → drawn ≡ 0 → length other ≡ length random → passed c old (event other) ≡ passed c old (event random)
   passed_anyhow other none as_long =
       passed_alike other (as_long, ap (λ (n : ℕ). take n other) none ∙ ap (λ (n : ℕ). take n random) (sym none))
 
--- ---- a command that loads the context of an object draws none
+-- ---- a command that loads the context of an object draws no random bytes
 
--- a success is no refusal: the third byte of its code is 0, and not 1
+-- A success does not look like the refusal 0x143: the third byte of its response code is 0, and not
+-- 1.
 framed_success : (tag : ℕ) (body : List ℕ) → is_refusal 0x143 (framed tag 0 body) ≡ true → ⊥
 framed_success tag body is =
     let same : framed tag 0 body ≡ refusal 0x143 = (bytes_eq-Decides (framed tag 0 body) (refusal 0x143)).0 is in
@@ -136,7 +138,7 @@ asked_draws_none c old buffer locality elapsed random context asked =
     refused_draws_none (ticked old elapsed) random (accepted (ticked old elapsed) buffer locality random)
     (asked_refused _ buffer _ context asked)
 
--- ---- with the layer
+-- ---- with the completing layer
 
 zeros_many : (n : ℕ) (random : List ℕ) → n ≤ length random → length random ≡ 256 → length (zeros_behind n random) ≡ length random
 zeros_many n random few all =
@@ -147,7 +149,7 @@ module _ (c : Completion) (old : Record) (buffer : List ℕ) (locality elapsed :
   abbrev first : Seen
   first = passed c old (Given buffer locality elapsed random)
 
-  -- the number of bytes drawn to load a context, or to refuse it: none that the device did not draw
+  -- Loading a context, or refusing it, draws at most as many random bytes as there are.
   few_content : (content : Result Object ContextFault) → (loaded_behind first content).drawn ≤ length random
   few_content (Ok object) = omega arith
   few_content (Err fault) = few_drawn c old buffer locality elapsed random
@@ -156,7 +158,7 @@ module _ (c : Completion) (old : Record) (buffer : List ℕ) (locality elapsed :
   few_behind (Some context) = few_content (opened_behind first context)
   few_behind None = few_drawn c old buffer locality elapsed random
 
-  -- the device's execution, with the bytes that were drawn in the end
+  -- The device's effect stays the same with zeros after the bytes that the whole command draws.
   first_again : (asked : Option (List ℕ)) → asked_behind first buffer ≡ asked
       → passed c old (Given buffer locality elapsed (zeros_behind (done_behind first buffer asked).drawn random)) ≡ first
   first_again None is = passed_again c old buffer locality elapsed random first.drawn refl all
@@ -179,11 +181,11 @@ module _ (c : Completion) (old : Record) (buffer : List ℕ) (locality elapsed :
 
 -- ---- entries
 
--- the bytes that were drawn, and zeros, as an entry that is performed has them
+-- An entry's padded random bytes are the drawn bytes, followed by zeros.
 padded_is : (n : ℕ) (random : List ℕ) → n ≤ length random → padded (take n random) ≡ zeros_behind n random
 padded_is n random few = ap (λ (m : ℕ). take n random ++ replicate (256 - m) 0) (length-take-le n random few)
 
--- the entry of a command is performed with the effect that the command had
+-- Executing the entry of a command again has the effect that the command had.
 pub performed_again : (s : DeviceState) (c : Command) → length c.random ≡ 256 → performance s (entry_of c (effect s c)) ≡ effect s c
 performed_again s c all =
     let few : (effect s c).drawn ≤ length c.random =

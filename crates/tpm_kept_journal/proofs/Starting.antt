@@ -1,4 +1,4 @@
--- A device that was opened from a text is the one to which the text leads.
+-- Opening a text makes the device that `opened_text` defines.
 use Rattle.std.proofs.Common.{◌≡◌, ◌<◌, ◌+◌, ◌==◌, ◌^◌, ℕ, Bool, true, false, cond, List, [], ◌∷◌, length, drop, Option, Some, None, Result, Ok, Err, refl, subst, sym, ap, ◌∙◌, arith, drop_at, eqb-true}
 use Rattle.std.specs.Prelude.{IfSome}
 use Rattle.tpm_bytes.specs.Reading.{AreBytes}
@@ -41,7 +41,7 @@ use Rattle.tpm_kept_journal.proofs.Heads.{head_starts}
 use Rattle.tpm_kept_journal.proofs.Layers.{IsFine, new_fine}
 use Rattle.tpm_kept_journal.proofs.texts.HeadAt.{no_head}
 
--- ---- what starts is a state of a device
+-- ---- a journal starts in a state that a device can have
 
 pub powered_record : (kept : NonVolatile) → IsNonVolatile kept → IsRecord (powered_on kept)
 powered_record kept is = record {
@@ -61,7 +61,7 @@ powered_record kept is = record {
   restart_count = is.state.restart_count;
 }
 
--- a device with a layer of numbers of 64 bits
+-- A time of 64 bits, a valid layer and a valid record form a state.
 pub device_is : (time : ℕ) (layer : Completion) (device : Record) → time < 2 ^ 64 → IsFine layer → IsRecord device
     → IsDeviceState (record { time = time; layer = layer; device = device })
 device_is time layer device small fine is = record {
@@ -100,7 +100,7 @@ module _ (clock : ℕ) (content : List ℕ) (small : clock < 2 ^ 64) (are : AreB
   starts_whole Image is = by_image (image_of content) refl is
   starts_whole State is = by_state (current_state_of_text content) refl is
 
--- ---- where a text begins with a head
+-- ---- texts that begin with a head
 
 module _ (text : List ℕ) (kind : HeadKind) (clock : ℕ) (content rest : List ℕ) (begins : BeginsWith text kind clock content rest) where
   abbrev head : List ℕ
@@ -115,7 +115,7 @@ module _ (text : List ℕ) (kind : HeadKind) (clock : ℕ) (content rest : List 
   behind found is =
       ap (opened_behind text) (ap started_at begins.is ∙ head_starts head_of_text rest begins.has ∙ is)
 
-  -- and a device starts by it
+  -- If the head starts a device, opening the text executes the rest from it.
   pub opens_by : (start : Start) → start_by kind clock content ≡ Ok start
       → opened_text text ≡ walked (spot_of start.journal start.device) (length head) rest
   opens_by start is =
@@ -126,7 +126,7 @@ module _ (text : List ℕ) (kind : HeadKind) (clock : ℕ) (content rest : List 
   pub opens_not : (why : OpenFault) → start_by kind clock content ≡ Err why → opened_text text ≡ None
   opens_not why is = behind None (ap (spot_by (length head)) is)
 
--- ---- where it does not
+-- ---- texts that do not begin with a head
 
 started_none : (text : List ℕ) → AreBytes text → head_at text ≡ None → started_at text ≡ None
 started_none [] are none = refl
@@ -142,9 +142,9 @@ pub opens_none : (text : List ℕ) → AreBytes text → head_at text ≡ None �
 unfolding opened_text
 opens_none text are none = ap (opened_behind text) (started_none text are none)
 
--- ---- a text that was opened
+-- ---- the result of opening a text
 
--- where its entries were executed with this result
+-- If executing a text's entries had this result, `opened_text` agrees with it.
 read_so : (text : List ℕ) (followed : Followed) (journal : Journal) (new : Record) (reads : Reads text followed journal new)
     → Tells followed.fault (opened_text text) (spot_of journal new) (length (head_text reads.starts.kind reads.starts.clock reads.starts.content) + followed.taken)
 read_so text followed journal new reads =

@@ -1,4 +1,4 @@
--- What the text of a journal says.
+-- Proofs about the contents of a journal's text.
 pub mod Parts
 pub mod EntryAt
 pub mod HeadAt

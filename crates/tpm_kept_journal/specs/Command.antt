@@ -7,15 +7,15 @@ use Rattle.tpm_image_text.specs.declared.fault.Malformed.{Malformed}
 use Rattle.tpm_kept_journal.specs.texts.Parts.{are_bytes}
 
 -- When a command arrives: at this time of the host's clock, or this many milliseconds after the
--- command before it.
+-- previous command.
 pub data Moment : Type 0 where
   At : (now : ℕ) → Moment
   After : (elapsed : ℕ) → Moment
 
--- A command. A command of the standard has its moment, its locality, whether the completing layer
--- is used, 256 random bytes, and its buffer. A power cycle has the host's clock in milliseconds,
--- and a number without effect, since the completing layer keeps its start. A command that replaces
--- the device, for example to restore a snapshot, has a seed.
+-- A command. `Executes`: a command of the standard, with its moment, its locality, whether the
+-- completing layer is used, 256 random bytes, and its buffer. `Cycles`: a power cycle at this time
+-- of the host's clock; `start` has no effect, since the completing layer keeps its start number.
+-- `Begins`: the device is replaced by one with this seed, for example to restore a snapshot.
 pub data KeptCommand : Type 0 where
   Executes : Moment → (locality : ℕ) → (completes : Bool) → (random buffer : List ℕ) → KeptCommand
   Cycles : (now start : ℕ) → KeptCommand
@@ -24,8 +24,8 @@ pub data KeptCommand : Type 0 where
 abbrev pub is_locality : ℕ → Bool
 is_locality number = nat_le number 4
 
--- the command of the standard in a text, after its moment: a byte for the locality, a byte for the
--- layer, the random bytes, and the buffer
+-- the command of the standard that a text encodes, without its moment: a byte for the locality, a
+-- byte for the completing layer, the random bytes, and the buffer
 unfoldable pub executed_in : Moment → List ℕ → Result KeptCommand Malformed
 executed_in moment text = do
   locality ← passing is_locality (number_in w8) text
@@ -33,22 +33,22 @@ executed_in moment text = do
   random ← bytes_in 256 completes.1
   Ok (Executes moment locality.0 completes.0 random.0 random.1)
 
--- the command of the standard at a time of the host's clock, after its kind: eight bytes for the
--- clock, and the rest
+-- a command of kind 0, after the byte for the kind: eight bytes for the host's clock, and the rest
+-- of the command
 unfoldable pub executed_at_in : List ℕ → Result KeptCommand Malformed
 executed_at_in text = do
   now ← number_in w64 text
   executed_in (At now.0) now.1
 
--- the command of the standard a number of milliseconds after the one before it, after its kind:
--- four bytes for this number, and the rest
+-- a command of kind 3, after the byte for the kind: four bytes for the milliseconds since the
+-- previous command, and the rest of the command
 unfoldable pub executed_after_in : List ℕ → Result KeptCommand Malformed
 executed_after_in text = do
   elapsed ← number_in w32 text
   executed_in (After elapsed.0) elapsed.1
 
--- the power cycle in a text, after its kind: eight bytes for the clock, and eight for the number
--- without effect
+-- a power cycle, after the byte for the kind: eight bytes for the host's clock, and eight for the
+-- number that has no effect
 unfoldable pub cycled_in : List ℕ → Result KeptCommand Malformed
 cycled_in text = do
   now ← number_in w64 text
@@ -63,17 +63,17 @@ by_kind kind text =
     else (if kind == 2 then Ok (Begins text)
     else (if kind == 3 then executed_after_in text else Err malformed)))
 
--- the command in a text: a byte for its kind, and the fields of this kind
+-- the command that a text encodes: a byte for its kind, and the fields of this kind
 unfoldable pub command_in : List ℕ → Result KeptCommand Malformed
 command_in text = do
   kind ← number_in w8 text
   by_kind kind.0 kind.1
 
--- the command in a text, whose elements must be bytes
+-- the command that a text encodes; the text must consist of bytes
 unfoldable pub command_of : List ℕ → Result KeptCommand Malformed
 command_of text = if are_bytes text then command_in text else Err malformed
 
--- whether a text is that of a command; and whether it is that of a command that gets an entry
+-- whether a text was read as a command; and whether the command has an entry
 abbrev pub is_command_read : Result KeptCommand Malformed → Bool
 is_command_read (Ok c) = true
 is_command_read (Err why) = false
@@ -82,7 +82,7 @@ abbrev pub is_entered_read : Result KeptCommand Malformed → Bool
 is_entered_read (Ok (Executes moment locality completes random buffer)) = true
 is_entered_read c = false
 
--- A command of the standard arrives from a locality, 0 to 4, and has 256 random bytes.
+-- A command of the standard has a locality from 0 to 4, 256 random bytes, and a buffer of bytes.
 abbrev pub IsGiven : KeptCommand → Type 0
 IsGiven (Executes moment locality completes random buffer) =
     (locality ≤ 4) × (length random ≡ 256) × AreBytes random × AreBytes buffer

@@ -16,30 +16,31 @@ use Rattle.tpm_kept_journal.specs.State.{DeviceState, bytes_of, state_of_bytes}
 
 -- ---- the effect of a command on a state
 
--- the time of the host's clock at a moment, given the time of the command before it; it fits in 64
--- bits
+-- the time on the host's clock when a command arrives; `time` is that of the previous command. It
+-- fits 64 bits
 abbrev pub clock_at : Moment → (time : ℕ) → ℕ
 clock_at (At now) time = now
 clock_at (After elapsed) time = time_after time elapsed
 
--- the command that a device in this state gets in this buffer, at this moment
+-- the command that a device in this state executes when this buffer arrives at this moment
 abbrev pub command_on : DeviceState → Moment → (locality : ℕ) → (completes : Bool)
     → (random buffer : List ℕ) → Command
 command_on s moment locality completes random buffer =
     command_at buffer locality (elapsed_of (clock_at moment s.time) s.time) completes random
 
--- the effect of a command of the standard, with or without the completing layer; no allocation
+-- the effect of a command of the standard, with or without the completing layer, if no allocation
 -- fails
 abbrev pub effect : DeviceState → Command → Seen
 effect s c = completed c.completes s.layer s.device (given c)
 
--- the state after an effect, this many milliseconds later
+-- the state after an effect, when `elapsed` milliseconds have passed
 abbrev pub left_by : DeviceState → (elapsed : ℕ) → Seen → DeviceState
 left_by s elapsed seen =
     record { time = time_after s.time elapsed; layer = seen.layer; device = seen.step.after }
 
 -- the state after a power cycle. The completing layer keeps its start number and its count. It
--- forgets the contexts of the sessions, which end; the contexts of objects end with a TPM Reset
+-- forgets the contexts of all sessions, since the sessions end; the contexts of objects end with a
+-- TPM Reset
 abbrev pub cycled_at : DeviceState → (now : ℕ) → DeviceState
 cycled_at s now =
     let seen : Seen = completed true s.layer s.device Cycled in
@@ -50,8 +51,8 @@ abbrev pub begun_or : Option DeviceState → DeviceState → DeviceState
 begun_or (Some begun) s = begun
 begun_or None s = s
 
--- the state after a command of the standard, a power cycle, or a command that replaces the device;
--- the last one may be refused
+-- the state after a command of the standard, a power cycle, or the replacement of the device. If
+-- the replacement is refused, the state stays the same
 abbrev pub moved : DeviceState → KeptCommand → DeviceState
 moved s (Executes moment locality completes random buffer) =
     let c = command_on s moment locality completes random buffer in
@@ -60,7 +61,7 @@ moved s (Cycles now start) = cycled_at s now
 moved s (Begins seed) = begun_or (begun_in seed) s
 
 -- the report of an effect: the command code in four bytes, the number of the check that refused the
--- command in one, and the number of random bytes that it drew in two
+-- command in one byte, and the number of random bytes drawn in two bytes
 abbrev pub report_of : Seen → List ℕ
 report_of seen =
     to_be_bytes w32 seen.step.row.code ++ (seen.step.row.check ∷ to_be_bytes w16 seen.drawn)
@@ -69,7 +70,7 @@ abbrev pub reported : Seen → List ℕ
 reported seen = report_of seen ++ seen.step.response
 
 -- the response: for a command of the standard, its report and the device's response; for a power
--- cycle, nothing; for a command that replaces the device, a byte, which is 1 if it was replaced
+-- cycle, nothing; for the replacement of the device, one byte, which is 1 if it succeeded
 abbrev pub answer : DeviceState → KeptCommand → List ℕ
 answer s (Executes moment locality completes random buffer) =
     reported (effect s (command_on s moment locality completes random buffer))
@@ -83,10 +84,10 @@ entered s (Executes moment locality completes random buffer) =
     Some (entry_of c (effect s c))
 entered s c = None
 
--- ---- the same effect, on the texts of the state and the command
+-- ---- the effect of a command, as functions of texts
 
--- the result of a function of a state and a command; `other` if one of the texts is not that of a
--- state or a command
+-- the result of a function of the decoded state and command; `other` if either of them was not
+-- decoded
 abbrev pub with_both : {X : Type 0} → Option DeviceState → Result KeptCommand Malformed → (other : X)
     → (DeviceState → KeptCommand → X) → X
 with_both (Some s) (Ok c) other said = said s c
@@ -103,7 +104,8 @@ response_to state command = with_both (state_of_bytes state) (command_of command
 abbrev pub entry_at_spot : Spot → (command : List ℕ) → Option PlainEntry
 entry_at_spot p command = with_both (state_of_bytes p.state) (command_of command) None entered
 
--- the text of an entry, and the sum after it, if there is an entry
+-- the text of an entry, and the checksum after it; without an entry, no text and the checksum
+-- before
 abbrev pub text_if : (sum : ℕ) → Option PlainEntry → List ℕ
 text_if sum (Some e) = entry_text sum e
 text_if sum None = []

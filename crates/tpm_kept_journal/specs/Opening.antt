@@ -1,4 +1,4 @@
--- The device to which the text of a journal leads, when its entries are executed again.
+-- How the text of a journal is opened: its head starts a device, which executes the entries again.
 use Rattle.std.specs.Prelude.{ℕ, zero, suc, ◌+◌, ◌==◌, ◌&&◌, nat_le, Bool, cond, List, [], ◌∷◌, drop, is_some, length, take, Option, Some, None, Result, Ok, Err}
 use Rattle.tpm_completion.specs.Completed.{completed}
 use Rattle.tpm_completion.specs.Execution.{Seen}
@@ -16,13 +16,13 @@ use Rattle.tpm_kept_journal.specs.texts.HeadAt.{PlainHead, head_at, text_of_head
 use Rattle.tpm_kept_journal.specs.texts.NextAt.{Damaged, PlainNext, Torn, Whole, next_at}
 use Rattle.tpm_kept_journal.specs.texts.Parts.{are_bytes, where_so}
 
--- ---- executing entries again
+-- ---- executing the entries again
 
--- the effect of an entry whose command is executed again
+-- the effect of executing an entry's command again
 abbrev pub performance : DeviceState → PlainEntry → Seen
 performance s e = completed e.completes s.layer s.device (event_of e)
 
--- the spot after an entry, if the device's response matches the entry
+-- the position after an entry; None if the device's response does not match the entry
 abbrev pub performed_on : (chain : ℕ) → PlainEntry → Option DeviceState → Option Spot
 performed_on chain e (Some s) =
     where_so (sum_of (performance s e).step.response == e.answered) (record {
@@ -31,8 +31,8 @@ performed_on chain e (Some s) =
     })
 performed_on chain e None = None
 
--- what a text begins with, when it is read at a spot: an entry of this size, after which the device
--- is at another spot; or no further entry; or something that does not continue the journal
+-- The result of reading a text at a position. `Goes`: an entry of this size, and the position after
+-- it. `Ends`: no further whole entry. `Fails`: the text does not continue the journal.
 pub data Found : Type 0 where
   Goes : Spot → (size : ℕ) → Found
   Ends : Found
@@ -51,8 +51,9 @@ found_next p Damaged = Fails
 unfoldable pub found_at : Spot → List ℕ → Found
 found_at p text = found_next p (next_at p.chain text)
 
--- the spot to which a text leads, and the size of the executed text, of which `taken` bytes were
--- executed before; `bound` exceeds the number of entries in the text
+-- the position after the entries of a text, and the size of all executed bytes, `taken` of which
+-- were executed before; None if the text does not continue the journal. `bound` must exceed the
+-- number of entries
 unfoldable pub walk : (bound : ℕ) → Spot → (taken : ℕ) → List ℕ → Option (Spot × ℕ)
 walk zero p taken text = None
 walk (suc bound) p taken text = elim (found_at p text) [
@@ -66,18 +67,18 @@ walked p taken text = walk (suc (length text)) p taken text
 
 -- ---- the heads of journals
 
--- whether a text is that of a state, and fits in a head
+-- whether a text encodes a state, and its state text fits in a head
 unfoldable pub is_state_text : List ℕ → Bool
 is_state_text text =
     are_bytes text
     && (is_some (state_of_bytes text) && nat_le (length (content_in text)) (content_limit State))
 
--- the head for a text that is not that of a state. It contains a number that is not a byte, so no
--- file begins with it. Because of it, laws about heads hold for all lists of numbers.
+-- the head for a text that does not encode a state. It contains a number that is not a byte, so no
+-- file begins with it. Because of this head, laws about heads hold for all lists of numbers.
 abbrev pub no_head : List ℕ → List ℕ
 no_head text = 256 ∷ length text ∷ text
 
--- the head for the text of a state; and its sum
+-- the head for the text of a state; and the checksum after this head
 unfoldable pub head_of : List ℕ → List ℕ
 head_of text =
     cond (is_state_text text) (head_text State (time_in text) (content_in text)) (no_head text)
@@ -85,7 +86,7 @@ head_of text =
 unfoldable pub head_sum_of : List ℕ → ℕ
 head_sum_of text = cond (is_state_text text) (head_sum (time_in text) (content_in text)) 0
 
--- the spot after a head that starts a device, and the size of the head
+-- the position after a head that starts a device, and the size of the head
 abbrev pub spot_by : (size : ℕ) → Result Start OpenFault → Option (Spot × ℕ)
 spot_by size (Ok start) = Some (spot_of start.journal start.device, size)
 spot_by size (Err why) = None
@@ -98,14 +99,14 @@ abbrev pub started_no_head : (count : ℕ) → List ℕ → Option (Spot × ℕ)
 started_no_head count text =
     where_so (nat_le count (length text)) (record { state = take count text; chain = 0 }, 2 + count)
 
--- the spot after the head at the start of a text, and the size of the head
+-- the position after the head at the start of a text, and the size of the head
 abbrev pub started_at : List ℕ → Option (Spot × ℕ)
 started_at [] = None
 started_at (first ∷ []) = None
 started_at (first ∷ second ∷ text) =
     cond (first == 256) (started_no_head second text) (started_by (head_at (first ∷ second ∷ text)))
 
--- the spot after a text that consists of exactly one head
+-- the position after a text that consists of exactly one head
 abbrev pub whole_head : (size : ℕ) → Option (Spot × ℕ) → Option Spot
 whole_head size (Some found) = where_so (found.1 == size) found.0
 whole_head size None = None

@@ -7,11 +7,11 @@ use Rattle.tpm_kept_journal.specs.Opening.{opened_text}
 use Rattle.tpm_kept_journal.specs.texts.EntriesAt.{entries_at}
 use Rattle.tpm_kept_journal.specs.texts.HeadAt.{PlainHead, head_at, text_of_head}
 
--- the size of the entries at the start of a text; `sum` is the sum of the marks before them
+-- the size of the entries at the start of a text; `sum` is the checksum of the marks before them
 abbrev pub entries_size : (sum : ℕ) → List ℕ → ℕ
 entries_size sum text = length (entries_text sum (entries_at sum text))
 
--- the size of a head and of the entries after it; 0 without a head
+-- the size of a head and of the entries after it; 0 if there is no head
 abbrev pub size_with : Option PlainHead → List ℕ → ℕ
 size_with (Some h) text =
     let size = length (text_of_head h) in
@@ -22,7 +22,7 @@ size_with None text = 0
 unfoldable pub whole_size : List ℕ → ℕ
 whole_size text = size_with (head_at text) text
 
--- the spot to which the intact part leads, and the size of that part. There is no spot if the text
--- has no head that starts a device, or if the device's response differs from an entry.
+-- the position after the intact part of a text, and the size of this part; None if the text has no
+-- head that starts a device, or if the device's response differs from an entry
 unfoldable pub salvaged_text : List ℕ → Option (Spot × ℕ)
 salvaged_text text = opened_text (take (whole_size text) text)

@@ -17,9 +17,9 @@ use Rattle.tpm_state_text.specs.declared.fault.StateFault.{StateFault}
 use Rattle.tpm_state_text.specs.declared.layer.Layer.{Layer}
 use Rattle.tpm_kept_journal.specs.State.{DeviceState}
 
--- a seed: its kind; the host's clock in milliseconds; a number for the start of the completing
--- layer, which no earlier start had; and its content: random bytes (kind 0), an image (1) or a
--- state text (2)
+-- a seed: its kind; the host's clock in milliseconds; a start number for the completing layer,
+-- which no earlier layer had; and its content: random bytes (kind 0), an image (1) or a state text
+-- (2)
 pub record Seed : Type 0 where
   pub kind : ℕ
   pub now : ℕ
@@ -35,7 +35,7 @@ seed_in text = do
   start ← number_in w64 now.1
   Ok (record { kind = kind.0; now = now.0; start = start.0; content = start.1 })
 
--- the state of a device whose completing layer restarts
+-- the state of this device with a new completing layer
 abbrev pub started_anew : Seed → Record → DeviceState
 started_anew seed device =
     record { time = seed.now; layer = new_completion seed.start; device = device }
@@ -45,7 +45,7 @@ abbrev pub state_made : Seed → Option DeviceState
 state_made seed =
     if length seed.content == 256 then Some (started_anew seed (manufactured seed.content)) else None
 
--- the device of an image, as after a power cycle
+-- the device that an image contains, after a power cycle
 abbrev pub state_opened : Seed → Result NonVolatile ImageFault → Option DeviceState
 state_opened seed (Ok kept) = Some (started_anew seed (powered_on kept))
 state_opened seed (Err why) = None
@@ -57,7 +57,7 @@ abbrev pub layer_restored : (start : ℕ) → Option Layer → Completion
 layer_restored start (Some layer) = record (completion_of (Some layer)) { start = start }
 layer_restored start None = new_completion start
 
--- the device of a state text, with the layer that the text contains, if any
+-- the device that a state text contains, with the text's layer, or a new one if the text has none
 abbrev pub state_restored : Seed → Result WholeState StateFault → Option DeviceState
 state_restored seed (Ok whole) = Some (record {
   time = seed.now;

@@ -23,8 +23,7 @@ pub record DeviceState : Type 0 where
 abbrev pub whole_of : DeviceState → WholeState
 whole_of s = record { device = s.device; layer = Some (layer_of s.layer) }
 
--- The state is one that a device can have: its parts have the sizes and fit the integer types of a
--- device.
+-- A state that a device can have: each of its parts has the right size and fits its integer type.
 pub record IsDeviceState (s : DeviceState) : Type 0 where
   pub time : s.time < 2 ^ 64
   pub whole : IsWholeState (whole_of s)
@@ -33,7 +32,7 @@ pub record IsDeviceState (s : DeviceState) : Type 0 where
 unfoldable pub bytes_of : DeviceState → List ℕ
 bytes_of s = to_be_bytes w64 s.time ++ state_text (whole_of s)
 
--- the state in a text; None if the state text has no layer
+-- the state with this time, device and layer; None if there is no layer
 abbrev pub state_with : (time : ℕ) → Record → Option Layer → Option DeviceState
 state_with time device (Some layer) =
     Some (record { time = time; layer = completion_of (Some layer); device = device })
@@ -43,7 +42,7 @@ abbrev pub state_by : (time : ℕ) → Result WholeState StateFault → Option D
 state_by time (Ok whole) = state_with time whole.device whole.layer
 state_by time (Err why) = None
 
--- the time in the text of a state; and the state text in it
+-- the two parts of a state's text: the time, and the state text
 abbrev pub time_in : List ℕ → ℕ
 time_in text = from_be_bytes w64 (take 8 text)
 
@@ -53,7 +52,8 @@ content_in text = drop 8 text
 unfoldable pub state_of_bytes : List ℕ → Option DeviceState
 state_of_bytes text = state_by (time_in text) (current_state_of_text (content_in text))
 
--- the state of a device with this journal; and its spot, which also contains the sum of the journal
+-- the state of a device with this journal; and its position in the journal, which is the state and
+-- the journal's checksum
 abbrev pub state_in : Journal → Record → DeviceState
 state_in journal device =
     record { time = journal.time; layer = journal.layer; device = device }

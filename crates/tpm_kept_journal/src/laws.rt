@@ -23,9 +23,9 @@ pub fn device_journal_laws()
     ensures { IsJournal device_journal }
 {}
 
-/// The text of a state that a device can have determines this state. A journal in this state begins
-/// with the head that contains the state text. The other heads of `device_journal` belong to texts
-/// that are not those of a state.
+/// The text of a state that a device can have determines this state. A journal that begins in this
+/// state begins with the head that contains the state text. The other heads of `device_journal`
+/// belong to texts that do not encode a state.
 #[inline(always)]
 #[tactic(auto, using(crate::proofs::States::state_told, crate::proofs::Shown::head_shown))]
 pub fn device_state_laws()
@@ -34,9 +34,9 @@ pub fn device_state_laws()
         → head_text State s.time (state_text (whole_of s)) ≡ head_of (bytes_of s) }
 {}
 
-/// The completing layer of a device that begins has the start of the seed, also if the device is
-/// restored from a state text with a layer. So the contexts that were made before do not load. A
-/// proof only: it has no effect at run time.
+/// A new device's completing layer gets its start number from the seed, even if the device is
+/// restored from a state text that contains a layer. Therefore, contexts that were made before do
+/// not load. This is a proof only: it has no effect at run time.
 #[inline(always)]
 #[tactic(auto, using(crate::proofs::Beginning::begins_with))]
 pub fn start_laws()
@@ -44,8 +44,7 @@ pub fn start_laws()
         → s.layer.start ≡ seed.start }
 {}
 
-/// The device that is salvaged from a text of bytes is that of the longest prefix that opens as a
-/// journal.
+/// Salvaging a text of bytes makes the device of the longest prefix that opens as a journal.
 #[inline(always)]
 #[tactic(auto, using(crate::proofs::Salvaging::salvages, crate::proofs::Longest::longest))]
 pub fn salvage_laws()

@@ -5,9 +5,9 @@
 //! `specs/DeviceJournal` defines the journal, as functions of texts. A state is a text that
 //! contains everything about the device and its completing layer. A command is a text that contains
 //! everything on which its effect depends: what the client sent, when the command arrives, and
-//! random bytes. A power cycle is also a command, and so is the restoring of a snapshot. [`laws`]
-//! says that this journal satisfies what a keeper requires. [`text_laws`] says what can be read
-//! from the text of a journal.
+//! random bytes. Power cycles and restoring a snapshot are also commands. [`laws`] says that this
+//! journal satisfies what a keeper requires. [`text_laws`] says what can be read from the text of a
+//! journal.
 
 pub mod laws;
 pub mod text_laws;

@@ -43,7 +43,7 @@ pub fn head_at_laws()
         → head_at text ≡ None }
 {}
 
-/// The test for torn texts holds for exactly the texts that are torn.
+/// `is_torn_text` is true exactly for the texts that are torn.
 #[inline(always)]
 pub fn torn_text_laws()
     ensures { (sum : ℕ) (text : List ℕ) → Decides (is_torn_text sum text) (IsTorn sum text) }
@@ -73,8 +73,8 @@ pub fn next_laws()
         → (entry_at sum text ≡ None) × (is_torn_text sum text ≡ false) }
 {}
 
-/// What a crash leaves of an entry is torn: nothing; a prefix of the entry; or a prefix of an
-/// earlier torn text, followed by zeros.
+/// The remains of an entry after a crash are torn: nothing; a proper prefix of the entry; or a
+/// prefix of an earlier torn text, followed by zeros.
 #[inline(always)]
 pub fn litter_laws()
     ensures nothing { (sum : ℕ) → is_torn_text sum [] ≡ true }
@@ -86,8 +86,8 @@ pub fn litter_laws()
     ensures clean { is_litter [] ≡ true }
 {}
 
-/// The entries at the start of a text are exactly those whose texts the text begins with; no
-/// further entry follows them.
+/// `entries_at` returns the entries with which a text begins, one after another. The text after
+/// them does not begin with a further entry.
 #[inline(always)]
 pub fn entries_at_laws()
     ensures written { (sum : ℕ) (entries : List PlainEntry) (rest : List ℕ)
@@ -103,8 +103,8 @@ pub fn entries_at_laws()
         ≡ entries ++ entries_at (sum_after_all sum entries) rest }
 {}
 
-/// A journal starts with the head at the beginning of its text, or does not start because of the
-/// fault that is found.
+/// If a text starts a journal, `start_at` returns the start that its head determines. If it does
+/// not, `start_at` returns the fault that prevents it.
 #[inline(always)]
 pub fn start_at_laws()
     ensures starts { (text : List ℕ) (start : Start) (rest : List ℕ)

@@ -1,5 +1,5 @@
-//! The faults of a kept device: each concerns a place in the device's folder, and says what is
-//! wrong with it.
+//! The faults of a kept device: each concerns a file or the device's folder, and says what is wrong
+//! with it.
 
 ghost use Rattle.std.specs.Prelude.{◌≡◌, None};
 ghost use Rattle.tpm_keeping.specs.declared.holder.Fault.TheVariants.{Memory};
@@ -10,7 +10,7 @@ use std::alloc::AllocError;
 use std::fmt;
 use tpm_keeping::holder::Fault;
 
-/// The place that a fault concerns.
+/// The file or folder that a fault concerns.
 #[derive(Clone, Copy, PartialEq, Eq)]
 pub enum Place {
     Folder,
@@ -22,7 +22,7 @@ pub enum Place {
     Lock,
 }
 
-/// What is wrong with the place that a fault concerns.
+/// What is wrong with the file or folder that a fault concerns.
 #[derive(Clone, Copy, PartialEq, Eq)]
 pub enum Said {
     IsLink,
@@ -51,10 +51,10 @@ pub enum Said {
     HoldsNoImage,
     /// The head's state text is not a state text of this version of the program.
     HoldsNoState,
-    /// The head's state text is one of an earlier version, in which flushed objects could wait.
+    /// The head's state text has an earlier version, which could contain flushed objects.
     HoldsEarlierState,
     WasAnsweredOtherwise,
-    /// The keeper has this fault.
+    /// The keeper reported this fault.
     Keeper(Fault),
 }
 
@@ -81,7 +81,7 @@ impl Place {
         }
     }
 
-    /// Returns the fault that says this about the place, without a system error.
+    /// Returns this fault of the place, without an error of the system.
     pub fn that(self, said: Said) -> KeptFault
         ensures { result ≡ record { place = self; said = said; error = None } }
     {
@@ -94,7 +94,7 @@ impl Place {
 }
 
 impl Said {
-    /// An allocation failed.
+    /// Returns the fault of a failed allocation.
     pub fn memory() -> Said
         ensures { result ≡ Keeper Memory }
     {
@@ -139,7 +139,7 @@ impl Said {
         }
     }
 
-    /// Whether the fault is in the journal's contents, and not in the system.
+    /// Checks whether the fault is in the journal's contents, and not in the system.
     pub fn is_of_contents(self) -> bool
         ensures { result ≡ is_of_contents self }
     {

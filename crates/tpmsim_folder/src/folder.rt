@@ -21,7 +21,7 @@ pub struct Identity {
     inode: u64,
 }
 
-/// The identity of the file with this metadata.
+/// Returns the identity of the file with this metadata.
 pub fn identity_of(metadata: &Metadata) -> Identity {
     Identity {
         device: metadata.dev(),
@@ -36,7 +36,7 @@ pub struct OpenedFile {
     pub identity: Identity,
 }
 
-/// A folder, and the paths in it.
+/// A folder, and the paths of its files.
 #[derive(Drop)]
 pub struct Folder {
     path: String,
@@ -48,7 +48,7 @@ pub struct Folder {
     user: u32,
     /// Whether this process created the folder.
     was_made: bool,
-    /// Whether this process has synced the folder's own name to the disk, or may not.
+    /// Whether this process has synced the folder's own name to the disk, or is not allowed to.
     is_named: bool,
 }
 
@@ -158,7 +158,7 @@ impl Folder {
     }
 }
 
-/// Returns the fault of an error: memory ran out, or else the given fault of the place.
+/// Returns the fault for a system error: `Memory` if memory ran out, and otherwise `said`.
 pub fn fault_of(error: &io::Error, place: Place, said: Said) -> KeptFault {
     let said = match error.kind() {
         ErrorKind::OutOfMemory => Said::memory(),
@@ -198,7 +198,7 @@ fn make(rt: &HostRuntime, path: &str) -> Result<bool, KeptFault> {
     }
 }
 
-/// Returns the paths of a folder.
+/// Returns the folder with the paths of its files.
 fn paths_of(rt: &HostRuntime, path: &str, user: u32, was_made: bool) -> io::Result<Folder> {
     Ok(Folder {
         path: String::from_str(rt.alloc(), path)?,

@@ -30,8 +30,8 @@ pub struct Host<'a> {
 
 impl<'a> Host<'a> {
     /// Returns the host for the folder at a path. If the folder is missing and `makes` is true,
-    /// creates it. Opens no file in the folder yet. At each new journal, at most `past` finished
-    /// ones stay.
+    /// creates it. Opens no file in the folder yet. Whenever a new journal replaces the old one, at
+    /// most `past` finished journals stay.
     pub fn at(
         rt: &'a HostRuntime,
         path: &str,
@@ -49,7 +49,7 @@ impl<'a> Host<'a> {
         })
     }
 
-    /// Whether the folder contains a journal.
+    /// Checks whether the folder contains a journal.
     pub fn is_there(&self) -> Result<bool, KeptFault> {
         Ok(self.folder.look(self.rt, Place::Journal)?.is_some())
     }
@@ -64,8 +64,8 @@ impl<'a> Host<'a> {
         self.lock.give();
     }
 
-    /// Opens the file that is named journal, unless it is already open, and returns its number and
-    /// its size.
+    /// Opens the file that is named `journal`, unless it is already open, and returns its number
+    /// and its size.
     pub fn look(&mut self) -> Result<Got<'static>, KeptFault> {
         let Some(metadata) = self.folder.look(self.rt, Place::Journal)? else {
             return Ok(Got::Gone);
@@ -80,7 +80,7 @@ impl<'a> Host<'a> {
         })
     }
 
-    /// Whether the open journal is the file with this metadata.
+    /// Checks whether the open journal is the file with this metadata.
     fn is_open(&self, metadata: &Metadata) -> bool {
         match &self.journal {
             Some(opened) => opened.identity == identity_of(metadata),
@@ -153,8 +153,8 @@ impl<'a> Host<'a> {
         }
     }
 
-    /// Creates a new journal with this text, and syncs it to the disk. A new journal that a killed
-    /// process left is removed first; if writing fails, this one is removed too.
+    /// Creates a new journal with this text, and syncs it to the disk. Before that, removes a new
+    /// journal that a killed process left. If writing fails, removes the created file too.
     pub fn make(&mut self, text: &[u8]) -> Result<(), KeptFault> {
         if self.folder.look(self.rt, Place::NewJournal)?.is_some() {
             self.remove_new();

@@ -2,8 +2,8 @@
 
 //! The folder of a kept device: its paths and the files that may be at them ([`standing`]), the
 //! files that are opened and created in it ([`folder`]), the finished journals that stay in it
-//! ([`past`]), its lock ([`lock`]), the tasks of a keeper's host there ([`host`]), the host's clock
-//! and random numbers ([`moment`]), and the faults of each place ([`fault`]).
+//! ([`past`]), its lock ([`lock`]), the tasks of a keeper's host in it ([`host`]), the host's clock
+//! and random numbers ([`moment`]), and the possible faults ([`fault`]).
 //!
 //! The crate does not depend on a TPM. Contracts say which kinds of files and which owners are
 //! refused, and define the text of each fault. No contract can define the contents of a file.

@@ -13,7 +13,7 @@ pub struct Lock {
 }
 
 impl Lock {
-    /// A lock whose file is not open yet.
+    /// Returns a lock whose file is not open yet.
     pub fn new() -> Lock {
         Lock { opened: None }
     }
@@ -61,7 +61,7 @@ fn open(rt: &HostRuntime, folder: &Folder) -> Result<OpenedFile, KeptFault> {
     folder.open_file(rt, Place::Lock)
 }
 
-/// Whether the open file is still the file at the lock's path.
+/// Checks whether the open file is still the file at the lock's path.
 fn stands(rt: &HostRuntime, folder: &Folder, opened: &OpenedFile) -> Result<bool, KeptFault> {
     match folder.look(rt, Place::Lock)? {
         Some(metadata) => Ok(identity_of(&metadata) == opened.identity),

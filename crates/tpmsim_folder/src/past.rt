@@ -27,8 +27,8 @@ pub(crate) fn keep_past(rt: &HostRuntime, folder: &Folder, count: u32) -> Result
     }
 }
 
-/// Whether there is a journal that is not yet linked as journal.1. A process may have been killed
-/// after it linked the journal.
+/// Checks whether there is a journal that is not yet linked as journal.1. A process may have been
+/// killed after it linked the journal.
 fn is_unlinked(rt: &HostRuntime, folder: &Folder) -> Result<bool, KeptFault> {
     let Some(journal) = folder.look(rt, Place::Journal)? else {
         return Ok(false);

@@ -46,7 +46,7 @@ BeginsIfRoom before now room size after =
     (size ≤ room → BeginsJournal before now after) × (room < size → IsAsBefore before after)
 
 -- the clock of a checkpoint at this time: the journal's clock, so that no time is lost; or the
--- host's if no journal has been started yet (its sum is then 0)
+-- host's if no journal has been started yet (its checksum is then 0)
 abbrev pub checkpoint_clock : Device → (now : ℕ) → ℕ
 checkpoint_clock device now = if device.journal.sum == 0 then now else device.journal.time
 
@@ -67,12 +67,13 @@ pub record Checkpoints (before : Device) (now : ℕ) (after : Device) : Type 0 w
       ≡ Ok (record { journal = after.journal; device = record_of after })
 
 -- If the head fits in the buffer, the device's journal restarts with a checkpoint; otherwise the
--- journal is unchanged.
+-- device and its journal are unchanged.
 abbrev pub CheckpointsIfFits : (before : Device) → (now space size : ℕ) → (after : Device) → Type 0
 CheckpointsIfFits before now space size after =
     (size ≤ space → Checkpoints before now after) × (space < size → IsAsBefore before after)
 
--- the command that a device gets in a buffer at this clock, with or without the completing layer
+-- the command that a device executes when this buffer arrives at this time, with or without the
+-- completing layer
 abbrev pub command_by : Device → (buffer : List ℕ) → (locality now : ℕ) → (completes : Bool)
     → (random : List ℕ) → Command
 command_by device buffer locality now completes random =
@@ -86,7 +87,7 @@ seen_in room answered after = record {
   drawn = answered.drawn;
 }
 
--- a journal with its layer replaced; its sum and time are unchanged
+-- a journal with its layer replaced; its checksum and time are unchanged
 abbrev pub journal_with : Journal → Completion → Journal
 journal_with journal layer = record journal { layer = layer }
 

@@ -22,7 +22,7 @@ use Rattle.tpmsim_library.specs.declared.device.Answered.{Answered}
 use Rattle.tpmsim_library.specs.declared.keeper.DeviceKeeper.{DeviceKeeper}
 use Rattle.tpmsim_library.specs.declared.request.Request.{Request}
 
--- the state of a keeper in the definitions of tpm_keeping: with the call that it restarts after a
+-- the state of a keeper in the definitions of tpm_keeping: with the call that begins again after a
 -- cut; and without that call
 abbrev pub call_of : DeviceKeeper → Caller
 call_of keeper = caller_of (λ device. spot_in device.parts.value) keeper.keeper
@@ -68,7 +68,7 @@ end_number (ending.Failed fault.NoCommand) = 12
 end_number (ending.Failed fault.Damaged) = 13
 end_number (ending.Failed fault.Memory) = 14
 
--- the fault with this number, and the sentence that describes it
+-- the fault with this number, and its message
 abbrev pub fault_of : ℕ → Option Fault
 fault_of number =
     if number == 1 then Some fault.Idle
@@ -114,7 +114,7 @@ abbrev pub drops_damage : Job → Bool
 drops_damage Cut = true
 drops_damage job = false
 
--- the response that may be sent: if the job executed a command; and if the job showed the state
+-- the response that may be sent if the job executed a command; and if the job returned the state
 -- text
 abbrev pub if_executed : Job → List ℕ → List ℕ
 if_executed Execute response = response
@@ -130,7 +130,7 @@ executed_by keeper = if_executed (view_of keeper).job (response_of (view_of keep
 abbrev pub shown_by : DeviceKeeper → List ℕ
 shown_by keeper = if_shown (view_of keeper).job (response_of (view_of keeper))
 
--- the content of the head at the start of a text; empty without a head
+-- the content of the head at the start of a text; empty if there is no head
 abbrev pub content_of : Option PlainHead → List ℕ
 content_of (Some h) = h.content
 content_of None = []
@@ -153,7 +153,7 @@ abbrev pub number_of : Bool → ℕ
 number_of true = 1
 number_of false = 0
 
--- the request for what a keeper asks, with the size of the text to write, or of the response, and
+-- the request for a keeper's task, with the size of the text to write or of the response, and
 -- whether a new journal drops damage
 abbrev pub request_by : Ask → (drops : Bool) → (text response : ℕ) → Request
 request_by (ask.Nothing end) drops text response =
@@ -174,12 +174,12 @@ abbrev pub request_of : Holder → Request
 request_of k =
     request_by (ask_of k) (drops_damage k.job) (length (text_of k)) (length (response_of k))
 
--- the request if there is no keeper: no task, and the fault that says so
+-- the request if there is no keeper: no task, and a fault that reports this
 abbrev pub no_request : Request
 no_request = record (task_of 0) { fault = 15 }
 
--- what the host reports with this number. 0 reports success: Look and Name return the file, and
--- Read returns its bytes.
+-- the host's report that it did its task: for Look and Name, it includes the file, and for Read,
+-- the bytes
 abbrev pub did : Ask → (file size : ℕ) → List ℕ → Told
 did ask.Look file size bytes = Stands file size
 did ask.Name file size bytes = Stands file size

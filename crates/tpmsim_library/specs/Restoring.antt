@@ -14,7 +14,7 @@ use Rattle.tpmsim_library.specs.declared.device.Device.{Device}
 abbrev pub journal_restored : Option Layer → Journal
 journal_restored layer = record { sum = 0; time = 0; layer = completion_of layer }
 
--- The state of a device is that of a text.
+-- The device has the state in a text, and a journal that is not started yet.
 abbrev pub IsOfState : List ℕ → Device → Type 0
 IsOfState text device =
     (layer : Option Layer) × (state_of_text text ≡ Ok (state_of (record_of device) layer))

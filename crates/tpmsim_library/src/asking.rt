@@ -1,4 +1,4 @@
-//! The exports by which C begins a keeper's calls, and reads its answers. A host encodes no text
+//! The exports with which C begins a keeper's calls and reads its answers. A host encodes no text
 //! itself: `tpm_kept_device::writing` writes the texts of commands and seeds.
 
 ghost use Rattle.std.specs.Prelude.{◌≡◌, ◌≢◌, ◌<◌, ◌==◌, ◌∷◌, Ok, Err, drop, not, true};
@@ -87,7 +87,7 @@ pub extern "C" fn tpmsim_keeper_power(
     }
 }
 
-/// Begins the call that opens the device, or makes one with a seed if there is none. On failure
+/// Begins the call that opens the device, or creates one with a seed if there is none. On failure
 /// nothing changes.
 #[unsafe(no_mangle)]
 pub extern "C" fn tpmsim_keeper_seed(
@@ -118,8 +118,8 @@ pub extern "C" fn tpmsim_keeper_seed(
     }
 }
 
-/// Begins the restoring of a state text. Since the state replaces the device, damage in the old
-/// journal is cut. On failure nothing changes.
+/// Begins to restore a state text. Since the state replaces the device, damage in the old journal
+/// is cut. On failure nothing changes.
 #[unsafe(no_mangle)]
 pub extern "C" fn tpmsim_keeper_restore(
     alloc: Global,
@@ -186,8 +186,8 @@ pub extern "C" fn tpmsim_keeper_answer(
     }
 }
 
-/// Writes the state text that a keeper shows to the start of a buffer, if it fits. Returns its
-/// size; 0 if there is no keeper, or if the latest call is not done or showed no state text.
+/// Writes the state text from the latest call to the start of a buffer, if it fits. Returns its
+/// size; 0 if there is no keeper, or if that call is not done or returned no state text.
 #[unsafe(no_mangle)]
 pub extern "C" fn tpmsim_keeper_state(
     alloc: Global,

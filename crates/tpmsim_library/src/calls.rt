@@ -1,5 +1,5 @@
-//! The exports on a device: its execution of events, and its image. A call takes the device out of
-//! its holder, uses it, and puts it back, which moves only a pointer.
+//! The exports that execute events on a device, and that save and open its image. A call takes the
+//! device out of its holder, uses it, and puts it back, which moves only a pointer.
 
 ghost use Rattle.std.specs.Prelude.{◌≡◌, ◌≢◌, ◌<◌, ◌∷◌, [], drop, false, true};
 ghost use Rattle.std.specs.Option.{MatchOption};
@@ -33,7 +33,7 @@ use std::alloc::Global;
 use tpm_step::Event;
 use tpm_types::Locality;
 
-/// The version as one number: 65,536 times major, plus 256 times minor, plus patch.
+/// Returns the version as one number: 65,536 times major, plus 256 times minor, plus patch.
 #[unsafe(no_mangle)]
 pub extern "C" fn tpmsim_version() -> u32
     ensures { result ≡ version_number 0 1 0 }
@@ -59,7 +59,7 @@ pub extern "C" fn tpmsim_manufacture(alloc: Global, holder: &mut Holder, random:
 }
 
 /// Executes a command, and writes its response to the start of a buffer. Returns NO_LOCALITY if the
-/// locality is not 0 to 4, and NO_DEVICE if the holder is empty. In both cases nothing is written.
+/// locality is above 4, and NO_DEVICE if the holder is empty. In both cases nothing is written.
 #[unsafe(no_mangle)]
 pub extern "C" fn tpmsim_execute(
     alloc: Global,
@@ -151,8 +151,8 @@ pub extern "C" fn tpmsim_kept(alloc: Global, holder: &mut Holder, room: &mut [u8
     size
 }
 
-/// Replaces the holder's device by the device of an image, as after a power cycle. On failure,
-/// returns the number of the first error, or NO_MEMORY, and leaves the holder unchanged.
+/// Replaces the holder's device by the device of an image, after a power cycle. On failure, returns
+/// the number of the first error, or NO_MEMORY, and leaves the holder unchanged.
 #[unsafe(no_mangle)]
 pub extern "C" fn tpmsim_open(alloc: Global, holder: &mut Holder, image: &[u8]) -> u8
     ensures opens { (opened : Result Device Fault) × Opens record_of true image.now opened

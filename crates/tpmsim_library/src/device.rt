@@ -60,7 +60,7 @@ pub struct Device {
 pub struct Answered {
     /// The size of the response.
     pub size: usize,
-    /// The number of random bytes used, counted from the first.
+    /// The number of random bytes that the command used, from the first one on.
     pub drawn: usize,
     /// The command code; 0 if none was found.
     pub code: u32,
@@ -69,8 +69,8 @@ pub struct Answered {
 }
 
 impl Device {
-    /// A new device without a journal; these random bytes become its secrets. None if an allocation
-    /// fails.
+    /// Creates a new device without a journal, whose secrets are these random bytes. None if an
+    /// allocation fails.
     pub fn manufacture(alloc: Global, random: &[u8; 256]) -> Option<Box<Device>>
         ensures state { IfSome result (λ b. record_of b.value ≡ manufactured random.now) }
         ensures history { IfSome result (λ b. Follows (record_of b.value) []) }
@@ -91,8 +91,8 @@ impl Device {
         }
     }
 
-    /// The device of an image, or the first error; NoMemory if the text is an image and an
-    /// allocation fails.
+    /// Opens the device of an image, or returns the first error; NoMemory if the text is an image
+    /// and an allocation fails.
     pub fn open(alloc: Global, image: &[u8]) -> Result<Box<Device>, ImageFault>
         ensures exact { Opens (λ b. record_of b.value) true image.now result }
         ensures history { (version : Version) (r : Record) (history : History) → IsRecord r
@@ -178,8 +178,8 @@ impl Device {
             .snapshot_into(&self.machine, Some(&layer), buffer)
     }
 
-    /// The device of a state text, or the first error in the text; NoMemory if an allocation fails,
-    /// whatever the text is.
+    /// Restores the device of a state text, or returns the first error in the text; NoMemory if an
+    /// allocation fails, for any text.
     pub fn restored(alloc: Global, text: &[u8]) -> Result<Box<Device>, RestoreFault>
         ensures { RestoresDevice (λ b. b.value) text.now result }
     {
@@ -216,8 +216,8 @@ impl Device {
             .begin(&mut self.machine, now_ms, &mut self.outcome, room)
     }
 
-    /// The clock of a checkpoint at this time: the journal's clock, or the host's if no journal has
-    /// been started yet.
+    /// Returns the clock for a checkpoint at this time: the journal's clock, or the host's if no
+    /// journal has been started yet.
     fn checkpoint_clock(&self, now_ms: u64) -> u64
         ensures { result ≡ checkpoint_clock self.now now_ms }
     {
@@ -239,8 +239,8 @@ impl Device {
         self.journal.checkpoint(&self.machine, clock_ms, buffer)
     }
 
-    /// The device of a journal, and the size of the head and the entries in the text; or the first
-    /// error. None if an allocation fails.
+    /// Opens the device of a journal, and reports the size of the head and the entries in the text;
+    /// or returns the first error. None if an allocation fails.
     pub fn open_journal(
         alloc: Global,
         text: &[u8],
@@ -313,7 +313,7 @@ impl Device {
     }
 }
 
-/// Writes a response to the start of a buffer, and returns the other data for its caller.
+/// Writes a response to the start of a buffer, and returns the other data about the command.
 fn tell(outcome: &Outcome, drawn: usize, response: &mut [u8; 4096]) -> Answered
     ensures front { take result.size response.new ≡ outcome.now.response.items }
     ensures rest { drop result.size response.new ≡ drop result.size response.old }

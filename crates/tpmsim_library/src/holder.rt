@@ -30,7 +30,7 @@ impl Model for Holder {
 }
 
 impl Holder {
-    /// A holder with the pointer of this owner.
+    /// Converts an owner to a holder with the same pointer.
     pub fn of(owner: Owner<Device>) -> Holder
         ensures { result.device ≡ owner.value }
     {
@@ -41,7 +41,7 @@ impl Holder {
         }
     }
 
-    /// An owner with the pointer of this holder.
+    /// Converts the holder to an owner with the same pointer.
     pub fn into_owner(self) -> Owner<Device>
         ensures { result.value ≡ self.device }
     {
@@ -71,5 +71,5 @@ impl Holder {
     }
 }
 
-/// The device may be used and freed in another thread than the one that made it.
+/// The device may be used and freed by another thread than the one that created it.
 unsafe impl Send for Holder {}

@@ -32,7 +32,7 @@ pub struct DeviceKeeper {
 }
 
 impl DeviceKeeper {
-    /// A keeper before its first call, which refuses a damaged journal.
+    /// Creates a keeper that refuses a damaged journal.
     pub fn new(alloc: Global, force: Force, limit: u64) -> DeviceKeeper
         ensures made { call_of result ≡ idle (newborn force limit) }
         ensures cuts { result.cuts ≡ false }
@@ -43,7 +43,7 @@ impl DeviceKeeper {
         }
     }
 
-    /// Sets whether later calls cut damage in the journal, or refuse it.
+    /// Sets whether later calls cut damage in the journal, or refuse a damaged journal.
     pub fn set_cuts(&mut self, cuts: bool)
         ensures { self.new ≡ record self.old { cuts = cuts } }
     {
@@ -82,8 +82,7 @@ impl DeviceKeeper {
         self.keeper.begin(self.cuts, Job::Execute, text)
     }
 
-    /// Begins a power cycle at this time of the host's clock. The completing layer starts with the
-    /// number `start`.
+    /// Begins a power cycle at this time of the host's clock. The number `start` has no effect.
     pub fn cycle_power(&mut self, alloc: Global, now_ms: u64, start: u64) -> Result<(), Exhausted>
         ensures ok { OnOk result (Begins self.old.cuts Execute (cycle_text now_ms start)
             self.old self.new) }
@@ -95,7 +94,7 @@ impl DeviceKeeper {
         self.keeper.begin(self.cuts, Job::Execute, text)
     }
 
-    /// Begins the call that opens the device, or makes one with a seed if there is none.
+    /// Begins the call that opens the device, or creates one with a seed if there is none.
     pub fn begin_device(
         &mut self,
         alloc: Global,
@@ -114,7 +113,7 @@ impl DeviceKeeper {
         self.keeper.begin(self.cuts, Job::Begin, text)
     }
 
-    /// Begins the restoring of a state text. Since the state replaces the device, damage in the old
+    /// Begins to restore a state text. Since the state replaces the device, damage in the old
     /// journal is cut.
     pub fn restore(
         &mut self,
@@ -136,7 +135,7 @@ impl DeviceKeeper {
         self.keeper.begin(true, Job::Execute, text)
     }
 
-    /// The text that the host must write.
+    /// Returns the text that the host must write.
     fn text(&self) -> &[u8]
         ensures { result.now ≡ text_of (view_of self.now) }
     {
@@ -146,7 +145,7 @@ impl DeviceKeeper {
         }
     }
 
-    /// The response that may be sent.
+    /// Returns the response that may be sent.
     fn response(&self) -> &[u8]
         ensures { result.now ≡ response_of (view_of self.now) }
     {
@@ -156,7 +155,7 @@ impl DeviceKeeper {
         }
     }
 
-    /// What the keeper asks of its host.
+    /// Returns what the keeper requests from its host.
     pub fn request(&self) -> Request
         ensures { result ≡ request_of (view_of self.now) }
     {
@@ -184,7 +183,8 @@ impl DeviceKeeper {
         put_whole(self.response(), buffer)
     }
 
-    /// The response to a command, if the latest call executed one and is done; otherwise empty.
+    /// Returns the response to a command, if the latest call executed one and is done; otherwise no
+    /// bytes.
     pub fn executed(&self) -> &[u8]
         ensures { result.now ≡ executed_by self.now }
     {
@@ -194,8 +194,8 @@ impl DeviceKeeper {
         }
     }
 
-    /// Writes the state text that is shown to the start of a buffer, if it fits. Returns its size;
-    /// 0 if the latest call showed no state text.
+    /// Writes the state text from the latest call to the start of a buffer, if it fits. Returns its
+    /// size; 0 if that call returned no state text.
     pub fn state_into(&self, buffer: &mut [u8]) -> usize
         ensures { PutsFront (content_at (shown_by self.now)) buffer.old result buffer.new }
     {
@@ -206,8 +206,8 @@ impl DeviceKeeper {
         put_content(shown, buffer)
     }
 
-    /// Continues with what the host did or saw. If an allocation fails, the call ends for that
-    /// reason.
+    /// Continues the call with the host's report. If an allocation fails, the call ends with that
+    /// fault.
     pub fn next(&mut self, got: u8, file: u64, size: u64, bytes: &[u8])
         ensures goes_on { GoesOn (call_of self.old)
             (told_by got (ask_of (view_of self.old)) file size bytes.now) (call_of self.new) }

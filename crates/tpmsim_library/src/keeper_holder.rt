@@ -30,7 +30,7 @@ impl Model for KeeperHolder {
 }
 
 impl KeeperHolder {
-    /// A holder with the pointer of this owner.
+    /// Converts an owner to a holder with the same pointer.
     pub fn of(owner: Owner<DeviceKeeper>) -> KeeperHolder
         ensures { result.keeper ≡ owner.value }
     {
@@ -41,7 +41,7 @@ impl KeeperHolder {
         }
     }
 
-    /// An owner with the pointer of this holder.
+    /// Converts the holder to an owner with the same pointer.
     pub fn into_owner(self) -> Owner<DeviceKeeper>
         ensures { result.value ≡ self.keeper }
     {
@@ -71,5 +71,5 @@ impl KeeperHolder {
     }
 }
 
-/// The keeper may be used and freed in another thread than the one that made it.
+/// The keeper may be used and freed by another thread than the one that created it.
 unsafe impl Send for KeeperHolder {}

@@ -1,4 +1,4 @@
-//! The exports on the keeper of a device.
+//! The exports for the keeper of a device.
 
 ghost use Rattle.std.specs.Prelude.{◌≡◌, ◌≢◌, ◌==◌, not};
 ghost use Rattle.std.specs.Option.{MatchOption};
@@ -23,7 +23,7 @@ use crate::shown::put_whole;
 use crate::told::{DONE, NO_DEVICE, NO_MEMORY, NO_WORD};
 use std::alloc::Global;
 
-/// Makes a keeper before its first call. It replaces any keeper of the holder.
+/// Creates a keeper, which replaces any keeper of the holder.
 #[unsafe(no_mangle)]
 pub extern "C" fn tpmsim_keeper_new(
     alloc: Global,
@@ -83,7 +83,8 @@ pub extern "C" fn tpmsim_keeper_begin(
     }
 }
 
-/// Sets whether later calls cut damage in the journal (`cuts` is not 0), or refuse it.
+/// Sets whether later calls cut damage in the journal (if `cuts` is not 0), or refuse a damaged
+/// journal.
 #[unsafe(no_mangle)]
 pub extern "C" fn tpmsim_keeper_cuts(alloc: Global, holder: &mut KeeperHolder, cuts: u8) -> u8
     ensures set { MatchOption holder.old.keeper (holder.new.keeper ≡ None) (λ before.
@@ -152,7 +153,7 @@ pub extern "C" fn tpmsim_keeper_response(
     size
 }
 
-/// Continues with what the host did or saw.
+/// Continues the call with the host's report.
 #[unsafe(no_mangle)]
 pub extern "C" fn tpmsim_keeper_next(
     alloc: Global,
@@ -175,7 +176,7 @@ pub extern "C" fn tpmsim_keeper_next(
     holder.put(kept);
 }
 
-/// Writes the sentence for a fault to the start of a buffer, if it fits. Returns its size, or 0 if
+/// Writes the message for a fault to the start of a buffer, if it fits. Returns its size, or 0 if
 /// no fault has this number.
 #[unsafe(no_mangle)]
 pub extern "C" fn tpmsim_fault_text(fault: u8, buffer: &mut [u8]) -> usize

@@ -9,8 +9,8 @@ ghost use Rattle.tpmsim_library.specs.Held.{held};
 use std::alloc::Global;
 use std::marker::Model;
 
-/// The pointer to a box, which it owns; or null. A holder consists of an owner, and C sees only the
-/// holder.
+/// A pointer to a box, which the owner owns; or null. A holder consists of an owner, and C sees
+/// only the holder.
 #[derive(Drop)]
 pub struct Owner<T> {
     pub(crate) at: *mut T,
@@ -23,7 +23,7 @@ impl<T> Model for Owner<T> {
 }
 
 impl<T: Drop> Owner<T> {
-    /// An owner with a null pointer.
+    /// Returns an owner with a null pointer.
     pub fn empty(alloc: Global) -> Owner<T>
         ensures { result.value ≡ None }
     {
@@ -33,7 +33,7 @@ impl<T: Drop> Owner<T> {
         }
     }
 
-    /// The pointer to this box.
+    /// Returns the owner of this box.
     pub fn of(value: Box<T>) -> Owner<T>
         ensures { result.value ≡ Some value.value }
     {
@@ -41,7 +41,7 @@ impl<T: Drop> Owner<T> {
         Owner { at, alloc }
     }
 
-    /// The box, if there is one.
+    /// Returns the box, if there is one.
     pub fn into_box(self) -> Option<Box<T>>
         ensures { MatchOption result (self.value ≡ None) (λ b. self.value ≡ Some b.value) }
     {

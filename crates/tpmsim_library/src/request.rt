@@ -1,4 +1,4 @@
-//! The numbers that C and a keeper exchange about what a host must do, and about what it did.
+//! The numbers with which C and a keeper exchange requests and reports.
 
 ghost use Rattle.std.specs.Prelude.{◌≡◌};
 ghost use Rattle.tpm_keeping.specs.View.{told_of};
@@ -12,10 +12,10 @@ use tpm_keeping::keeper::{Ask, Got};
 #[repr(C)]
 #[derive(Clone, Copy, PartialEq, Eq)]
 pub struct Request {
-    /// The size to which the file must be cut first; or, for a new journal, the size of the part of
-    /// the old journal that the device executed.
+    /// The size to which the file must be truncated first; or, for a new journal, the size of the
+    /// old journal's part that the device executed.
     pub cut: u64,
-    /// The offset in the file.
+    /// The offset in the file for a read or a write.
     pub at: u64,
     /// The size of the text that the host must write, or of the response.
     pub size: usize,
@@ -27,7 +27,7 @@ pub struct Request {
     pub drops: u8,
 }
 
-/// The `Force` with this number, which says when the journal is synced to disk.
+/// Returns the `Force` with this number, which says when the journal is synced to disk.
 pub fn force_of(number: u8) -> Option<Force>
     ensures { result ≡ force_of number }
 {
@@ -39,7 +39,7 @@ pub fn force_of(number: u8) -> Option<Force>
     }
 }
 
-/// The `Job` with this number: what a call of the keeper does.
+/// Returns the `Job` with this number, which says what a call of the keeper does.
 pub fn job_of(number: u8) -> Option<Job>
     ensures { result ≡ job_of number }
 {
@@ -53,7 +53,7 @@ pub fn job_of(number: u8) -> Option<Job>
     }
 }
 
-/// The number that reports how a call ended.
+/// Returns the number that reports how a call ended.
 fn end_number(end: End) -> u8
     ensures { result ≡ end_number end }
 {
@@ -78,7 +78,7 @@ fn end_number(end: End) -> u8
     }
 }
 
-/// The fault with this number.
+/// Returns the fault with this number.
 pub fn fault_of(number: u8) -> Option<Fault>
     ensures { result ≡ fault_of number }
 {
@@ -102,7 +102,7 @@ pub fn fault_of(number: u8) -> Option<Fault>
 }
 
 impl Request {
-    /// The request for a task that needs only its number.
+    /// Returns the request for a task that needs only its number.
     fn task(task: u8) -> Request
         ensures { result ≡ task_of task }
     {
@@ -116,7 +116,7 @@ impl Request {
         }
     }
 
-    /// The request if there is no keeper: no task, and the fault that says so.
+    /// Returns the request if there is no keeper: no task, and a fault that reports this.
     pub fn none() -> Request
         ensures { result ≡ no_request }
     {
@@ -126,8 +126,8 @@ impl Request {
         }
     }
 
-    /// The request for what a keeper asks, with the size of the text to write, or of the response,
-    /// and whether a new journal drops damage.
+    /// Returns the request for a keeper's task, with the size of the text to write or of the
+    /// response, and whether a new journal drops damage.
     pub fn of(asked: Ask, drops: bool, text: usize, response: usize) -> Request
         ensures { result ≡ request_by asked drops text response }
     {
@@ -163,7 +163,7 @@ impl Request {
     }
 }
 
-/// What a host reports with this number. 0 reports that it did what was asked.
+/// Returns the report that has this number; 0 reports that the host did its task.
 pub fn told_by<'a>(got: u8, asked: Ask, file: u64, size: u64, bytes: &'a [u8]) -> Got<'a>
     ensures { told_of result ≡ told_by got asked file size bytes.now }
 {

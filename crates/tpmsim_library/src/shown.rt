@@ -22,8 +22,8 @@ pub fn put_whole(bytes: &[u8], buffer: &mut [u8]) -> usize
 }
 
 /// Writes the content of the head at the start of a text to the start of a buffer, if it fits.
-/// Returns its size, or 0 without a head. The function is not inlined, so that its large buffer is
-/// not in its caller's stack frame.
+/// Returns its size, or 0 if there is no head. The function is not inlined, so that its large
+/// buffer is not in its caller's stack frame.
 #[inline(never)]
 pub fn put_content(text: &[u8], buffer: &mut [u8]) -> usize
     ensures { PutsFront (content_at text.now) buffer.old result buffer.new }
@@ -35,7 +35,7 @@ pub fn put_content(text: &[u8], buffer: &mut [u8]) -> usize
     put_whole(head.content, buffer)
 }
 
-/// Writes an answer's response to the start of a buffer, and returns the other data for its caller.
+/// Writes an answer's response to the start of a buffer, and returns the rest of the answer.
 pub fn put_answer(answer: Answer, response: &mut [u8; 4096]) -> Answered
     requires { length answer.response.now ≤ buffer_limit }
     ensures is { IsAnswer (plain_answer answer.entry) response.new result }

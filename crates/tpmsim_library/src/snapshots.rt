@@ -1,4 +1,4 @@
-//! The exports on the state text of a device.
+//! The exports for the state text of a device.
 
 ghost use Rattle.std.specs.Prelude.{◌≡◌, ◌≢◌, ◌≤◌, IfSome};
 ghost use Rattle.std.specs.Option.{MatchOption};

@@ -14,7 +14,7 @@ pub const DONE: u8 = 0;
 /// The holder is empty.
 pub const NO_DEVICE: u8 = 1;
 
-/// The locality is not 0 to 4.
+/// The locality is above 4.
 pub const NO_LOCALITY: u8 = 2;
 
 /// An allocation failed.
@@ -26,7 +26,7 @@ pub const NO_WORD: u8 = 19;
 /// The keeper has no answer to a command of the standard.
 pub const NO_ANSWER: u8 = 20;
 
-/// The number of the error if an image cannot be opened.
+/// Returns the error number for an image that cannot be opened.
 pub fn fault_number(fault: ImageFault) -> u8
     ensures { result ≡ fault_number fault }
 {
@@ -41,7 +41,7 @@ pub fn fault_number(fault: ImageFault) -> u8
     }
 }
 
-/// The number of the error if bytes are not a state text.
+/// Returns the error number for bytes that are not a state text.
 pub fn state_number(fault: StateFault) -> u8
     ensures { result ≡ state_number fault }
 {
@@ -56,7 +56,7 @@ pub fn state_number(fault: StateFault) -> u8
     }
 }
 
-/// The number of the error if a device cannot be restored.
+/// Returns the error number for a device that cannot be restored.
 pub fn restore_number(fault: RestoreFault) -> u8
     ensures { result ≡ restore_number fault }
 {
@@ -66,7 +66,7 @@ pub fn restore_number(fault: RestoreFault) -> u8
     }
 }
 
-/// The number that reports how far a text was followed: to its end, or to this error.
+/// Returns DONE if a text was executed to its end, or the number of this error.
 pub fn follow_number(fault: Option<FollowFault>) -> u8
     ensures { result ≡ follow_number fault }
 {
@@ -77,7 +77,7 @@ pub fn follow_number(fault: Option<FollowFault>) -> u8
     }
 }
 
-/// The number of the error if a text cannot be opened as a journal.
+/// Returns the error number for a text that cannot be opened as a journal.
 pub fn open_number(fault: OpenFault) -> u8
     ensures { result ≡ open_number fault }
 {

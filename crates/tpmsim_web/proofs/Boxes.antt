@@ -9,6 +9,6 @@ pub mod Words
 pub mod Calls
 pub mod Held
 
--- the box in the form that the proof steps of std over boxes expect
+-- the box of a device, in the form that std's proof steps for boxes expect
 abbrev pub boxes : Bx
 boxes = record { row = Content; laws = content_laws; al = record { row = Source; laws = source_laws; g = ghosts; d = dict; drops = plain_drop Source } }

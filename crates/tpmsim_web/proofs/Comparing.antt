@@ -1,4 +1,4 @@
--- An address in the page's memory may be compared with null; the token grants nothing else.
+-- The token for an address in the page's memory allows comparing it with null, and nothing else.
 use mir.Syntax.{Ty}
 use seplogic.Ra.Ura.{Ura}
 use base.Logic.{ent, id⊢}

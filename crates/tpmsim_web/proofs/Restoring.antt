@@ -1,5 +1,5 @@
--- Restoring from the state text of a device yields that device, with its layer and its history;
--- and the error that is reported for a text from which no device can be restored.
+-- Restoring from the state text of a device yields that device, with its layer and its history.
+-- From other texts, the reported error is the first one.
 use Rattle.std.proofs.Common.{◌≡◌, ℕ, List, Err, sym, ap, subst, ◌∙◌}
 use Rattle.tpm_machine.specs.Follows.{Follows}
 use Rattle.tpm_machine.specs.History.{History}
@@ -17,12 +17,12 @@ use Rattle.tpmsim_web.specs.State.{record_of, whole_state}
 use Rattle.tpmsim_web.specs.Told.{restore_number, state_number}
 use Rattle.tpmsim_web.specs.declared.device.Device.{Device}
 
--- the number of the first error in a text
+-- The reported number is that of the first error in the text.
 pub fault_told : (device : Device) (text : List ℕ) (fault : RestoreFault) (told : ℕ) → told ≡ restore_number fault → RestoresDevice device text (Err fault) → (f : StateFault) × (told ≡ state_number f) × (state_of_text text ≡ Err f)
 fault_told device text (unrestored.Text f) told is read = (f, is, read)
 fault_told device text unrestored.NoMemory told is never = absurd never
 
--- the state text of a device has no error
+-- The state text of a device has no error.
 pub never_faulty : (device : Device) (text : List ℕ) (fault : RestoreFault) (state : WholeState) → RestoresDevice device text (Err fault) → IsWholeState state → text ≡ state_text state → ⊥
 never_faulty device text (unrestored.Text f) state read is same = no_fault state text is same f read
 never_faulty device text unrestored.NoMemory state never is same = never

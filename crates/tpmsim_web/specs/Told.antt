@@ -24,7 +24,7 @@ no_locality = 2
 abbrev pub no_memory : ℕ
 no_memory = 3
 
--- the number of the error if an image cannot be opened
+-- the error number for an image that cannot be opened
 abbrev pub fault_number : ImageFault → ℕ
 fault_number fault.Short = 4
 fault_number fault.Magic = 5
@@ -34,7 +34,7 @@ fault_number fault.Digest = 8
 fault_number fault.Body = 9
 fault_number fault.NoMemory = no_memory
 
--- the number of the error if bytes are not a state text
+-- the error number for bytes that are not a state text
 abbrev pub state_number : StateFault → ℕ
 state_number state.Short = 13
 state_number state.Magic = 14
@@ -44,18 +44,18 @@ state_number state.Digest = 17
 state_number state.Body = 18
 state_number state.Earlier = 21
 
--- the number of the error if a device cannot be restored
+-- the error number for a device that cannot be restored
 abbrev pub restore_number : RestoreFault → ℕ
 restore_number (restore.Text fault) = state_number fault
 restore_number restore.NoMemory = no_memory
 
--- the number that reports how far a text was followed: to its end, or to this error
+-- `done` if a text was executed to its end, or the number of this error
 abbrev pub follow_number : Option FollowFault → ℕ
 follow_number None = done
 follow_number (Some follow.Damaged) = 11
 follow_number (Some follow.Otherwise) = 12
 
--- the number of the error if a text cannot be opened as a journal
+-- the error number for a text that cannot be opened as a journal
 abbrev pub open_number : OpenFault → ℕ
 open_number opening.NoJournal = 10
 open_number (opening.Image fault) = fault_number fault

@@ -1,5 +1,5 @@
-//! The exports on a device: its execution of events, and its image. A call takes the device out
-//! of its holder, uses it, and puts it back, which moves only a pointer.
+//! The exports that execute events on a device, and that save and open its image. A call takes the
+//! device out of its holder, uses it, and puts it back, which moves only a pointer.
 
 ghost use Rattle.std.specs.Prelude.{◌≡◌, ◌≢◌, ◌<◌, ◌∷◌, [], drop, false, take};
 ghost use Rattle.std.specs.Option.{MatchOption};
@@ -35,7 +35,7 @@ use std::mem;
 use tpm_step::Event;
 use tpm_types::Locality;
 
-/// The version as one number: 65,536 times major, plus 256 times minor, plus patch.
+/// Returns the version as one number: 65,536 times major, plus 256 times minor, plus patch.
 #[unsafe(no_mangle)]
 pub extern "C" fn device_version() -> u32
     ensures { result ≡ version_number 0 1 0 }
@@ -43,7 +43,7 @@ pub extern "C" fn device_version() -> u32
     0x00_01_00
 }
 
-/// The size of a place, the memory for one device, in bytes.
+/// Returns the size of a place, the memory for one device, in bytes.
 #[unsafe(no_mangle)]
 pub extern "C" fn device_size() -> usize {
     mem::size_of::<Device>()
@@ -66,7 +66,7 @@ pub extern "C" fn device_manufacture(
 }
 
 /// Executes a command, and writes its response and its trace to the start of their buffers. Returns
-/// NO_LOCALITY if the locality is not 0 to 4, and NO_DEVICE if the holder is empty. In both cases
+/// NO_LOCALITY if the locality is above 4, and NO_DEVICE if the holder is empty. In both cases
 /// nothing is written.
 #[unsafe(no_mangle)]
 pub extern "C" fn device_execute(
@@ -164,8 +164,8 @@ pub extern "C" fn device_kept(holder: &mut Holder, buffer: &mut [u8]) -> usize
     size
 }
 
-/// Replaces the holder's device by the device of an image, as after a power cycle. On failure,
-/// returns the number of the first error, or NO_DEVICE, and leaves the holder unchanged.
+/// Replaces the holder's device by the device of an image, after a power cycle. On failure, returns
+/// the number of the first error, or NO_DEVICE, and leaves the holder unchanged.
 #[unsafe(no_mangle)]
 pub extern "C" fn device_open(alloc: Global, holder: &mut Holder, image: &[u8]) -> u8
     ensures opens { MatchOption holder.old.device

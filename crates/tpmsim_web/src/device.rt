@@ -1,4 +1,4 @@
-//! A device.
+//! A device of the page.
 
 ghost use Rattle.std.specs.Prelude.{◌≡◌, ◌∷◌, ◌≤◌, [], IfErr, IfOk, OnErr, OnOk, drop, false, length};
 ghost use Rattle.std.specs.Prelude.{take, true};
@@ -52,7 +52,7 @@ pub struct Device {
 pub struct Answered {
     /// The size of the response.
     pub size: usize,
-    /// The number of random bytes used, counted from the first.
+    /// The number of random bytes that the command used, from the first one on.
     pub drawn: usize,
     /// The size of the trace; 0 if no trace is written.
     pub traced: usize,
@@ -62,7 +62,7 @@ pub struct Answered {
     pub check: u8,
 }
 
-/// A new machine; these random bytes become its secrets.
+/// Creates a new machine, whose secrets are these random bytes.
 pub(crate) fn new_machine(alloc: Global, random: &[u8; 256]) -> Machine<SlotKeep>
     ensures state { slot_record result.keep ≡ manufactured random.now }
     ensures history { Follows (slot_record result.keep) [] }
@@ -74,7 +74,7 @@ pub(crate) fn new_machine(alloc: Global, random: &[u8; 256]) -> Machine<SlotKeep
 }
 
 impl Device {
-    /// A new device; these random bytes become its secrets.
+    /// Creates a new device, whose secrets are these random bytes.
     pub fn manufacture(alloc: Global, random: &[u8; 256]) -> Device
         ensures state { record_of result ≡ manufactured random.now }
         ensures history { Follows (record_of result) [] }
@@ -155,7 +155,8 @@ impl Device {
         kept_into(&self.machine, buffer)
     }
 
-    /// Becomes the device of an image, as after a power cycle. On error the device is unchanged.
+    /// Turns this device into that of an image, after a power cycle. On error the device is
+    /// unchanged.
     pub fn open(&mut self, alloc: Global, image: &[u8]) -> Result<(), ImageFault>
         ensures exact { Opens (λ done. record_of self.new) false image.now result }
         ensures kept { OnErr result (self.new ≡ self.old) }
@@ -181,7 +182,7 @@ impl Device {
         snapshot_into(&self.machine, Some(&layer), buffer)
     }
 
-    /// Becomes the device of a state text. On error the device is unchanged.
+    /// Turns this device into that of a state text. On error the device is unchanged.
     pub fn restore(&mut self, alloc: Global, text: &[u8]) -> Result<(), RestoreFault>
         ensures restores { RestoresDevice self.new text.now result }
         ensures kept { OnErr result (self.new ≡ self.old) }
@@ -198,7 +199,7 @@ impl Device {
     }
 }
 
-/// Writes a response to the start of a buffer, and returns the other data for its caller.
+/// Writes a response to the start of a buffer, and returns the other data about the command.
 pub(crate) fn tell(
     outcome: &Outcome,
     drawn: usize,

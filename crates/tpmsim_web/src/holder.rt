@@ -13,7 +13,7 @@ use crate::lent::Lent;
 use std::marker::Model;
 use std::mem;
 
-/// The pointer through which a page holds a device. It points to the device's place, which the
+/// The pointer through which a page holds a device. It points to the device's memory, which the
 /// holder owns, or is null if there is no device. The page sees only a pointer, because the
 /// allocator occupies no bytes.
 #[repr(C)]
@@ -28,8 +28,8 @@ impl Model for Holder {
     ghost also_owns = { λ h. held device_row h.alloc h.at h.device };
 }
 
-/// The place for a device, provided by the page: free memory whose address may be compared with
-/// null.
+/// The memory for one device, provided by the page. It is free, and its address may be compared
+/// with null.
 #[repr(C)]
 #[derive(Drop)]
 pub struct Place {
@@ -41,7 +41,7 @@ impl Model for Place {
 }
 
 impl Holder {
-    /// A holder of this device, which is written to the place.
+    /// Writes the device to the place, and returns a holder of the device.
     pub fn new(place: Place, device: Device) -> Holder
         ensures { result.device ≡ Some device }
     {
@@ -53,7 +53,7 @@ impl Holder {
         }
     }
 
-    /// An empty holder.
+    /// Returns an empty holder.
     pub fn empty(alloc: Lent) -> Holder
         ensures { result.device ≡ None }
     {
@@ -63,7 +63,7 @@ impl Holder {
         }
     }
 
-    /// A holder of this device, which stays in its place.
+    /// Returns a holder of this device, which stays where it is.
     pub fn of(device: Box<Device, Lent>) -> Holder
         ensures { result.device ≡ Some device.value }
     {
@@ -74,7 +74,7 @@ impl Holder {
         }
     }
 
-    /// The device of the holder, if there is one.
+    /// Returns the device of the holder, if there is one.
     pub fn into_box(self) -> Option<Box<Device, Lent>>
         ensures { MatchOption result (self.device ≡ None) (λ b. self.device ≡ Some b.value) }
     {

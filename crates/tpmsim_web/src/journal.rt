@@ -1,4 +1,4 @@
-//! The exports on the journal of a device.
+//! The exports for a device's journal.
 
 ghost use Rattle.std.specs.Prelude.{◌≡◌, ◌≢◌, ◌<◌, ◌==◌, drop, false, length, not};
 ghost use Rattle.std.specs.Option.{MatchOption};
@@ -113,10 +113,10 @@ pub extern "C" fn journal_follow(holder: &mut Holder, text: &[u8], taken: &mut u
     follow_number(followed.fault)
 }
 
-/// Executes a command at the time `now_ms` of the host's clock. Writes its response to the start
-/// of one buffer, and its entry to the start of another. If `completes` is not 0, the completing
-/// layer is used. Returns NO_LOCALITY if the locality is not 0 to 4, and NO_DEVICE if the holder
-/// is empty. In both cases nothing is written.
+/// Executes a command at the time `now_ms` of the host's clock. Writes its response to the start of
+/// one buffer, and its entry to the start of another. If `completes` is not 0, the completing layer
+/// is used. Returns NO_LOCALITY if the locality is above 4, and NO_DEVICE if the holder is empty.
+/// In both cases nothing is written.
 #[unsafe(no_mangle)]
 pub extern "C" fn journal_execute(
     holder: &mut Holder,

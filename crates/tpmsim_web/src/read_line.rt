@@ -14,7 +14,7 @@ pub struct ReadLine {
     pub size: usize,
     /// The column of the wrong token, counted from 1; 0 if there is none.
     pub column: usize,
-    /// The size of the text that says what was expected there.
+    /// The size of the text that says what was expected at the error.
     pub wanted: usize,
     /// The number of a locality, the milliseconds of a wait, or, for a command, the milliseconds
     /// since the previous one.
@@ -41,7 +41,7 @@ pub const ENTROPY: u8 = 5;
 pub const POWER: u8 = 6;
 
 impl ReadLine {
-    /// A good line of this kind, with a number and a size.
+    /// Returns the result for a good line of this kind, with a number and a size.
     pub fn good(kind: u8, number: u32, size: usize) -> ReadLine
         ensures { result ≡ record {
           size = size;
@@ -62,7 +62,8 @@ impl ReadLine {
         }
     }
 
-    /// A bad line. Writes what was expected to the start of a buffer, if it fits.
+    /// Returns the result for a bad line. Writes what was expected to the start of a buffer, if it
+    /// fits.
     pub fn bad(fault: AsmFault, word: &str, wanted: &mut [u8; 64]) -> ReadLine
         ensures { TellsFault fault word.now result wanted.old wanted.new }
     {
@@ -77,7 +78,7 @@ impl ReadLine {
     }
 }
 
-/// The number of an error.
+/// Returns the number of an error.
 fn number_of(fault: AsmFault) -> u8
     ensures { result ≡ fault_kind fault }
 {
@@ -91,7 +92,7 @@ fn number_of(fault: AsmFault) -> u8
     }
 }
 
-/// The column of the wrong token; 0 if there is none.
+/// Returns the column of the wrong token; 0 if there is none.
 fn column_of(fault: AsmFault) -> usize
     ensures { result ≡ fault_column fault }
 {

@@ -30,8 +30,8 @@ impl Device {
             .begin(&mut self.machine, now_ms, &mut self.outcome, buffer)
     }
 
-    /// The clock of a checkpoint at this time: the journal's clock, or the host's if no journal
-    /// has been started yet.
+    /// Returns the clock for a checkpoint at this time: the journal's clock, or the host's if no
+    /// journal has been started yet.
     fn checkpoint_clock(&self, now_ms: u64) -> u64
         ensures { result ≡ checkpoint_clock self.now now_ms }
     {
@@ -53,8 +53,8 @@ impl Device {
         self.journal.checkpoint(&self.machine, clock_ms, buffer)
     }
 
-    /// Becomes the device of a journal; returns the size of the head and the entries in the text.
-    /// On error the device is unchanged.
+    /// Turns this device into that of a journal. Returns the size of the head and the entries in
+    /// the text. On error the device is unchanged.
     pub fn open_journal(&mut self, alloc: Global, text: &[u8]) -> Result<usize, OpenFault>
         ensures opens { IfOk result (λ taken. IsOfJournal text.now taken self.new) }
         ensures fault { IfErr result (λ fault. HasFault text.now fault) }

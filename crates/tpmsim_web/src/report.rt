@@ -17,13 +17,13 @@ use tpmsim_script::BadLine;
 /// The maximum size of a line in a report.
 const REPORT_LIMIT: usize = 256;
 
-/// The result if a line is longer.
+/// The result if a line of the report is longer than `REPORT_LIMIT`.
 const TOO_LONG: usize = REPORT_LIMIT + 1;
 
-/// Writes what the report on a script says about the line with this number, passed without its
-/// 0a: nothing if the line is good. `waited` is the number of milliseconds since the last
-/// command. Returns the size of the text. It is 257 if the buffer cannot hold the text; the
-/// contract does not specify when.
+/// Writes the report on the line with this number, or nothing if the line is good. The line is
+/// passed without its line feed. `waited` is the number of milliseconds since the last command.
+/// Returns the size of the text. It is 257 if the buffer cannot hold the text; the contract does
+/// not specify when.
 #[unsafe(no_mangle)]
 pub extern "C" fn script_report(
     number: u32,
@@ -67,7 +67,7 @@ fn write_fault(text: &mut ArrayString<REPORT_LIMIT>, line: FaultLine) -> fmt::Re
     writeln!(text, "{line}")
 }
 
-/// A report line about a bad line: its number, its error, and what was expected there.
+/// A report line about a bad line: its number, its error, and what was expected.
 #[derive(Clone, Copy)]
 struct FaultLine {
     number: u32,

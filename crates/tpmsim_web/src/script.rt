@@ -18,9 +18,10 @@ use tpmsim_script::lines::LINE_LIMIT;
 use tpmsim_script::script::RANDOM_BYTES;
 use tpmsim_script::{BadLine, Line, Wanted};
 
-/// Parses a line of a script, passed without its 0a. Returns 0 for a good line, and stores its
-/// meaning and the bytes of its command or entropy. Otherwise returns the number of the error,
-/// and stores what was expected. `waited` is the number of milliseconds since the last command.
+/// Parses a line of a script, passed without its line feed. Returns 0 for a good line, and stores
+/// its meaning and the bytes of its command or entropy. For a bad line, returns the number of the
+/// error, and stores what was expected. `waited` is the number of milliseconds since the last
+/// command.
 #[unsafe(no_mangle)]
 pub extern "C" fn script_line(
     line: &[u8],
@@ -109,7 +110,7 @@ fn decode(digits: &[u8], wanted: Wanted, written: &mut [u8; 32768]) -> Result<us
     }
 }
 
-/// Encodes a command in words, and writes it to the start of a buffer. Returns its size.
+/// Assembles a command in words, and writes the result to the start of a buffer. Returns its size.
 fn assemble(words: &[u8], written: &mut [u8; 32768]) -> Result<usize, BadLine>
     ensures good { IfOk result (λ size. assembled words.now ≡ Ok (take size written.new)) }
     ensures bad { IfErr result (λ bad. (assembled words.now ≡ Err bad.fault)
@@ -129,7 +130,7 @@ fn assemble(words: &[u8], written: &mut [u8; 32768]) -> Result<usize, BadLine>
     }
 }
 
-/// The milliseconds since the last command, after a wait.
+/// Returns the milliseconds since the last command, after a further wait.
 fn wait(waited: u32, milliseconds: u32) -> Result<u32, BadLine>
     ensures { result ≡ wait_check waited milliseconds }
 {

@@ -6,7 +6,7 @@ ghost use Rattle.tpmsim_script.specs.Report.{wanted_text};
 use tpm_help::word_at;
 use tpmsim_script::{BadLine, Wanted};
 
-/// Words that say what was expected at the error in a bad line.
+/// Returns words that say what was expected at the error in a bad line.
 pub fn wanted_text(bad: BadLine, line: &[u8]) -> &'static str
     ensures { result.now ≡ wanted_text bad.wanted line.now bad.fault }
 {
@@ -22,7 +22,7 @@ pub fn wanted_text(bad: BadLine, line: &[u8]) -> &'static str
     }
 }
 
-/// The words after `do` and its space.
+/// Returns the words after `do` and its space.
 fn words_of(line: &[u8]) -> &[u8]
     ensures { result.now ≡ drop 3 line.now }
 {

@@ -23,8 +23,8 @@ use tpm_line::{LINE_LIMIT, write_line};
 use tpm_text::{Draft, assemble_in};
 use tpm_types::rc::Place;
 
-/// Encodes a command in words, and writes it to the start of a buffer. Returns 0; or returns the
-/// number of the first error, and also writes what was expected.
+/// Assembles a command in words, and writes the result to the start of a buffer. Returns 0; or
+/// returns the number of the first error, and also writes what was expected.
 #[unsafe(no_mangle)]
 pub extern "C" fn line_assemble(
     words: &[u8],
@@ -51,9 +51,9 @@ pub extern "C" fn line_assemble(
     read.fault
 }
 
-/// Writes a line in words that encodes a command to the start of a buffer, if it fits. Returns
-/// the size of the line, whether it was written or not; 0 if no line is found, and the contract
-/// does not specify when.
+/// Writes a line in words for this command to the start of a buffer, if it fits. Returns the size
+/// of the line, whether it was written or not; 0 if no line is found. The contract does not specify
+/// when this is so.
 #[unsafe(no_mangle)]
 pub extern "C" fn line_spell(command: &[u8], buffer: &mut [u8]) -> usize
     ensures spells { result ≢ 0 → (line : List ℕ) × (assembled line ≡ Ok command.now)
@@ -67,7 +67,7 @@ pub extern "C" fn line_spell(command: &[u8], buffer: &mut [u8]) -> usize
     }
 }
 
-/// The code of the command with this name; 0 if there is none.
+/// Returns the code of the command with this name; 0 if there is none.
 #[unsafe(no_mangle)]
 pub extern "C" fn command_number(name: &[u8]) -> u32
     ensures { result ≡ unwrap_or (option_map code_number (code_called name.now)) 0 }
@@ -78,8 +78,8 @@ pub extern "C" fn command_number(name: &[u8]) -> u32
     }
 }
 
-/// Writes the form in words of the command with this code to the start of a buffer, if it fits.
-/// Returns its size, whether it was written or not; 0 if there is no such command.
+/// Writes the form of the words for the command with this code to the start of a buffer, if it
+/// fits. Returns its size, whether it was written or not; 0 if there is no such command.
 #[unsafe(no_mangle)]
 pub extern "C" fn command_form(number: u32, form: &mut [u8; 256]) -> usize
     ensures { MatchOption (code_named number) ((result ≡ 0) × (form.new ≡ form.old))
@@ -125,7 +125,7 @@ pub extern "C" fn code_meaning(code: u32, name: &mut [u8; 64], place: &mut u32) 
     }
 }
 
-/// The handle, parameter or session that a response code names, as one number.
+/// Returns the handle, parameter or session that a response code names, as one number.
 fn place_number(place: Place) -> u32
     ensures { result ≡ place_number place }
 {

@@ -1,4 +1,4 @@
--- What is at the front of a text is one of three, and no text is two of them.
+-- Each text begins with an entry, is torn, or is damaged; no two of these hold for the same text.
 use Rattle.std.proofs.Common.{◌≡◌, ℕ, ◌≤◌, Bool, true, false, List, ◌++◌, length, take, drop, Option, Some, None, refl, ap, sym, ◌∙◌}
 use Rattle.std.proofs.lemmas.Bool.{false_from_ne_true}
 use Rattle.std.proofs.lemmas.List.{length-take-le, take-append-drop}
@@ -13,7 +13,7 @@ use Rattle.tpm_kept_journal.specs.texts.TornText.{is_torn_text}
 use Rattle.tpm_kept_journal.proofs.texts.EntryAt.{entry_at_front, entry_found, no_entry}
 use Rattle.tpm_kept_journal.proofs.texts.TornText.{is_torn_text-Decides}
 
--- ---- each of the three
+-- ---- each of the three cases
 
 pub whole_tells : (sum : ℕ) (e : PlainEntry) (rest text : List ℕ) → IsEntry e → text ≡ entry_text sum e ++ rest
     → (entry_at sum text ≡ Some e) × (is_torn_text sum text ≡ false)
@@ -32,7 +32,7 @@ damage_tells sum text damaged = (
   false_from_ne_true (is_torn_text sum text) (λ so. damaged.not_torn ((is_torn_text-Decides sum text).0 so)),
 )
 
--- ---- what is there
+-- ---- what `next_at` returns
 
 next_of : (sum : ℕ) (text : List ℕ) (found : Option PlainEntry) (is_torn : Bool) → (entry_at sum text ≡ found) × (is_torn_text sum text ≡ is_torn)
     → next_at sum text ≡ next_by found is_torn

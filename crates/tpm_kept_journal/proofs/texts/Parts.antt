@@ -1,4 +1,4 @@
--- Parts of a text, and tests on it.
+-- Lemmas about parts of a text and tests on it.
 use Rattle.std.proofs.Common.{◌≡◌, ℕ, zero, suc, ◌*◌, ◌<◌, ◌≤◌, Bool, true, false, List, [], ◌∷◌, ◌++◌, length, take, drop, Option, Some, None, Result, Ok, Err, refl, ap, sym, ◌∙◌, arith}
 use Rattle.std.specs.Prelude.{Decides, nat_le, nat_lt}
 use Rattle.std.proofs.lemmas.Bool.{leb-true, le-leb}
@@ -11,7 +11,7 @@ use Rattle.hex.proofs.HexLemmas.{decode_of-encode_lower, decode_of-ok}
 use Rattle.tpm_bytes.specs.Reading.{AreBytes}
 use Rattle.tpm_kept_journal.specs.texts.Parts.{are_bytes, begins_with, hex_at, read_or_none, spelled, where_so}
 
--- ---- values where a test holds
+-- ---- optional values that depend on a test
 
 module _ {A : Type 0} where
   held_or : A → Option A → A
@@ -54,7 +54,7 @@ are_bytes-Decides (byte ∷ bytes) =
       λ are. both.1 (are 0, λ i. are (suc i)),
     )
 
--- ---- digits
+-- ---- hex digits
 
 pub spelled_again : (bytes : List ℕ) → AreBytes bytes → spelled (encode_lower bytes) ≡ bytes
 spelled_again bytes are = ap read_or_none (decode_of-encode_lower bytes are)
@@ -66,13 +66,13 @@ read_are_bytes digits (Err fault) is = bytes_nil
 pub spelled_are_bytes : (digits : List ℕ) → AreBytes (spelled digits)
 spelled_are_bytes digits = read_are_bytes digits (decode_of digits) refl
 
--- bytes whose digits are at a place of a text
+-- If the digits of these bytes are at an offset of a text, `hex_at` reads these bytes.
 pub hex_is_at : (place count : ℕ) (text bytes : List ℕ) → AreBytes bytes → count ≡ length bytes
     → take (2 * length bytes) (drop place text) ≡ encode_lower bytes → hex_at place count text ≡ bytes
 hex_is_at place count text bytes are many at =
     ap (λ (n : ℕ). hex_at place n text) many ∙ ap spelled at ∙ spelled_again bytes are
 
--- ---- the front of a text
+-- ---- the prefix of a text
 
 pub begins_with-Decides : (text front : List ℕ) → Decides (begins_with text front) (text ≡ front ++ drop (length front) text)
 begins_with-Decides text front =
@@ -81,7 +81,7 @@ begins_with-Decides text front =
       λ is. same.1 (ap (take (length front)) is ∙ take_at front (drop (length front) text) (length front) refl),
     )
 
--- a text that is another and a rest begins with the other
+-- A text that consists of a prefix and a rest begins with that prefix.
 pub begins : (text front rest : List ℕ) → text ≡ front ++ rest → begins_with text front ≡ true
 begins text front rest is =
     (bytes_eq-Decides (take (length front) text) front).1 (ap (take (length front)) is ∙ take_at front rest (length front) refl)

@@ -1,4 +1,4 @@
--- The head by which a journal starts is the one at the front of its text.
+-- A journal starts with the head at the beginning of its text.
 use Rattle.std.proofs.Common.{◌≡◌, ℕ, List, Option, Some, None, Ok, Err, ap, ◌∙◌}
 use Rattle.tpm_journal.specs.Starting.{BeginsWith, HoldsFault, Start, Starts, StartsNot}
 use Rattle.tpm_journal.specs.declared.opening.OpenFault.{OpenFault}

@@ -1,4 +1,4 @@
--- A text is torn exactly if the test says so.
+-- `is_torn_text` is true exactly for the texts that are torn.
 use Rattle.std.proofs.Common.{◌≡◌, ℕ, zero, suc, ◌+◌, ◌<◌, ◌≤◌, ◌==◌, ◌&&◌, ◌||◌, inl, inr, Bool, true, false, List, [], ◌∷◌, ◌++◌, length, get_or, not, take, drop, replicate, refl, ap, sym, subst, ◌∙◌, arith, length-append}
 use Rattle.std.specs.Prelude.{Decides, bytes_eq, nat_lt}
 use Rattle.std.proofs.lemmas.Bool.{and_parts, cond-false, cond-true, eqb-true, ltb-true, ltb-false, lt-ltb, or_left, or_right, and_from}
@@ -28,7 +28,7 @@ are_of : (count : ℕ) → are_zeros (replicate count 0) ≡ true
 are_of zero = refl
 are_of (suc count) = are_of count
 
--- what is left of zeros, and of others
+-- Without its final zeros, a text of zeros is empty, and any other text keeps its first byte.
 left_of_zeros : (text : List ℕ) → are_zeros text ≡ true → without_zeros text ≡ []
 unfolding without_zeros
 left_of_zeros [] all = refl
@@ -38,7 +38,7 @@ left_of_others : (byte : ℕ) (text : List ℕ) → are_zeros (byte ∷ text) �
 unfolding without_zeros
 left_of_others byte text not = cond-false (are_zeros (byte ∷ text)) [] (byte ∷ without_zeros text) not
 
--- a text is what is left of it, and zeros
+-- A text consists of the text without its final zeros, and zeros.
 one_more_left : (byte : ℕ) (text : List ℕ) (b : Bool) → are_zeros (byte ∷ text) ≡ b
     → (count : ℕ) × (text ≡ without_zeros text ++ replicate count 0)
     → (count : ℕ) × (byte ∷ text ≡ without_zeros (byte ∷ text) ++ replicate count 0)
@@ -56,7 +56,7 @@ unfolding without_zeros
 zeros_left [] = (0, refl)
 zeros_left (byte ∷ text) = one_more_left byte text (are_zeros (byte ∷ text)) refl (zeros_left text)
 
--- what is left of a front and zeros is the beginning of the front
+-- If zeros follow a text, the result without its final zeros is a prefix of that text.
 one_more_front : (byte : ℕ) (front text : List ℕ) (b : Bool) → are_zeros (byte ∷ text) ≡ b
     → (back : List ℕ) × (front ≡ without_zeros text ++ back)
     → (back : List ℕ) × (byte ∷ front ≡ without_zeros (byte ∷ text) ++ back)
@@ -71,9 +71,9 @@ left_of : (front : List ℕ) (zeros : ℕ) → (back : List ℕ) × (front ≡ w
 left_of [] zeros = ([], ap (λ (l : List ℕ). l ++ []) (sym (left_of_zeros (replicate zeros 0) (are_of zeros))))
 left_of (byte ∷ front) zeros = one_more_front byte front (front ++ replicate zeros 0) (are_zeros (byte ∷ (front ++ replicate zeros 0))) refl (left_of front zeros)
 
--- ---- less than an entry
+-- ---- incomplete entries
 
--- a line of so many bytes has a mark of so many
+-- If the line of a mark is 72 bytes long, the mark is 26 bytes long.
 mark_has_all : (sum : ℕ) (mark : List ℕ) → length (mark_line sum mark) ≡ 72 → length mark ≡ 26
 mark_has_all sum mark many = omega (arith, many, line_length entry_word mark (sum_from sum mark) (length mark) refl)
 
@@ -88,7 +88,7 @@ ends_line-Decides mark place =
     Decides-or (place == 15) (place == 21 || place == drawn_line_end (drawn_size mark)) (Decides-eqb place 15)
     (Decides-or (place == 21) (place == drawn_line_end (drawn_size mark)) (Decides-eqb place 21) (Decides-eqb place (drawn_line_end (drawn_size mark))))
 
--- Each line feed is where the test holds, where `place` is the place of the first byte.
+-- Each line feed is at an offset that passes the test; `place` is the offset of the first byte.
 abbrev EndWhere : (test : ℕ → Bool) → (place : ℕ) → List ℕ → Type 0
 EndWhere test place lines = (k : ℕ) → get_or lines k 0 ≡ 10 → test (place + k) ≡ true
 
@@ -125,7 +125,7 @@ lines_end-Decides test place (byte ∷ lines) =
           ))),
     )
 
--- the lines of a text end where those of an entry with this mark do
+-- The test decides whether a text's lines end only where those of the mark's entry end.
 pub lines_end_so : (mark text : List ℕ) → Decides (lines_end (ends_line mark) 0 (drop 72 text)) (LinesEnd mark text)
 lines_end_so mark text =
     let all = lines_end-Decides (ends_line mark) 0 (drop 72 text) in (
@@ -181,7 +181,7 @@ is_cut_off_so sum text cut = elim cut [
 pub is_cut_off-Decides : (sum : ℕ) (text : List ℕ) → Decides (is_cut_off sum text) (IsCutOff sum text)
 is_cut_off-Decides sum text = (cut_off_so sum text, is_cut_off_so sum text)
 
--- the front of what is less than an entry is less than an entry
+-- A prefix of an incomplete entry is an incomplete entry.
 cut_off_front : (sum : ℕ) (front back : List ℕ) → IsCutOff sum (front ++ back) → IsCutOff sum front
 cut_off_front sum front back cut = by (nat_lt (length front) 72) refl
   where
@@ -200,7 +200,7 @@ cut_off_front sum front back cut = by (nat_lt (length front) 72) refl
               )
         ]
 
--- ---- torn
+-- ---- torn texts
 
 torn_so : (sum : ℕ) (text : List ℕ) → is_torn_text sum text ≡ true → IsTorn sum text
 unfolding is_torn_text

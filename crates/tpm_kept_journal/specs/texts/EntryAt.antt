@@ -12,11 +12,11 @@ is_entry e =
     && ((nat_le (length e.drawn) 256 && are_bytes e.drawn)
     && (nat_le (length e.buffer) entry_limit && are_bytes e.buffer))
 
--- the mark of an entry, which follows the first word of its line
+-- the mark of the entry at the start of a text, after the first word of its line
 unfoldable pub mark_in : List ℕ → List ℕ
 mark_in text = hex_at 2 mark_size text
 
--- the entry with the numbers in its mark, and the bytes at their offsets in the text
+-- the entry whose numbers are in this mark, and whose bytes are at their offsets in the text
 unfoldable pub entry_by : (mark text : List ℕ) → PlainEntry
 entry_by mark text = record {
   elapsed = from_be_bytes w32 (take 4 mark);
@@ -27,8 +27,8 @@ entry_by mark text = record {
   answered = from_be_bytes w64 (take 8 (drop 18 mark));
 }
 
--- whether a text begins with exactly the text of this entry; `sum` is the sum of the marks before
--- it
+-- whether a text begins with exactly the text of this entry; `sum` is the checksum of the marks
+-- before the text
 abbrev pub begins_with_entry : (sum : ℕ) → List ℕ → PlainEntry → Bool
 begins_with_entry sum text e = is_entry e && begins_with text (entry_text sum e)
 

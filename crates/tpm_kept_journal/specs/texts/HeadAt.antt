@@ -16,21 +16,22 @@ pub record PlainHead : Type 0 where
 abbrev pub text_of_head : PlainHead → List ℕ
 text_of_head h = head_text h.kind h.clock h.content
 
--- whether a head can be written
+-- whether the fields of a head have allowed values
 unfoldable pub is_head : PlainHead → Bool
 is_head h =
     nat_lt h.clock (2 ^ 64)
     && (nat_le (length h.content) (content_limit h.kind) && are_bytes h.content)
 
--- the kind of the head at the start of a text, if there is one, by its first word
+-- the kind of head that the first word of a text announces: `State`, or else `Image`
 unfoldable pub kind_in : List ℕ → HeadKind
 kind_in text = cond (begins_with text (head_word State)) State Image
 
--- the mark of a head, which follows the first word of its line
+-- the mark of the head at the start of a text, after the first word of its line
 unfoldable pub head_mark_in : List ℕ → List ℕ
 head_mark_in text = hex_at 19 20 text
 
--- the head of this kind with the numbers in its mark, and the content at its offset in the text
+-- the head of this kind, whose numbers are in this mark, and whose content is at its offset in the
+-- text
 unfoldable pub head_by : HeadKind → (mark text : List ℕ) → PlainHead
 head_by kind mark text = record {
   kind = kind;

@@ -1,4 +1,4 @@
--- What a text begins with: an entry; or it is torn; or it is damaged.
+-- Whether a text begins with an entry, is torn, or is damaged.
 use Rattle.std.specs.Prelude.{◌≡◌, ℕ, ◌++◌, Bool, true, false, List, drop, length, Option, Some, None}
 use Rattle.tpm_journal_text.specs.Entry.{IsEntry, PlainEntry, entry_text, plain_entry}
 use Rattle.tpm_journal_text.specs.Journal.{IsDamaged, IsTorn}
@@ -12,23 +12,23 @@ pub data PlainNext : Type 0 where
   Torn : PlainNext
   Damaged : PlainNext
 
--- what the code found, independent of its place in memory
+-- what the code found, as plain values without their memory
 abbrev pub plain_next : Next → PlainNext
 plain_next (next.Whole entry size sum) = Whole (plain_entry entry)
 plain_next next.Torn = Torn
 plain_next next.Damaged = Damaged
 
--- an entry; without one, whether the text is torn
+-- the entry, if there is one; if not, Torn or Damaged
 abbrev pub next_by : Option PlainEntry → (is_torn : Bool) → PlainNext
 next_by (Some e) is_torn = Whole e
 next_by None true = Torn
 next_by None false = Damaged
 
--- what a text begins with; `sum` is the sum of the marks before it
+-- the entry at the start of a text, or why there is none; `sum` is the checksum of the marks before
 unfoldable pub next_at : (sum : ℕ) → List ℕ → PlainNext
 next_at sum text = next_by (entry_at sum text) (is_torn_text sum text)
 
--- A text consists of an entry and the rest; or it is torn; or it is damaged.
+-- A text consists of this entry and a rest; or it is torn; or it is damaged.
 abbrev pub IsNext : (sum : ℕ) → List ℕ → PlainNext → Type 0
 IsNext sum text (Whole e) =
     IsEntry e × (text ≡ entry_text sum e ++ drop (length (entry_text sum e)) text)

@@ -1,4 +1,4 @@
--- Parts of a text, each at its offset.
+-- Reading parts of a text at their offsets.
 use Rattle.std.specs.Prelude.{ℕ, ◌*◌, nat_lt, Bool, true, false, bytes_eq}
 use Rattle.std.specs.Prelude.{List, [], drop, length, take, Option, Some, None, Result, Ok, Err}
 use Rattle.std.specs.List.{list_all}
@@ -18,7 +18,7 @@ read_or_none (Err fault) = []
 abbrev pub spelled : (digits : List ℕ) → List ℕ
 spelled digits = read_or_none (decode_of digits)
 
--- the `count` bytes in hex at an offset of a text
+-- the `count` bytes that are written in hex at an offset of a text
 abbrev pub hex_at : (place count : ℕ) → (text : List ℕ) → List ℕ
 hex_at place count text = spelled (take (2 * count) (drop place text))
 

@@ -49,7 +49,7 @@ use Rattle.std.specs.declared.option.Option.TheVariants.{Some}
 use Rattle.tpmsim_library.proofs.Boxes.Words.{Heap, heap_laws, heap_word, heap_made, word, word_told}
 use Rattle.tpmsim_library.specs.Held.{held}
 
--- dropping a type that has nothing to free
+-- the drop function of a type that has nothing to free
 abbrev pub plain_drop : RattleType → Dict
 plain_drop R = impl ("tpmsim_library::Destruct++none::drop" ∷ []) (tcons (layout R) tnil) dnil
 
@@ -57,11 +57,11 @@ plain_drop R = impl ("tpmsim_library::Destruct++none::drop" ∷ []) (tcons (layo
 abbrev types_of : RattleType → Dicts → Args
 types_of T = bounded (a_type ∷ a_type ∷ []) (T, (Heap, tt))
 
--- a box of a value
+-- the box of a value of this type
 abbrev pub BoxRow : RattleType → RattleType
 BoxRow T = box.the_row (param 0 T) global.the_row ghosts
 
--- the memory that is owned through a pointer to such a box
+-- the memory that is owned through a pointer to a box
 abbrev pub boxed_at : (T : RattleType) → Global → Ptr → T.Denot → Fml
 boxed_at T alloc at value = held (param 0 T) alloc at (Some value)
 
@@ -71,12 +71,12 @@ heap_outlives {𝓤 = 𝓤} 𝓛 = fact_i 𝓤 _ (emp 𝓤) (global_laws.the_wit
 module _ (T : RattleType) (drop_of : Dict) {M : Type 1} {𝓤 : Ura M} (𝓛 : Logic 𝓤) (at_mem : Memory → SProp 𝓤) (run : Routine → Fun 𝓤) where
   open 𝓛 use {H, A}
 
-  -- a box becomes its pointer and its allocator
+  -- the contract of `into_raw`: a box becomes its pointer and its allocator
   abbrev pub Apart : Contract 𝓤
   Apart = triple_of 𝓛 (into_raw.signature T Heap ghosts dict (plain_drop Heap) drop_of)
       (into_raw.spec T Heap ghosts dict (plain_drop Heap) drop_of 𝓛 at_mem run)
 
-  -- a pointer and an allocator become a box
+  -- the contract of `from_raw`: a pointer and an allocator become a box
   abbrev pub Whole : Contract 𝓤
   Whole = triple_of 𝓛 (from_raw.signature T Heap ghosts dict (plain_drop Heap)) (from_raw.spec T Heap ghosts dict (plain_drop Heap) 𝓛 at_mem run)
 

@@ -32,7 +32,7 @@ abbrev pub owns_at : (T : RattleType) → Global → Ptr → Option T.Denot → 
 owns_at T alloc at found = held T alloc at found
 
 module _ (T : RattleType) {M : Type 1} {𝓤 : Ura M} (𝓛 : Logic 𝓤) where
-  -- the fields of a holder own nothing
+  -- What an opened holder owns is what its pointer owns, because its fields own nothing.
   pub owner_opened : (h : (OwnerRow T).Denot) (words : List Val) → ent 𝓤 (sem 𝓛 ((OwnerRow T).own_val h words)) (sem 𝓛 (owns_at T h.alloc h.at h.value))
   owner_opened h words = qed 𝓛 (‵ ((OwnerRow T).own_val h words) ∷ []) ∵ fsplit ! $ drop ! $ done !
 
@@ -44,12 +44,12 @@ module _ (T : RattleType) {M : Type 1} {𝓤 : Ura M} (𝓛 : Logic 𝓤) where
     abbrev Boxed : SProp 𝓤
     Boxed = sem 𝓛 (owns_at T alloc at (Some value))
 
-    -- a box is never at null
+    -- The pointer to a box is never null.
     boxed_in_block : ent 𝓤 Boxed (guard 𝓤 (InBlock at) Boxed)
     boxed_in_block = fact_use 𝓤 (InBlock at) (qed 𝓛 (‵ (owns_at T alloc at (Some value)) ∷ []) ∵ fsplit ! $ keep ! (0 ∷ []) $
         by ! (lies_in_block 𝓛 T full_share at value)) (guard_i 𝓤 (InBlock at) Boxed)
 
-    -- a pointer that may be freed may be compared with null
+    -- A pointer that may be freed may be compared with null.
     boxed_testable : ent 𝓤 Boxed (guard 𝓤 (Testable at) Boxed)
     boxed_testable = fact_use 𝓤 (Testable at) (qed 𝓛 (‵ (owns_at T alloc at (Some value)) ∷ []) ∵ fsplit ! $ drop ! $
         by ! (dealloc_token-Testable 𝓛 alloc (bare (layout T)) at)) (guard_i 𝓤 (Testable at) Boxed)

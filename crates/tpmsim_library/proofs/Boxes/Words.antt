@@ -29,7 +29,7 @@ Heap = arg (bare (layout global.the_row)) no global.the_row
 pub heap_laws : Laws Heap
 heap_laws = arg_laws (bare (layout global.the_row)) no global.the_row global_laws.the_row_laws refl
 
--- the word of an allocator; and the word of a pointer together with an allocator
+-- the machine word of an allocator; and that of a pointer together with an allocator
 abbrev pub heap_word : Global → Val
 heap_word alloc = global_laws.lowered alloc
 

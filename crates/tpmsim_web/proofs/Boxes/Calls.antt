@@ -50,7 +50,7 @@ use Rattle.tpmsim_web.specs.Held.{held}
 use Rattle.tpmsim_web.specs.contracts.device.Device as device
 use Rattle.tpmsim_web.specs.declared.device.Device.{Device}
 
--- dropping a type that has nothing to free
+-- the drop function of a type that has nothing to free
 abbrev pub plain_drop : RattleType → Dict
 plain_drop R = impl ("tpmsim_web::Destruct++none::drop" ∷ []) (tcons (layout R) tnil) dnil
 
@@ -80,12 +80,12 @@ module _ {M : Type 1} {𝓤 : Ura M} (𝓛 : Logic 𝓤) where
   source_outlives = fact_i 𝓤 _ (emp 𝓤) (lent_laws.the_within [])
 
   module _ (at_mem : Memory → SProp 𝓤) (run : Routine → Fun 𝓤) where
-    -- a box becomes its pointer and its allocator
+    -- the contract of `into_raw`: a box becomes its pointer and its allocator
     abbrev pub Apart : Contract 𝓤
     Apart = triple_of 𝓛 (into_raw.signature Content Source ghosts dict (plain_drop Source) (plain_drop Content))
         (into_raw.spec Content Source ghosts dict (plain_drop Source) (plain_drop Content) 𝓛 at_mem run)
 
-    -- a pointer and an allocator become a box
+    -- the contract of `from_raw`: a pointer and an allocator become a box
     abbrev pub Whole : Contract 𝓤
     Whole = triple_of 𝓛 (from_raw.signature Content Source ghosts dict (plain_drop Source)) (from_raw.spec Content Source ghosts dict (plain_drop Source) 𝓛 at_mem run)
 

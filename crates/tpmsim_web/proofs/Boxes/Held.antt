@@ -30,7 +30,7 @@ abbrev pub HolderRow : RattleType
 HolderRow = holder.the_row
 
 module _ {M : Type 1} {𝓤 : Ura M} (𝓛 : Logic 𝓤) where
-  -- the fields of a holder own nothing
+  -- What an opened holder owns is what its pointer owns, because its fields own nothing.
   pub holder_opened : (h : Holder) (words : List Val) → ent 𝓤 (sem 𝓛 (HolderRow.own_val h words)) (sem 𝓛 (held device.the_row h.alloc h.at h.device))
   holder_opened h words = qed 𝓛 (‵ (HolderRow.own_val h words) ∷ []) ∵ fsplit ! $ drop ! $ done !
 
@@ -42,12 +42,12 @@ module _ {M : Type 1} {𝓤 : Ura M} (𝓛 : Logic 𝓤) where
     abbrev Boxed : SProp 𝓤
     Boxed = sem 𝓛 (held device.the_row alloc at (Some value))
 
-    -- a box is never at null
+    -- The pointer to a box is never null.
     boxed_in_block : ent 𝓤 Boxed (guard 𝓤 (InBlock at) Boxed)
     boxed_in_block = fact_use 𝓤 (InBlock at) (qed 𝓛 (‵ (held device.the_row alloc at (Some value)) ∷ []) ∵ fsplit ! $ keep ! (0 ∷ []) $
         by ! (lies_in_block 𝓛 device.the_row full_share at value)) (guard_i 𝓤 (InBlock at) Boxed)
 
-    -- a pointer that may be freed may be compared with null
+    -- A pointer that may be freed may be compared with null.
     boxed_testable : ent 𝓤 Boxed (guard 𝓤 (Testable at) Boxed)
     boxed_testable = fact_use 𝓤 (Testable at) (qed 𝓛 (‵ (held device.the_row alloc at (Some value)) ∷ []) ∵ fsplit ! $ drop ! $
         by ! (token_compares 𝓛 alloc (bare (layout device.the_row)) at)) (guard_i 𝓤 (Testable at) Boxed)

@@ -37,7 +37,7 @@ source_laws = arg_laws (bare (layout lent.the_row)) no lent.the_row lent_laws.th
 pub content_laws : Laws Content
 content_laws = arg_laws (bare (layout device.the_row)) no device.the_row device_laws.the_row_laws refl
 
--- the word of an allocator; and the word of a pointer together with an allocator
+-- the machine word of an allocator; and that of a pointer together with an allocator
 abbrev pub source_word : Lent → Val
 source_word alloc = lent_laws.lowered alloc
 

@@ -2,7 +2,7 @@ use Rattle.std.proofs.Common.{sym, ap, ◌∙◌, ◌≡◌}
 use Rattle.std.specs.declared.option.Option.TheVariants.{Some}
 use Rattle.tpmsim_library.proofs.calls.tpmsim_power_cycle.Goals as goal
 
--- the device that is put back is the one that was taken out, after the event
+-- The device is put back into its holder after the event.
 pub returns-clause-executes : goal.returns-clause-executes
 returns-clause-executes c =
     let before = c.deref_mut.result.now in

@@ -2,8 +2,8 @@ use Rattle.std.proofs.Common.{sym, ap, ◌∙◌, ◌≡◌}
 use Rattle.std.specs.declared.option.Option.TheVariants.{Some}
 use Rattle.tpmsim_library.proofs.journal.tpmsim_journal_checkpoint.Goals as goal
 
--- the device that is put back is the one that was taken out; its journal was started if the head
--- fitted in the buffer
+-- The device is put back into its holder. Its journal was restarted if the head fitted in the
+-- buffer.
 pub returns-clause-checkpoints : goal.returns-clause-checkpoints
 returns-clause-checkpoints c =
     let before = c.deref_mut.result.now in

@@ -2,7 +2,7 @@ use Rattle.std.proofs.Common.{sym, ap, ◌∙◌, ◌≡◌}
 use Rattle.std.specs.declared.option.Option.TheVariants.{Some}
 use Rattle.tpmsim_library.proofs.journal.tpmsim_journal_follow.Goals as goal
 
--- the device that is put back is the one that was taken out, after it executed the entries
+-- The device is put back into its holder after it executed the entries.
 pub returns : goal.returns
 returns c =
     let before = c.deref_mut.result.now in

@@ -2,8 +2,7 @@ use Rattle.std.proofs.Common.{sym, ap, ◌∙◌, ◌≡◌}
 use Rattle.std.specs.declared.option.Option.TheVariants.{Some}
 use Rattle.tpmsim_library.proofs.keeping.tpmsim_keeper_cuts.Goals as goal
 
--- the keeper that is put back is the one that was taken out, and its calls now cut damage or refuse
--- it
+-- The keeper is put back into its holder with the new setting for damage.
 pub returns-clause-set : goal.returns-clause-set
 returns-clause-set c =
     let before = c.deref_mut.result.now in

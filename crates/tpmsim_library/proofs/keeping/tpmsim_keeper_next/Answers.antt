@@ -2,7 +2,7 @@ use Rattle.std.proofs.Common.{sym, ap, ◌∙◌, ◌≡◌}
 use Rattle.std.specs.declared.option.Option.TheVariants.{Some}
 use Rattle.tpmsim_library.proofs.keeping.tpmsim_keeper_next.Goals as goal
 
--- the keeper that is put back is the one that was taken out, after its step
+-- The keeper is put back into its holder after its step.
 pub returns : goal.returns
 returns c =
     let before = c.deref_mut.result.now in

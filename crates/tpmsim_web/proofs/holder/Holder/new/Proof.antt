@@ -1,4 +1,4 @@
--- `new` writes the device to the place, and makes a holder of its address.
+-- `new` writes the device to the place, and makes a holder with the address of the place.
 use mathlib.Core.List.{List, [], ◌∷◌, ◌++◌}
 use mathlib.Core.Path.{◌≡◌, refl, sym, subst}
 use Prim.Native.Nat.{◌^◌}
@@ -46,7 +46,7 @@ PlaceRow = place.the_row
 abbrev stays : Stays promise.ended.signature.params promise.ended.kept
 stays = (stay_dropped (plain (λ _. PlaceRow)) yes, (stay_dropped (plain (λ _. DeviceRow)) yes, tt))
 
--- a device is one machine word
+-- A device is represented by one machine word.
 one_word : (words : List Val) → Lone words → words ≡ only words ∷ []
 one_word [] lone = absurd lone
 one_word (v ∷ []) lone = refl
@@ -74,7 +74,7 @@ new_spec 𝓤 𝓛 𝓜 𝓡 wired =
     let typed : T (has_ty (layout DeviceRow) w) × WT w = (subst (Typed (layout DeviceRow ∷ [])) device_is ((content_laws.lawful 𝓛).typed device y.0.4.1.0 are.1.0)).0 in
     subst (λ (us : List Val). Goes us y.0.4.1.0) (sym place_is) (subst (Goes (place_words at)) (sym device_is) (
     qed 𝓛 ((‵ ftrue ⊛ ‵ (fsep (PlaceRow.own_val a.0 (place_words at)) (fsep (DeviceRow.own_val device (w ∷ [])) ftrue))) ∷ raw ((clauses y.0.0 a).requires y.1) ∷ []) ∵
-    -- [the memory; the address may be compared with null; what the device owns]
+    -- Context: the memory; its address may be compared with null; what the device owns.
     split ! $ drop ! $ fsplit ! $ fsplit ! $ drop ! $ fsplit ! $ move ! (2 ∷ []) $ fsplit ! $ keep ! (2 ∷ 0 ∷ 3 ∷ []) $
     in_a_block ! at (λ s. room_at DeviceRow s) (id⊢ 𝓤 (never 𝓤)) (λ b o lies.
     regoal ! (λ p. prop (WpFn 𝓤 𝓛.H 𝓣.C 𝓣.Λ code.function (place_words p ++ (w ∷ [])) (W.post (At (place_words at) (w ∷ []))))) lies refl $
@@ -86,7 +86,7 @@ new_spec 𝓤 𝓛 𝓜 𝓡 wired =
     sets ! (agg ! (no_more !)) refl (source_typed (record {})) $
     sets ! (agg ! (and_then ! (get_in ! (fld ! refl (stop !)) (sub ! 0 refl (whole !))) (and_then ! (get ! refl) (no_more !)))) refl (word_typed (block_ptr b o) (record {})) $
     returns ! (look_at ! 0 refl) $ free_all ! refl $
-    -- [the holder]
+    -- Context: the holder.
     use2 𝓛 (‵ (part_at DeviceRow full_share device b o)) (part_in 𝓛 DeviceRow refl full_share device b o w) $
     rewrite ! 1 (λ (s : Ptr). ‵ (flt (count_of s) (2 ^ 63))) lies refl $ fjoin ! $
     let made : HolderRow.Denot = record { at = block_ptr b o; alloc = record {}; device = Some device } in

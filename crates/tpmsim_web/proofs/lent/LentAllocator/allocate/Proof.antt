@@ -1,4 +1,4 @@
--- There is no block to return.
+-- The allocator returns an error, since it has no block to return.
 use mathlib.Core.Bool.{false}
 use mathlib.Core.List.{[], ◌∷◌}
 use mathlib.Core.Path.{refl}
@@ -25,11 +25,11 @@ use Rattle.tpmsim_web.proofs.lent.LentAllocator.allocate.Statement.{statement}
 use Rattle.tpmsim_web.specs.contracts.lent.Lent as lent
 use Rattle.tpmsim_web.specs.contracts.lent.LentAllocator.allocate as promise
 
--- the allocator as the call sees it
+-- the reference to the allocator that is passed to the call
 abbrev self : Slot 1
 self = RefOf (0 ∷ []) tt (plain (λ _. lent.the_row)) (λ _. tt)
 
--- nothing remains of what was passed
+-- nothing remains of the arguments that were passed
 abbrev stays : Stays promise.ended.signature.params promise.ended.kept
 stays = (
   stay_dropped self yes,
@@ -50,6 +50,6 @@ allocate_spec 𝓤 𝓛 𝓜 𝓡 wired =
     sets ! (agg ! (and_then ! (lit ! tt) (and_then ! (get ! refl) (no_more !)))) refl (Answer-typed false 0 0) $
     returns ! (look_at ! 0 refl) $ free_all ! refl $
     suffices ! _ (ends_at 𝓛 promise.ended stays clauses y (answer_val false 0 0) (Err (record {})) (tt, (tt, (tt, tt))) (tt, (tt, (tt, tt)))) $
-    -- [the error]
+    -- Context: the error.
     nothing ! $ use0 𝓛 (‵ (Answer.own_val (Err (record {})) (answer_val false 0 0 ∷ []))) (Answer-err 𝓛) $
     nothing ! $ nothing ! $ fjoin ! $ nothing ! $ fjoin ! $ nothing ! $ fjoin ! $ join ! $ move ! (2 ∷ []) $ join ! $ done !))
