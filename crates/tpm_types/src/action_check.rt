@@ -1,4 +1,4 @@
-//! A command's own checks, numbered by their order in the command's section of Part 3.
+//! The checks that are a command's own, numbered by their order in the command's section of Part 3.
 
 ghost use Rattle.std.specs.Prelude.{◌≡◌};
 
@@ -24,7 +24,7 @@ impl ActionCheck {
         self as u8
     }
 
-    /// The check with this number, or the seventh if no check has it.
+    /// The check with this number, or the seventh check if there is none.
     pub fn named(number: u8) -> ActionCheck
         ensures { result ≡ action_named number }
     {

@@ -14,7 +14,7 @@ pub struct Locality {
 impl Locality {
     ghost use Rattle.tpm_types.specs.Locality.{locality_number, SomeLocality};
 
-    /// The locality with this number, or None if there is none.
+    /// The locality with this number, or None if the number is over 4.
     pub fn new(number: u8) -> Option<Locality>
         ensures { SomeLocality number result }
     {

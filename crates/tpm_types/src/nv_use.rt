@@ -1,7 +1,7 @@
-//! How a command uses the NV index that authorizes it: to read, to write or to administer it.
-//! Whether the index's attributes allow the command depends on this use.
+//! How a command uses the NV index that authorizes it: to read, to write or to administer it. The
+//! index's attributes must allow this use.
 
-/// How a command uses the NV index that authorizes it. This determines which attributes of the
+/// How a command uses the NV index that authorizes it. This use determines which attributes of the
 /// index must allow the command (TPM 2.0 Library, Part 2, section 13.4, TPMA_NV).
 #[derive(Clone, Copy, PartialEq, Eq)]
 pub enum NvUse {

@@ -25,7 +25,7 @@ const DECRYPT: u8 = 0x20;
 const ENCRYPT: u8 = 0x40;
 
 impl SessionAttributes {
-    /// Whether one of these bits is set.
+    /// Whether any of these bits is set.
     fn has_any(self, bits: u8) -> bool
         ensures { result ≡ has_bits bits self }
     {
@@ -39,7 +39,7 @@ impl SessionAttributes {
         self.has_any(CONTINUE_SESSION)
     }
 
-    /// Whether the session is requested to be an audit session.
+    /// Whether the client requests an audit session.
     pub fn audits(self) -> bool
         ensures { result ≡ audits self }
     {

@@ -17,8 +17,8 @@ pub enum StartupType {
 impl StartupType {
     ghost use Rattle.tpm_types.specs.StartupType.{startup_type_at};
 
-    /// Reads a startup type. The fault is INSUFFICIENT if it is truncated, VALUE if it is neither
-    /// CLEAR nor STATE.
+    /// Reads a startup type. Fails with INSUFFICIENT if it is truncated, or with VALUE if it is
+    /// neither CLEAR nor STATE.
     #[tactic(auto, unfolding(crate::specs::StartupType::startup_type_at))]
     pub fn read(text: &mut Cursor) -> Result<StartupType, Rc>
         ensures { Reads (λ kind. kind) (startup_type_at text.old) text.old result text.new }

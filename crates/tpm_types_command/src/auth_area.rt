@@ -9,8 +9,8 @@ use arrayvec::ArrayVec;
 use tpm_bytes::Cursor;
 use tpm_types::{Rc, ResponseCode};
 
-/// The largest number of entries in an authorization area, and the size of the smallest entry in
-/// bytes.
+/// The largest number of entries in an authorization area. `LEAST_AREA` is the size in bytes of the
+/// smallest area: that of the smallest entry.
 pub const ENTRY_LIMIT: usize = 3;
 
 pub const LEAST_AREA: usize = 9;
@@ -26,9 +26,9 @@ impl<'a> AuthArea<'a> {
     ghost use Rattle.tpm_types_command.specs.AuthEntry.{entry_of};
     ghost use Rattle.tpm_types_command.specs.AuthArea.{area_at};
 
-    /// Reads an authorization area. The fault is AUTHSIZE if its size is truncated, less than nine
-    /// or more than the bytes that follow, if an entry is truncated, or if there is a fourth
-    /// entry.
+    /// Reads an authorization area. Fails with AUTHSIZE if its size is truncated, is less than
+    /// nine, or exceeds the number of bytes that follow; if an entry is truncated; or if there is a
+    /// fourth entry.
     #[tactic(auto, unfolding(crate::specs::AuthArea::area_at))]
     pub fn read(text: &mut Cursor<'a>) -> Result<AuthArea<'a>, Rc>
         ensures { Reads (λ area. map entry_of area.entries.items) (area_at text.old)

@@ -24,7 +24,7 @@ pub struct Header {
 /// The first fault of a command's header, in the order of the checks.
 #[derive(Clone, Copy, PartialEq, Eq)]
 pub enum HeaderFault {
-    /// The buffer is shorter than a header, or longer than a buffer may be.
+    /// The buffer is shorter than a header, or longer than `BUFFER_LIMIT`.
     Length,
     /// The tag is neither TPM_ST_SESSIONS nor TPM_ST_NO_SESSIONS.
     Tag,
@@ -52,7 +52,7 @@ impl HeaderFault {
 impl Header {
     ghost use Rattle.tpm_types_command.specs.Header.{header_at};
 
-    /// Reads the header of a command. The command must be the whole rest of the text.
+    /// Reads the header of a command. The text must contain exactly the whole command.
     #[tactic(auto, unfolding(crate::specs::Header::header_at))]
     pub fn read(text: &mut Cursor) -> Result<Header, HeaderFault>
         ensures { Reads (λ header. header) (header_at text.old) text.old result text.new }

@@ -18,7 +18,7 @@ pub enum NvType {
 }
 
 impl NvType {
-    /// The number of the type.
+    /// The number of the type in the attributes.
     pub fn number(self) -> u32
         ensures { result ≡ nv_type_number self }
     {
