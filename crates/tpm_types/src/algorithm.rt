@@ -13,7 +13,7 @@ use tpm_mac::HashAlg;
 /// The wire number of the algorithm NULL: TPM_ALG_NULL.
 const NULL: u16 = 0x0010;
 
-/// The wire number of a hash algorithm: TPM_ALG_ID of TPM 2.0 Library, Part 2, section 6.3.
+/// The wire number of a hash algorithm: TPM_ALG_ID (Part 2, section 6.3).
 pub fn hash_number(algorithm: HashAlg) -> u16
     ensures { result ≡ hash_number algorithm }
 {

@@ -12,8 +12,8 @@ use arrayvec::ArrayVec;
 use std::marker::Model;
 use tpm_bytes::{Cursor, copied};
 
-/// An authorization value: at most 32 bytes, without trailing zeros (TPM2B_AUTH of TPM 2.0 Library,
-/// Part 2, section 10.4.5, and Part 1, section 19.6.4.3). Contracts represent it by its bytes.
+/// An authorization value: at most 32 bytes, without trailing zeros (TPM2B_AUTH, Part 2, section
+/// 10.4.5, and Part 1, section 19.6.4.3). Contracts represent it by its bytes.
 #[derive(Drop)]
 pub struct AuthValue {
     bytes: ArrayVec<u8, 32>,

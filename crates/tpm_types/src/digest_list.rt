@@ -46,7 +46,7 @@ impl<'a> Readable<'a> for ListedDigest<'a> {
     }
 }
 
-/// Up to eight digests: TPML_DIGEST of TPM 2.0 Library, Part 2, section 10.9.5.
+/// Up to eight digests: TPML_DIGEST (Part 2, section 10.9.5).
 #[derive(Drop)]
 pub struct DigestList {
     pub digests: ArrayVec<Digest, 8>,

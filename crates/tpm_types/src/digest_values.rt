@@ -17,7 +17,7 @@ use tpm_mac::HashAlg;
 /// The largest number of digests in a list: one for each hash algorithm.
 pub const DIGEST_VALUES_LIMIT: u32 = 2;
 
-/// A digest and its hash algorithm: TPMT_HA of TPM 2.0 Library, Part 2, section 10.3.2.
+/// A digest and its hash algorithm: TPMT_HA (Part 2, section 10.3.2).
 #[derive(Clone, Copy, PartialEq, Eq)]
 pub enum DigestValue {
     Sha1([u8; 20]),

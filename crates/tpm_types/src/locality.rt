@@ -3,8 +3,7 @@
 
 ghost use Rattle.std.specs.Prelude.{◌≡◌, ◌≤◌};
 
-/// The locality that a command comes from, 0 to 4 (TPM 2.0 Library, Part 1, section 3, and Part 2,
-/// section 8.5).
+/// The locality that a command comes from, 0 to 4 (Part 1, section 3, and Part 2, section 8.5).
 #[derive(Clone, Copy, PartialEq, Eq)]
 pub struct Locality {
     number: u8,

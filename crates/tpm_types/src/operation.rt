@@ -7,7 +7,7 @@ ghost use Rattle.tpm_bytes.specs.Reading.{Reads};
 use crate::rc::{Rc, ResponseCode};
 use tpm_bytes::Cursor;
 
-/// How two operands are compared: TPM_EO of TPM 2.0 Library, Part 2, section 6.8.
+/// How two operands are compared: TPM_EO (Part 2, section 6.8).
 #[derive(Clone, Copy, PartialEq, Eq)]
 pub enum Operation {
     Equal,

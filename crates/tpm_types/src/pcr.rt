@@ -11,7 +11,7 @@ pub const PCR_COUNT: u8 = 24;
 /// The number of octets in a selection of PCRs.
 pub const SELECT_SIZE: u8 = 3;
 
-/// The number of a PCR, 0 to 23 (TPM 2.0 Library, Part 1, section 17).
+/// The number of a PCR, 0 to 23 (Part 1, section 17).
 #[derive(Clone, Copy, PartialEq, Eq)]
 pub struct PcrIndex {
     number: u8,

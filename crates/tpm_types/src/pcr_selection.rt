@@ -16,7 +16,7 @@ use tpm_mac::HashAlg;
 /// The largest number of banks in a selection.
 pub const BANK_LIMIT: u32 = 16;
 
-/// The selected PCRs of one bank: TPMS_PCR_SELECTION (TPM 2.0 Library, Part 2, section 10.6.2).
+/// The selected PCRs of one bank: TPMS_PCR_SELECTION (Part 2, section 10.6.2).
 #[derive(Clone, Copy, PartialEq, Eq)]
 pub struct BankSelection {
     pub hash: HashAlg,

@@ -3,8 +3,8 @@
 
 ghost use Rattle.std.specs.Prelude.{◌≡◌, ◌<◌};
 
-/// A response code without the number of a handle, parameter or session: TPM_RC of TPM 2.0
-/// Library, Part 2, section 6.6.3. The names are the standard's, without `TPM_RC_`.
+/// A response code without the number of a handle, parameter or session: TPM_RC (Part 2, section
+/// 6.6.3). The names are the standard's, without `TPM_RC_`.
 #[derive(Clone, Copy, PartialEq, Eq)]
 pub enum ResponseCode {
     BadTag = 0x01e,

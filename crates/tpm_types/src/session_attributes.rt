@@ -4,8 +4,7 @@
 ghost use Rattle.std.specs.Prelude.{◌≡◌};
 ghost use Rattle.tpm_types.specs.SessionAttributes.{audits, continues_session, decrypts, encrypts, has_bits, has_reserved_bits, uses_cipher};
 
-/// The attributes of a session in an authorization entry: TPMA_SESSION of TPM 2.0 Library, Part 2,
-/// section 8.4.
+/// The attributes of a session in an authorization entry: TPMA_SESSION (Part 2, section 8.4).
 #[derive(Clone, Copy, PartialEq, Eq, Default)]
 pub struct SessionAttributes {
     pub octet: u8,

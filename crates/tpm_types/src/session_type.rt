@@ -6,7 +6,7 @@ ghost use Rattle.tpm_bytes.specs.Reading.{Reads};
 use crate::rc::{Rc, ResponseCode};
 use tpm_bytes::Cursor;
 
-/// The type of a session: TPM_SE of TPM 2.0 Library, Part 2, section 6.11.
+/// The type of a session: TPM_SE (Part 2, section 6.11).
 #[derive(Clone, Copy, PartialEq, Eq)]
 pub enum SessionType {
     /// The session authorizes by an HMAC with the entity's authorization value.

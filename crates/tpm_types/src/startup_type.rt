@@ -6,8 +6,7 @@ ghost use Rattle.tpm_bytes.specs.Reading.{Reads};
 use crate::rc::{Rc, ResponseCode};
 use tpm_bytes::Cursor;
 
-/// Whether the device starts from the saved state: TPM_SU of TPM 2.0 Library, Part 2, section
-/// 6.10.
+/// Whether the device starts from the saved state: TPM_SU (Part 2, section 6.10).
 #[derive(Clone, Copy, PartialEq, Eq)]
 pub enum StartupType {
     Clear,

@@ -10,7 +10,7 @@ use crate::rc::{Rc, ResponseCode};
 use tpm_bytes::{Cursor, Full, Sink};
 use tpm_mac::HashAlg;
 
-/// How a session encrypts parameters: TPMT_SYM_DEF of TPM 2.0 Library, Part 2, section 11.1.6.
+/// How a session encrypts parameters: TPMT_SYM_DEF (Part 2, section 11.1.6).
 #[derive(Clone, Copy, PartialEq, Eq)]
 pub enum SymmetricDefinition {
     /// Parameters are not encrypted.

@@ -16,7 +16,7 @@ pub const ENTRY_LIMIT: usize = 3;
 pub const LEAST_AREA: usize = 9;
 
 /// The authorization area of a command with sessions: authorizationSize, then one to three entries
-/// (TPM 2.0 Library, Part 1, section 18.6).
+/// (Part 1, section 18.6).
 #[derive(Drop)]
 pub struct AuthArea<'a> {
     pub entries: ArrayVec<AuthEntry<'a>, 3>,

@@ -14,7 +14,7 @@ use tpm_types::{BUFFER_LIMIT, Handle, Rc, ResponseCode};
 /// The size of a command's header in bytes.
 pub const HEADER_SIZE: usize = 10;
 
-/// The header of a command, except commandSize (TPM 2.0 Library, Part 1, section 18.2).
+/// The header of a command, except commandSize (Part 1, section 18.2).
 #[derive(Clone, Copy, PartialEq, Eq)]
 pub struct Header {
     pub tag: Tag,

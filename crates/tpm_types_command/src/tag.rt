@@ -3,8 +3,8 @@
 
 ghost use Rattle.std.specs.Prelude.{◌≡◌};
 
-/// The tag of a command, which shows whether it has authorization sessions: TPM_ST of TPM 2.0
-/// Library, Part 2, section 6.9.
+/// The tag of a command, which shows whether it has authorization sessions: TPM_ST (Part 2, section
+/// 6.9).
 #[derive(Clone, Copy, PartialEq, Eq)]
 pub enum Tag {
     NoSessions,

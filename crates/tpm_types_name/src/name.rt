@@ -27,7 +27,7 @@ impl Model for Name {
 }
 
 impl Default for Name {
-    /// The empty Name, which names nothing (TPM 2.0 Library, Part 1, section 16).
+    /// The empty Name, which names nothing (Part 1, section 16).
     fn default() -> Name
         ensures { result ≡ [] }
     {

@@ -11,8 +11,7 @@ use tpm_types::{Rc, read_attribute_bits};
 /// The bits that are used neither for an attribute nor for the type: 8, 9 and 20 to 24.
 const RESERVED_BITS: u32 = 0x01f0_0300;
 
-/// An attribute of an NV index (TPMA_NV of TPM 2.0 Library, Part 2, section 13.4). Its value is the
-/// number of its bit.
+/// An attribute of an NV index (TPMA_NV, Part 2, section 13.4). Its value is the number of its bit.
 #[derive(Clone, Copy, PartialEq, Eq)]
 pub enum NvAttribute {
     PpWrite = 0,

@@ -9,7 +9,7 @@ use tpm_bytes::{Cursor, Full, Readable, Sink};
 use tpm_mac::HashAlg;
 use tpm_types::{Handle, Octets, Rc, ResponseCode, hash_number, read_filled, read_hash};
 
-/// The public area of an NV index: TPMS_NV_PUBLIC of TPM 2.0 Library, Part 2, section 13.5.
+/// The public area of an NV index: TPMS_NV_PUBLIC (Part 2, section 13.5).
 #[derive(Drop)]
 pub struct NvPublic {
     /// The handle of the index.

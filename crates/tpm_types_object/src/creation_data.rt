@@ -11,8 +11,8 @@ use tpm_types::{
     Octets, PcrSelection, Rc, ResponseCode, hash_or_null_number, read_filled, read_hash_or_null,
 };
 
-/// Creation data, which record how an object was created: TPMS_CREATION_DATA of TPM 2.0 Library,
-/// Part 2, section 15.1.
+/// Creation data, which record how an object was created: TPMS_CREATION_DATA (Part 2, section
+/// 15.1).
 #[derive(Drop)]
 pub struct CreationData {
     pub pcr_select: PcrSelection,

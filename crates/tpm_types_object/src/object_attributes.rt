@@ -10,8 +10,8 @@ use tpm_types::{Rc, read_attribute_bits};
 /// The bits of the 32-bit field that are not used for attributes.
 const RESERVED_BITS: u32 = 0xfff8_f309;
 
-/// An attribute of an object (TPMA_OBJECT of TPM 2.0 Library, Part 2, section 8.3). Its value is
-/// the number of its bit.
+/// An attribute of an object (TPMA_OBJECT, Part 2, section 8.3). Its value is the number of its
+/// bit.
 #[derive(Clone, Copy, PartialEq, Eq)]
 pub enum ObjectAttribute {
     FixedTpm = 1,

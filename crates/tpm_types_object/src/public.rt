@@ -12,7 +12,7 @@ use tpm_types::{
     Octets, Rc, ResponseCode, SymmetricDefinition, hash_number, read_filled, read_hash,
 };
 
-/// The type of an object: TPMI_ALG_PUBLIC of TPM 2.0 Library, Part 2, section 12.2.2.
+/// The type of an object: TPMI_ALG_PUBLIC (Part 2, section 12.2.2).
 #[derive(Clone, Copy, PartialEq, Eq)]
 pub enum ObjectType {
     /// TPM_ALG_KEYEDHASH: an HMAC key or sealed data.

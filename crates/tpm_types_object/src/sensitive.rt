@@ -9,7 +9,7 @@ use crate::public::ObjectType;
 use tpm_bytes::{Cursor, Full, Readable, Sink};
 use tpm_types::{Octets, Rc, SENSITIVE_LIMIT, read_filled};
 
-/// The sensitive area of an object: TPMT_SENSITIVE of TPM 2.0 Library, Part 2, section 12.3.2.4.
+/// The sensitive area of an object: TPMT_SENSITIVE (Part 2, section 12.3.2.4).
 #[derive(Drop)]
 pub struct Sensitive {
     pub object_type: ObjectType,

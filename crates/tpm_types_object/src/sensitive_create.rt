@@ -10,8 +10,8 @@ ghost use Rattle.tpm_types.specs.Filled.{filled_by};
 use tpm_bytes::{Cursor, Readable, Sink};
 use tpm_types::{Rc, SENSITIVE_LIMIT, read_buffer, read_filled};
 
-/// The values that a caller provides for a new object's sensitive area: TPMS_SENSITIVE_CREATE of
-/// TPM 2.0 Library, Part 2, section 11.1.15.
+/// The values that a caller provides for a new object's sensitive area: TPMS_SENSITIVE_CREATE (Part
+/// 2, section 11.1.15).
 #[derive(Clone, Copy)]
 pub struct SensitiveCreate<'a> {
     pub user_auth: &'a [u8],
