@@ -14,7 +14,7 @@ pub struct Short;
 /// The reason why a sized buffer could not be read.
 #[derive(Clone, Copy, PartialEq, Eq)]
 pub enum SizedFault {
-    /// The size of the buffer is over the limit. Bytes may be missing, too.
+    /// The size of the buffer is over the limit, whether or not bytes are missing.
     TooLong,
     /// The size of the buffer is truncated, or some of its bytes are missing.
     Short,

@@ -1,8 +1,8 @@
 #![tactic(auto)]
 
 //! Reads and writes the bytes of a text. A [`cursor::Cursor`] reads them, and the functions in
-//! [`many`] read several items in sequence. A [`sink::Sink`] of fixed capacity is written to. A
-//! [`tap::Tap`] wraps a reader or a writer and records what it did.
+//! [`many`] read several items in sequence. Bytes are written to a [`sink::Sink`] of fixed
+//! capacity. A [`tap::Tap`] wraps a reader or a writer and records what it did.
 //!
 //! The crate uses `arrayvec` for texts of fixed capacity, and nothing in it is specific to TPMs.
 //! Numbers are big-endian, as everywhere in a TPM's buffers (TPM 2.0 Library, Part 2, section 3.2).

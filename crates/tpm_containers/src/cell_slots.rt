@@ -1,5 +1,5 @@
 //! Slots that are stored in cells. The slots past the last cell are free. A list grows as slots are
-//! taken, so that an allocation can fail. Fixed-size storage never allocates memory.
+//! taken, and an allocation can fail. Fixed-size storage never allocates memory.
 
 use crate::Items;
 use crate::cells::{free_place, reach};

@@ -16,7 +16,7 @@ ghost use Rattle.tpm_hex.specs.declared.TheConstants.{NO_DIGIT};
 #[derive(Clone, Copy, PartialEq, Eq)]
 pub struct NotHex;
 
-/// The value that stands for a byte that is not a digit.
+/// The value used for a byte that is not a digit.
 const NO_DIGIT: u8 = 255;
 
 /// Writes bytes as lower-case hex.

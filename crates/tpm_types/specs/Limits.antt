@@ -1,5 +1,5 @@
--- This device's limits on memory and data, which the standard leaves to the implementer. A bound of
--- a single structure is defined with that structure.
+-- This device's limits on memory and data, which the standard leaves to the implementer. The bounds
+-- of a single structure are defined with that structure.
 use Rattle.std.specs.Prelude.{ℕ, ◌+◌, ◌*◌}
 
 -- the largest size in bytes of a command buffer and of a response

@@ -1,6 +1,6 @@
 //! This device's limits on memory and data, which the standard leaves to the implementer. Sizes
 //! that follow from these limits, such as the size of the longest image, are computed from these
-//! constants. A bound of a single structure is defined with that structure. `specs/Limits.antt`
+//! constants. The bounds of a single structure are defined with that structure. `specs/Limits.antt`
 //! defines the same numbers for the specification.
 
 ghost use Rattle.std.specs.Prelude.{◌≡◌};

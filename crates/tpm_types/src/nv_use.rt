@@ -9,6 +9,6 @@ pub enum NvUse {
     Read,
     /// The command writes the index, as TPM2_NV_Write does.
     Write,
-    /// The command authorizes the index in the role ADMIN.
+    /// The index authorizes the command in the role ADMIN.
     Administer,
 }

@@ -11,9 +11,9 @@ use crate::rc::Rc;
 #[derive(Clone, Copy, PartialEq, Eq)]
 pub enum Counted {
     None,
-    /// The refusal counts as one failed try, for a protected entity.
+    /// The refusal counts as a failed authorization of a protected entity.
     Try,
-    /// The refusal is a failed attempt to authorize with lockoutAuth, and disables lockoutAuth.
+    /// The refusal is a failed authorization with lockoutAuth, which becomes disabled.
     Lockout,
 }
 

@@ -9,8 +9,8 @@ use arrayvec::ArrayVec;
 use tpm_bytes::Cursor;
 use tpm_types::{Rc, ResponseCode};
 
-/// The largest number of entries in an authorization area. `LEAST_AREA` is the size in bytes of the
-/// smallest area: that of the smallest entry.
+/// The largest number of entries in an authorization area. `LEAST_AREA` is the smallest size of an
+/// area in bytes: one entry with an empty nonce and HMAC.
 pub const ENTRY_LIMIT: usize = 3;
 
 pub const LEAST_AREA: usize = 9;
