@@ -20,8 +20,8 @@ use Rattle.tpm_commands.specs.Shape.{is_of_kind}
 abbrev pub handle_fault : ℕ → ResponseCode → Rc
 handle_fault n fault = at (place.Handle n) (plain fault)
 
--- the command's n-th handle, which its rule must allow, at the start of a text, and the rest of the
--- text
+-- the n-th handle of a command at the start of a text, and the rest of the text. The rule must
+-- allow the handle
 unfoldable pub allowed_handle_at : ℕ → HandleRule → List ℕ → Result (Handle × List ℕ) Rc
 allowed_handle_at n rule text = do
   number ← or_fault (number_at w32 text) (handle_fault n code.Insufficient)

@@ -1,5 +1,5 @@
--- How the value found by each key is affected if a value is changed or removed, if only some values
--- are kept, or if all values are changed.
+-- How the value found by each key changes when a value is changed or removed, when only some values
+-- are kept, or when all values are changed.
 use Rattle.std.proofs.Common.{◌≡◌, ◌⊎◌, ℕ, Bool, true, false, cond, [], ◌∷◌, map, Option, Some, None, option_map, ◌==◌, refl, sym, ap, ◌∙◌, inl, inr}
 use Rattle.std.proofs.lemmas.Bool.{cases_Bool, cases_eq}
 use Rattle.tpm_containers.specs.IsSortedMap.{IsSortedMap}

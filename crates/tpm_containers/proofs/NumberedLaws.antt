@@ -71,7 +71,7 @@ module _ {X : Type 0} (kind : X → ℕ) where
       ap (λ (n : ℕ). seen (number_of k place) (at_place places n)) (place_of-number_of k place below)
       ∙ ap (seen (number_of k place)) (lowest_free-free places place is).1
 
-  -- ---- putting a value
+  -- ---- putting a value into a slot
 
   pub put_found : (places : Slots) (place : ℕ) (x : X) → place < 2 ^ 24 → lowest_free places ≡ Some place → at_number kind (slice_set places place (Some x)) (number_of (kind x) place) ≡ Some x
   put_found places place x below is =

@@ -58,15 +58,14 @@ pub record IsSortedMap (X : Type 0) : Type 0 where
       → Ascends (kept_entries stays entries)
   pub kept_few : (stays : X → Bool) (entries : Entries X)
       → length (kept_entries stays entries) ≤ length entries
-  -- the next key that is found from a key on is in the map and is not below it, and no key in
-  -- between is in the map
+  -- the next key for `key` is in the map and is at least `key`, and no key in between is in the map
   pub next_there : (entries : Entries X) (key next : ℕ) → key_from entries key ≡ Some next
       → is_some (at_key entries next) ≡ true
   pub next_from : (entries : Entries X) (key next : ℕ) → key_from entries key ≡ Some next
       → key ≤ next
   pub next_lowest : (entries : Entries X) (key next other : ℕ) → Ascends entries
       → key_from entries key ≡ Some next → key ≤ other → other < next → at_key entries other ≡ None
-  -- if no next key is found from a key on, the map contains no key at or above it
+  -- if there is no next key for `key`, no key in the map is at least `key`
   pub next_none : (entries : Entries X) (key other : ℕ) → key_from entries key ≡ None → key ≤ other
       → at_key entries other ≡ None
   -- two lists of entries are equal if each key has the same value in both

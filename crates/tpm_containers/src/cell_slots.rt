@@ -8,8 +8,8 @@ use arrayvec::ArrayVec;
 use std::alloc::Global;
 use std::marker::{Model, PhantomData};
 
-/// `N` slots, numbered from 0. Cells exist only up to the highest slot that was ever used.
-/// Contracts represent the slots by a list of all of them, each free or with its value.
+/// `N` slots, numbered from 0. Only the slots up to the highest one used since the last `clear`
+/// have cells. Contracts represent the slots by a list of all of them, each free or with its value.
 #[derive(Drop)]
 pub struct CellSlots<T: Drop, C: Items<N, Item = Option<T>>, const N: usize> {
     cells: C,

@@ -1,7 +1,7 @@
 #![tactic(auto)]
 
-//! Containers for the state of a device that grows, in a list or in one area of fixed size. Both
-//! use the same code. Nothing in it is specific to TPMs.
+//! Containers for the state of a device that grows, in a list or in one area of fixed size. The
+//! code is the same for both, and nothing in it is specific to TPMs.
 //!
 //! - **Items** are an ordered sequence, limited to a fixed number: the trait [`items::Items`].
 //! - **Slots** are a fixed number of places, each free or with a value: the trait
@@ -9,7 +9,7 @@
 //!   or into one that the caller chooses. If that fails, nothing changes. [`numbered`] finds values
 //!   by numbers that consist of a slot and a kind, and states the laws of that map once.
 //! - **Sorted maps** contain values with ascending keys, up to a fixed number, and can find the
-//!   lowest key that is at least any number: the trait [`sorted_map::SortedMap`], stored as entries
+//!   lowest key at or above any number: the trait [`sorted_map::SortedMap`], stored as entries
 //!   ([`entry_map`]). A value can only be inserted under a free key. If that fails, nothing
 //!   changes. An [`items::Choice`] decides which values to keep. [`laws::sorted_map_laws`] states
 //!   once that this is a map.

@@ -61,7 +61,8 @@ pub trait SortedMap<T: Drop, const N: usize>: Drop + Sized {
     fn next(&self, key: u32) -> Option<u32>
         ensures { result ≡ key_from (entries self.now) key };
 
-    /// Inserts a value under a key. Fails if the key already has a value.
+    /// Inserts a value under a key. Fails if the key has a value, the map is full, or an allocation
+    /// fails.
     fn insert(&mut self, key: u32, value: T) -> Result<(), KeyFault>
         ensures { PutsKey N can_refuse (entries self.old) key value result (entries self.new) };
 

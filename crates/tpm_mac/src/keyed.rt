@@ -1,4 +1,5 @@
-//! Computes HMACs. If a key is the same as the previous one, it is not masked and hashed again.
+//! Computes HMACs. If the key and the algorithm are the same as before, the key is not masked and
+//! hashed again.
 
 ghost use Rattle.std.specs.Prelude.{◌≡◌, length};
 ghost use Rattle.tpm_mac.specs.Digest.{digest_size, joined_text};

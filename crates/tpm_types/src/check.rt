@@ -1,5 +1,4 @@
-//! The check that refused a command: one of the general checks, one of the command's own, or the
-//! check for memory. The row of an event reports the check's number.
+//! The checks that can refuse a command. The row of an event reports the number of the check.
 
 ghost use Rattle.std.specs.Prelude.{◌≡◌};
 

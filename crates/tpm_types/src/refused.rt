@@ -1,5 +1,5 @@
-//! A refusal by any part of the device: the response code, the check that failed, and how the
-//! refusal counts for the protection against dictionary attacks.
+//! Refusals by any part of the device, and how they count for the protection against dictionary
+//! attacks.
 
 ghost use Rattle.std.specs.Prelude.{◌≡◌};
 

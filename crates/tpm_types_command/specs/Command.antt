@@ -84,8 +84,8 @@ pub record IsCommand (c : Whole) : Type 0 where
 
 -- ---- reading a command, up to the first fault
 
--- this many handles at the start of a text, and the rest of the text. The first argument is the
--- number of the first handle, for the fault if it is truncated
+-- this many handles at the start of a text, and the rest of the text. The first handle has the
+-- number `number`. A fault contains the number of the truncated handle
 abbrev pub handles_at : ℕ → ℕ → List ℕ → Result (List Handle × List ℕ) Rc
 handles_at number zero text = Ok ([], text)
 handles_at number (suc count) text = do

@@ -16,9 +16,9 @@ use tpm_bytes::Cursor;
 use tpm_types::{Handle, Rc, ResponseCode};
 
 impl<'a> Command<'a> {
-    /// Reads a command, which must be the whole rest of the text and must fit in a command buffer.
-    /// Fails with the first fault of its header, with INSUFFICIENT for the first truncated handle,
-    /// or with AUTHSIZE for its authorization area.
+    /// Reads a command, which must fill the rest of the text and fit in a command buffer. Fails
+    /// with the first fault of its header, with INSUFFICIENT for the first truncated handle, or
+    /// with AUTHSIZE for its authorization area.
     pub fn read(text: &mut Cursor<'a>) -> Result<Command<'a>, Rc>
         // The result is the decoded command, or the first fault.
         ensures exact { Reads whole_of (command_at text.old) text.old result text.new }
