@@ -11,7 +11,7 @@ pub words_mixed : (state : List ℕ) → mix_columns state
 unfolding mix_columns
 words_mixed state = rw (append-nil (mix_column (word_of state 3))) refl
 
--- the key for the first round is the cipher key itself
+-- the key for round 0 is the cipher key itself
 pub round_key_first : (key : List ℕ) → round_key key 0 ≡ key
 unfolding round_key
 round_key_first key = refl
@@ -21,7 +21,7 @@ pub round_key_more : (key : List ℕ) (n : ℕ) → round_key key (n + 1) ≡ ne
 unfolding round_key
 round_key_more key n = rw (add-one n) refl
 
--- before the first round, the state is the block with the first round key added
+-- before the first round, the state is the block with the key for round 0 added
 pub state_after_none : (key block : List ℕ) → state_after key block 0 ≡ xor_of block (round_key key 0)
 unfolding state_after
 state_after_none key block = refl

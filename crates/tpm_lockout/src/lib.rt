@@ -1,8 +1,8 @@
 #![tactic(auto)]
 
 //! Protection against dictionary attacks: failed tries at protected entities, how they are forgiven
-//! over time, and lockoutAuth, which a failed attempt to use it disables for a while. TPM 2.0
-//! Library, Part 1, section 19.8.
+//! over time, and how a failed attempt to authorize with lockoutAuth disables it for a while. TPM
+//! 2.0 Library, Part 1, section 19.8.
 //!
 //! [`lockout::Lockout`] does not depend on commands or entities. [`fields::LockoutFields`] is the
 //! part that survives a power cycle. The crate uses no other crate. The result of each function

@@ -1,7 +1,7 @@
-//! This device's limits on memory and data, which the standard leaves to the implementer. Sizes
-//! that follow from these limits, such as the size of the longest image, are computed from these
-//! constants. The bounds of a single structure are defined with that structure. `specs/Limits.antt`
-//! defines the same numbers for the specification.
+//! This device's limits on memory and data, which the standard leaves to the implementer. Other
+//! sizes, such as that of the longest image, are computed from these constants. The bounds of a
+//! single structure are defined with that structure. `specs/Limits.antt` defines the same numbers
+//! for the specification.
 
 ghost use Rattle.std.specs.Prelude.{◌≡◌};
 ghost use Rattle.tpm_types.specs.Limits.{answer_limit, buffer_limit, data_limit, nv_data_limit, nv_index_limit, nv_space_limit, object_limit, persistent_limit, sensitive_limit, session_limit};

@@ -1,5 +1,4 @@
-//! How a command uses the NV index that authorizes it: to read, to write or to administer it. The
-//! index's attributes must allow this use.
+//! The uses of the NV index that authorizes a command: to read, to write or to administer it.
 
 /// How a command uses the NV index that authorizes it. This use determines which attributes of the
 /// index must allow the command (TPM 2.0 Library, Part 2, section 13.4, TPMA_NV).
