@@ -10,12 +10,12 @@ use Rattle.tpm_aes.specs.Field.{times_power}
 use Rattle.tpm_aes.specs.Words.{bytes_of}
 use Rattle.tpm_aes.specs.declared.key_schedule.TheConstants.{ROUND_CONSTANTS}
 
--- a column whose row r is row r of the r-th of four columns
+-- the column whose row r comes from the r-th of these four columns
 abbrev pub shifted_column : (a b c d : List ℕ) → List ℕ
 shifted_column a b c d =
     slice_index_or a 0 0 ∷ slice_index_or b 1 0 ∷ slice_index_or c 2 0 ∷ slice_index_or d 3 0 ∷ []
 
--- the function g applied to each column of a state, concatenated
+-- the concatenated results of applying g to each column of a state
 abbrev columns_by : (g : List ℕ → List ℕ) (state : List ℕ) → List ℕ
 columns_by g state =
     g (word_of state 0) ++ (g (word_of state 1) ++ (g (word_of state 2) ++ g (word_of state 3)))

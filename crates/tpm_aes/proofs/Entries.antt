@@ -1,4 +1,4 @@
--- The entries of the tables.
+-- The entries of the lookup tables are correct.
 use Rattle.std.proofs.Common.{◌≡◌, ℕ, suc, zero, ◌<◌, List, [], ◌∷◌, map, length, ap, ap₂, arith, bit_xor, refl, slice_index_or, sym, ◌∙◌}
 use Rattle.std.proofs.lemmas.List.{get_or-map}
 use Rattle.std.proofs.lemmas.List.FromFn.{get_or-map-range_with_len}
@@ -21,8 +21,8 @@ s_box_at i a same byte =
     ap (λ (t : List ℕ). slice_index_or t i 0) s_box_values
     ∙ get_or-map-range_with_len sub_byte 0 256 i a 0 (omega arith) (omega arith)
 
--- If each word of a table is f of the S-box entry at the same index, then entry a is f of the S-box
--- value of a.
+-- If each word of a table is f applied to the S-box entry at the same index, then entry a is f
+-- applied to the S-box value of a.
 word_at : (f : ℕ → List ℕ) (table : List ℕ) → length table ≡ 256
     → map (to_le_bytes w32) table ≡ map f S_BOX
     → (i a : ℕ) → i ≡ a → a < 256 → to_le_bytes w32 (slice_index_or table i 0) ≡ f (sub_byte a)
@@ -36,7 +36,7 @@ word_at f table size values i a same byte =
 abbrev mixed_table : ℕ → List ℕ
 mixed_table r = slice_index_or MIXED r []
 
--- the mixed column of one byte and zeros
+-- the result of MixColumns for a column with this byte in one row, and zeros elsewhere
 abbrev mixed_0 : ℕ → List ℕ
 mixed_0 s = mix_column (s ∷ 0 ∷ 0 ∷ 0 ∷ [])
 
@@ -65,8 +65,8 @@ mixed_3_values : map (to_le_bytes w32) (mixed_table 3) ≡ map mixed_3 S_BOX
 unfolding mix_column times_power times_terms
 mixed_3_values = refl
 
--- Entry a of lookup table r is the mixed column with the S-box value of a in row r, and zeros
--- elsewhere.
+-- Entry a of lookup table r is the result of MixColumns for the column with the S-box value of a in
+-- row r, and zeros elsewhere.
 pub mixed_0_at : (i a : ℕ) → i ≡ a → a < 256
     → to_le_bytes w32 (slice_index_or (mixed_table 0) i 0) ≡ mixed_0 (sub_byte a)
 mixed_0_at = word_at mixed_0 (mixed_table 0) refl mixed_0_values
@@ -102,15 +102,15 @@ times_zero_three : times 0 3 ≡ 0
 unfolding times_power times_terms
 times_zero_three = refl
 
--- A mixed column is the XOR of the mixed columns of its single bytes.
+-- The mixed column of four bytes is the XOR of the mixed columns of the single bytes.
 pub mixed_sum : (a b c d : ℕ)
     → xor_of (xor_of (xor_of (mixed_0 a) (mixed_1 b)) (mixed_2 c)) (mixed_3 d)
     ≡ mix_column (a ∷ b ∷ c ∷ d ∷ [])
 unfolding mix_column
 mixed_sum a b c d = simp (times_zero_two, times_zero_three, xor_zero_r) refl
 
--- The XOR of the words of four mixed columns, each of one byte, is the word of the mixed column of
--- the four bytes.
+-- If four words are the mixed columns of single bytes, their XOR is the mixed column of these four
+-- bytes.
 pub mixed_word : (v w x y a b c d : ℕ) → to_le_bytes w32 v ≡ mixed_0 a → to_le_bytes w32 w ≡ mixed_1 b
     → to_le_bytes w32 x ≡ mixed_2 c → to_le_bytes w32 y ≡ mixed_3 d
     → to_le_bytes w32 (bit_xor (bit_xor (bit_xor v w) x) y) ≡ mix_column (a ∷ b ∷ c ∷ d ∷ [])

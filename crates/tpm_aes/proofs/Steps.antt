@@ -1,4 +1,4 @@
--- Single steps of the definitions of the cipher.
+-- Unfolds single steps in the definitions of the cipher.
 use Rattle.std.proofs.Common.{◌≡◌, ℕ, ◌+◌, ◌-◌, ◌<◌, ◌≤◌, List, [], ◌++◌, add-one, ap, arith, length, refl, map, below_more, get_or-set_other, get_or-set_same, ◌≢◌, slice_index_or, slice_set, subst, sym, ◌∙◌}
 use Rattle.std.proofs.lemmas.List.{append-nil, get_or-map, length-map}
 use Rattle.std.proofs.lemmas.List.FromFn.{fill_by_all, get_or-map-range_with_len}
@@ -11,7 +11,7 @@ pub words_mixed : (state : List ℕ) → mix_columns state
 unfolding mix_columns
 words_mixed state = rw (append-nil (mix_column (word_of state 3))) refl
 
--- the key for the first round is the cipher key itself
+-- the key for round 0 is the cipher key itself
 pub round_key_first : (key : List ℕ) → round_key key 0 ≡ key
 unfolding round_key
 round_key_first key = refl
@@ -21,7 +21,7 @@ pub round_key_more : (key : List ℕ) (n : ℕ) → round_key key (n + 1) ≡ ne
 unfolding round_key
 round_key_more key n = rw (add-one n) refl
 
--- before the first round, the state is the block with the first round key added
+-- before the first round, the state is the block with the key for round 0 added
 pub state_after_none : (key block : List ℕ) → state_after key block 0 ≡ xor_of block (round_key key 0)
 unfolding state_after
 state_after_none key block = refl
@@ -38,7 +38,7 @@ get_or-expanded_key : (key : List ℕ) (n : ℕ) → n < 11
 unfolding expanded_key
 get_or-expanded_key key n within = get_or-map-range_with_len (round_key key) 0 11 n n [] within (omega arith)
 
--- If 11 keys have the bytes of the round keys, together they are the expanded key.
+-- If 11 keys have the bytes of the round keys, together these keys are the expanded key.
 pub expanded_key_from : (keys : List (List ℕ)) (key : List ℕ) → length keys ≡ 11
     → ((k : ℕ) → k < 11 → bytes_of (slice_index_or keys k []) ≡ round_key key k)
     → map bytes_of keys ≡ expanded_key (bytes_of (slice_index_or keys 0 []))
@@ -55,7 +55,7 @@ pub record HasKeysBelow (keys : List (List ℕ)) (key : List ℕ) (n : ℕ) : Ty
   pub each : (k : ℕ) → k < n → bytes_of (slice_index_or keys k []) ≡ round_key key k
 
 -- If entry k is the key for round k for each k below n, and the key for round n is stored at index
--- n, then the same holds for each k up to n.
+-- n, then entry k is the key for round k for each k up to n.
 pub round_keys_more : (keys : List (List ℕ)) (key next : List ℕ) (n : ℕ) → 1 ≤ n → n < length keys
     → ((k : ℕ) → k < n → bytes_of (slice_index_or keys k []) ≡ round_key key k)
     → bytes_of next ≡ next_round_key n (bytes_of (slice_index_or keys (n - 1) []))

@@ -58,7 +58,7 @@ rest_left piece old now i start done at within =
     ap (drop start) done.value
     ∙ drop_at (pieces_to piece i) (drop (16 * i) old) start (length-done piece old now i done (omega arith) ∙ sym at)
 
--- After block i is removed from its start, the text starts with block i + 1.
+-- If a text starts with block i, removing this block leaves a text that starts with block i + 1.
 drop_block : (old : List ℕ) (i size : ℕ) → 16 * i ≤ length old → size ≡ min 16 (length old - 16 * i)
     → drop size (drop (16 * i) old) ≡ drop (16 * (i + 1)) old
 drop_block old i size within is_size =
@@ -72,7 +72,7 @@ drop_block old i size within is_size =
           rw (sixteen, ← whole) (drop-drop 16 (16 * i) old)
     ]
 
--- The block to be replaced next is unchanged.
+-- The block that is replaced next is still unchanged.
 pub block_left : (piece : ℕ → List ℕ) (old now : List ℕ) (i start end : ℕ) → IsDoneTo piece old now i
     → start ≡ 16 * i → start ≤ length old → end ≡ start + min 16 (length old - start)
     → take (end - start) (drop start now) ≡ block_at old i
@@ -82,8 +82,8 @@ block_left piece old now i start end done at within stop =
     let size : end - start ≡ min 16 (length rest) = omega (arith, length-drop (16 * i) old) in
     ap (take (end - start)) left ∙ ap (λ (k : ℕ). take k rest) size ∙ take_min 16 rest
 
--- If the blocks before block i were replaced, and block i is replaced by its piece, the first i + 1
--- blocks were replaced.
+-- If the blocks before block i were replaced and block i is replaced by its piece, then the first i
+-- + 1 blocks are replaced.
 pub done_to_more : (piece : ℕ → List ℕ) (old now new part : List ℕ) (i start end : ℕ) → IsDoneTo piece old now i
     → start ≡ 16 * i → start ≤ length old → end ≡ start + min 16 (length old - start)
     → part ≡ piece i → length part ≡ end - start

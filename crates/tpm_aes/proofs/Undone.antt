@@ -42,7 +42,7 @@ length-streamed key feedback text i =
     length-xor_of-whole (block_at text i) (aes_of key feedback)
     (omega (arith, length-block_at text i, length-aes_of key feedback))
 
--- Piece i has the size of block i of the text, for each i.
+-- Each piece has the size of the block of the text with the same index.
 abbrev AreLikeBlocks : (ℕ → List ℕ) → List ℕ → Type 0
 AreLikeBlocks piece text = (i : ℕ) → length (piece i) ≡ length (block_at text i)
 

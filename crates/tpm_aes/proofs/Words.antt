@@ -1,11 +1,11 @@
--- XORs of words of four bytes and of lists of bytes.
+-- XORs of four-byte words and of lists of bytes.
 use Rattle.std.proofs.Common.{◌≡◌, ℕ, suc, zero, ◌+◌, ◌/◌, ◌%◌, ◌^◌, ◌<◌, ◌≤◌, List, [], ◌∷◌, ◌++◌, add-one, ap, ap₂, arith, bit_xor, drop, length, refl, slice_index_or, slice_set, sym, take, ◌∙◌}
 use Rattle.std.proofs.lemmas.Nat.{xor_mod, xor_shr}
 use Rattle.std.specs.Int.{to_le_bytes, w32}
 use Rattle.tpm_aes.specs.Cipher.{xor_of}
 use Rattle.tpm_aes.specs.Words.{bytes_of}
 
--- Byte k of the XOR of two words is the XOR of their bytes k.
+-- Bits k to k + 7 of the XOR of two words are the XOR of their bits k to k + 7.
 byte-xor : (a b k : ℕ) → bit_xor a b / 2 ^ k % 256 ≡ bit_xor (a / 2 ^ k % 256) (b / 2 ^ k % 256)
 byte-xor a b k = ap (λ (n : ℕ). n % 256) (xor_shr a b k) ∙ xor_mod (a / 2 ^ k) (b / 2 ^ k) 8
 
@@ -48,7 +48,7 @@ bytes-byte a small =
     let fourth : a / 16777216 % 256 ≡ 0 = omega arith in
     rw (first, second, third, fourth) refl
 
--- a list whose first i bytes are XORed with those of another
+-- a list whose first i bytes are XORed with those of another list
 abbrev pub xored_front : List ℕ → List ℕ → ℕ → List ℕ
 xored_front old other i = xor_of (take i old) (take i other) ++ drop i old
 
@@ -61,7 +61,8 @@ get_or-xored_front (x ∷ xs) (y ∷ ys) zero within fits = refl
 get_or-xored_front (x ∷ xs) (y ∷ ys) (suc i) within fits =
     get_or-xored_front xs ys i (omega arith) (omega arith)
 
--- If byte i is XORed too, the first i + 1 bytes are XORed.
+-- If the first i bytes of a list are XORed and byte i is XORed next, then the first i + 1 bytes are
+-- XORed.
 set-xored_front : (old other : List ℕ) (i : ℕ) → i < length old → length old ≤ length other
     → slice_set (xored_front old other i) i (bit_xor (slice_index_or old i 0) (slice_index_or other i 0))
     ≡ xored_front old other (suc i)
@@ -71,7 +72,7 @@ set-xored_front (x ∷ xs) (y ∷ ys) zero within fits = refl
 set-xored_front (x ∷ xs) (y ∷ ys) (suc i) within fits =
     ap (λ (t : List ℕ). bit_xor x y ∷ t) (set-xored_front xs ys i (omega arith) (omega arith))
 
--- If the next byte of a list is XORed, one more byte at the start is XORed.
+-- The same claim as `set-xored_front`, but reading byte i from the list that is being changed.
 pub xored_more : (old other bytes : List ℕ) (i : ℕ) → i < length old → length old ≤ length other
     → bytes ≡ xored_front old other i
     → slice_set bytes i (bit_xor (slice_index_or bytes i 0) (slice_index_or other i 0)) ≡ xored_front old other (i + 1)

@@ -1,5 +1,5 @@
 -- Cipher feedback with segments of 128 bits (SP 800-38A, 6.3) and AES-128. Texts are lists of
--- bytes; their blocks of sixteen bytes are numbered from 0, and the last may be shorter.
+-- bytes. Their blocks of sixteen bytes are numbered from 0. The last block may be shorter.
 use Rattle.std.specs.Prelude.{ℕ, zero, suc, ◌+◌, ◌*◌, ◌/◌, ◌%◌, min, List, drop, length, take}
 use Rattle.std.specs.List.{flat_map, range_with_len}
 use Rattle.tpm_aes.specs.Cipher.{aes_of, xor_of}
@@ -12,8 +12,8 @@ block_at text i = take 16 (drop (16 * i) text)
 abbrev pub block_count : List ℕ → ℕ
 block_count text = length text / 16 + min 1 (length text % 16)
 
--- the ciphertext before block i, C(i): C(0) is the IV, and C(i + 1) = P(i + 1) xor E(C(i)); a
--- short block uses the first bytes of E
+-- C(i), the block of ciphertext before block i: C(0) is the IV, and C(i + 1) = P(i + 1) xor
+-- E(C(i)). A short block uses the first bytes of E(C(i))
 unfoldable pub cipher_block : (key iv plain : List ℕ) → ℕ → List ℕ
 cipher_block key iv plain zero = iv
 cipher_block key iv plain (suc i) =
@@ -24,8 +24,7 @@ abbrev pub cfb_encrypt_of : (key iv plain : List ℕ) → List ℕ
 cfb_encrypt_of key iv plain =
     flat_map (λ i. cipher_block key iv plain (i + 1)) (range_with_len 0 (block_count plain))
 
--- the input that precedes block i of a ciphertext: the block before it, or the IV before the
--- first
+-- the block before block i of a ciphertext, or the IV for the first block
 abbrev pub block_before : (iv cipher : List ℕ) → ℕ → List ℕ
 block_before iv cipher zero = iv
 block_before iv cipher (suc i) = block_at cipher i

@@ -1,6 +1,6 @@
--- The field GF(2^8) of AES: polynomials over GF(2) of degree below 8, modulo x^8 + x^4 + x^3 + x
--- + 1 (FIPS 197, 4). A polynomial is represented by a byte, whose bit i is the coefficient of
--- x^i; a sum is an XOR.
+-- The field GF(2^8) of AES: polynomials over GF(2) of degree below 8, modulo x^8 + x^4 + x^3 + x +
+-- 1 (FIPS 197, 4). A byte represents a polynomial: bit i is the coefficient of x^i. A sum is an
+-- XOR.
 use Rattle.std.specs.Prelude.{ℕ, zero, suc, ◌+◌, ◌*◌, ◌%◌, ◌^◌, ◌==◌, bit_xor, nat_lt}
 use Rattle.std.specs.Prelude.{if◌then◌else◌, map, sum, unwrap_or}
 use Rattle.std.specs.Int.{bit_at}
@@ -15,7 +15,7 @@ unfoldable pub times_power : ℕ → ℕ → ℕ
 times_power a zero = a
 times_power a (suc n) = times_x (times_power a n)
 
--- a times the terms of b below x^n: the sum of a times x^i, for each term x^i of b
+-- a times the terms of b below x^n: the sum of a times x^i, for each of these terms x^i
 unfoldable pub times_terms : ℕ → ℕ → ℕ → ℕ
 times_terms a b zero = 0
 times_terms a b (suc n) = bit_xor (times_terms a b n) (bit_at b n * times_power a n)
@@ -24,8 +24,8 @@ times_terms a b (suc n) = bit_xor (times_terms a b n) (bit_at b n * times_power 
 abbrev pub times : ℕ → ℕ → ℕ
 times a b = times_terms a b 8
 
--- the b for which a times b = 1, or 0 if there is none, which is the case for 0 (FIPS 197, 4.2
--- and 5.1.1)
+-- the inverse of a: the b for which a times b = 1. It is 0 if there is none, which is the case only
+-- for 0 (FIPS 197, 4.2 and 5.1.1)
 unfoldable pub inverse : ℕ → ℕ
 inverse a = unwrap_or (find (λ b. times a b == 1) (range_with_len 0 256)) 0
 
@@ -39,6 +39,6 @@ affine_bit b i =
 unfoldable pub affine : ℕ → ℕ
 affine b = sum (map (λ i. affine_bit b i * 2 ^ i) (range_with_len 0 8))
 
--- the S-box: the inverse, then the affine map (FIPS 197, 5.1.1)
+-- the S-box: the inverse, followed by the affine map (FIPS 197, 5.1.1)
 unfoldable pub sub_byte : ℕ → ℕ
 sub_byte a = affine (inverse a)

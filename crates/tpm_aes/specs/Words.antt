@@ -1,4 +1,4 @@
--- Words of four bytes as numbers, the lowest byte first.
+-- Words of four bytes, as numbers whose lowest byte comes first.
 use Rattle.std.specs.Prelude.{ℕ, List}
 use Rattle.std.specs.Int.{to_le_bytes, w32}
 use Rattle.std.specs.List.{flat_map}

@@ -8,8 +8,8 @@ ghost use Rattle.tpm_aes.specs.Words.{bytes_of};
 /// Sixteen bytes, column by column: row r of column c is byte r + 4 c (FIPS 197, 3.4).
 pub(crate) type Block = [u8; 16];
 
-/// The four words of a block: a state's columns, or a round key's words. Byte r of a word,
-/// counted from the lowest, is row r of its column.
+/// The four words of a block: the columns of a state, or the words of a round key. Byte r of a
+/// word, counted from the lowest byte, is row r of its column.
 pub(crate) type Words = [u32; 4];
 
 /// The words of a block.
@@ -24,7 +24,7 @@ pub(crate) fn words_of(block: &Block) -> Words
     ]
 }
 
-/// The word at an index.
+/// The word of a block at this index.
 fn word_at(block: &Block, index: usize) -> u32
     requires { index < 4 }
     ensures { to_le_bytes w32 result ≡ word_of block.now index }
@@ -38,7 +38,7 @@ fn word_at(block: &Block, index: usize) -> u32
     ])
 }
 
-/// The block of four words.
+/// The block that consists of these four words.
 pub(crate) fn block_of(words: Words) -> Block
     ensures { result ≡ bytes_of words }
 {

@@ -9,7 +9,7 @@ use crate::key_schedule::next_round_key;
 use crate::rounds::{add_round_key, mixed_state, shifted_state};
 use std::marker::Model;
 
-/// AES-128 encryption with one key. Contracts treat it as the bytes of its key.
+/// AES-128 encryption with one key. Contracts represent it by the bytes of its key.
 #[derive(Drop)]
 pub struct Aes128 {
     round_keys: [Words; 11],
@@ -25,7 +25,7 @@ impl Model for Aes128 {
 }
 
 impl Aes128 {
-    /// The cipher for this key; its round keys are expanded only once (FIPS 197, 5.2).
+    /// The cipher for this key. Its round keys are expanded only once (FIPS 197, 5.2).
     pub fn new(key: &[u8; 16]) -> Aes128
         ensures { result ≡ key.now }
     {
@@ -36,7 +36,7 @@ impl Aes128 {
         Aes128 { round_keys }
     }
 
-    /// The encrypted block (FIPS 197, 5.1).
+    /// Encrypts a block (FIPS 197, 5.1).
     pub fn block(&self, block: &[u8; 16]) -> [u8; 16]
         ensures { result ≡ aes_of self.now block.now }
     {

@@ -10,7 +10,7 @@ use crate::cipher::Aes128;
 const BLOCK_SIZE: usize = 16;
 
 impl Aes128 {
-    /// Encrypts the text in place. The text may have any length; a short last block is XORed with
+    /// Encrypts the text in place. The text may have any length. A short last block is XORed with
     /// the first bytes of its key stream.
     pub fn cfb_encrypt(&self, iv: &[u8; 16], text: &mut [u8])
         ensures value { text.new ≡ cfb_encrypt_of self.now iv.now text.old }
@@ -24,7 +24,7 @@ impl Aes128 {
         }
     }
 
-    /// Decrypts the text in place. With the same key and IV, `cfb_encrypt` and this call undo
+    /// Decrypts the text in place. With the same key and IV, this function and `cfb_encrypt` undo
     /// each other.
     pub fn cfb_decrypt(&self, iv: &[u8; 16], text: &mut [u8])
         ensures value { text.new ≡ cfb_decrypt_of self.now iv.now text.old }
@@ -38,7 +38,7 @@ impl Aes128 {
         }
     }
 
-    /// Encrypts a block, or the short last one, and feeds back a full block.
+    /// Encrypts one block. Only the last block may be short, and only a full block is fed back.
     fn encrypt_block(&self, feedback: &mut Block, text: &mut [u8])
         requires { length text.old ≤ 16 }
         ensures value { text.new ≡ xor_of text.old (aes_of self.now feedback.old) }
@@ -53,7 +53,7 @@ impl Aes128 {
         }
     }
 
-    /// Decrypts a block, or the short last one, and feeds back a full block.
+    /// Decrypts one block. Only the last block may be short, and only a full block is fed back.
     fn decrypt_block(&self, feedback: &mut Block, text: &mut [u8])
         requires { length text.old ≤ 16 }
         ensures value { text.new ≡ xor_of text.old (aes_of self.now feedback.old) }

@@ -24,7 +24,7 @@ pub(crate) fn next_round_key(round: usize, key: Words) -> Words
     [first, second, third, d ^ third]
 }
 
-/// The word rotated left by a byte, with each byte replaced using the S-box, and with the round's
+/// The word rotated left by a byte, with each byte replaced using the S-box, and the round's
 /// constant added.
 fn scheduled_word(round: usize, word: u32) -> u32
     requires after_first { 1 ≤ round }

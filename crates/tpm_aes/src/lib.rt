@@ -1,10 +1,10 @@
-//! AES-128 block encryption (FIPS 197), and the cipher feedback mode with segments of 128 bits
-//! (SP 800-38A, 6.3).
+//! AES-128 block encryption (FIPS 197), and the cipher feedback mode with segments of 128 bits (SP
+//! 800-38A, 6.3).
 //!
-//! The crate has no dependencies. Each call equals its definition in `specs/` for data of any
-//! length; encryption and decryption undo each other. No call allocates memory or fails. The
-//! rounds use lookup tables, and every table entry is proved correct (`table_laws`). Which
-//! entries are read depends on the key and the text, and the time of a call is unspecified.
+//! The crate has no dependencies. The result of each function equals its definition in `specs/` for
+//! data of any length. Encryption and decryption undo each other. No function allocates memory or
+//! fails. The rounds use lookup tables, and every table entry is proved correct (`table_laws`).
+//! Which entries are read depends on the key and the text. The time of a call is unspecified.
 
 #![tactic(auto)]
 

@@ -25,7 +25,8 @@ pub(crate) fn mixed_state(state: Words) -> Words
     ]
 }
 
-/// The state after the bytes are substituted and the rows shifted, as in the last round.
+/// The state after the bytes are substituted and the rows shifted, which is all that the last round
+/// does before AddRoundKey.
 pub(crate) fn shifted_state(state: Words) -> Words
     ensures { bytes_of result ≡ shift_rows (sub_bytes (bytes_of state)) }
 {

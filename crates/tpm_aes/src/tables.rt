@@ -1,5 +1,5 @@
-//! Table lookups: the S-box (FIPS 197, 5.1.1), and the columns that MixColumns computes from its
-//! bytes (5.1.3).
+//! Table lookups: the S-box (FIPS 197, 5.1.1), and the columns that MixColumns computes from S-box
+//! values (5.1.3).
 
 ghost use Rattle.std.specs.Prelude.{◌≡◌};
 ghost use Rattle.std.specs.Int.{to_le_bytes, w32};
@@ -18,7 +18,7 @@ pub(crate) fn mixed_column(bytes: [u8; 4]) -> u32
         ^ MIXED[3][usize::from(d)]
 }
 
-/// The word of the S-box values of these bytes (FIPS 197, 5.2, SubWord).
+/// The word that consists of the S-box values of these bytes (FIPS 197, 5.2, SubWord).
 pub(crate) fn substituted_word(bytes: [u8; 4]) -> u32
     ensures { to_le_bytes w32 result ≡ sub_bytes bytes }
 {
@@ -33,9 +33,9 @@ fn sub_byte(a: u8) -> u8
     S_BOX[usize::from(a)]
 }
 
-/// Every single table entry matches the standard, not only the sum of the entries for a column. The
-/// definition of the S-box is checked against two values that the standard prints (FIPS 197, 5.1.1,
-/// figure 7). A proof only: it has no effect at run time.
+/// Each single table entry matches the standard, and not only the sum of the entries for a column.
+/// The definition of the S-box is checked against two values that the standard prints (FIPS 197,
+/// 5.1.1, figure 7). This function is only a proof: it has no effect at run time.
 #[inline(always)]
 #[tactic(auto, using(crate::proofs::Entries::s_box_entries, crate::proofs::Entries::mixed_entries, crate::proofs::Vectors::published_bytes))]
 pub fn table_laws()

@@ -1,4 +1,4 @@
--- A read returns a field exactly if the text starts with the field's encoding.
+-- A read returns a field exactly when the text starts with the field's encoding.
 use Rattle.std.proofs.Common.{◌≡◌, ℕ, ◌+◌, ◌^◌, ◌<◌, ◌≤◌, Bool, true, false, cond, ltb, List, [], ◌∷◌, ◌++◌, length, take, drop, Option, Some, None, Result, Ok, Err, refl, sym, ap, subst, ◌∙◌, append_assoc, arith, inl, inr}
 use Rattle.std.specs.Prelude.{ok_or}
 use Rattle.std.specs.Int.{Width, w8, w16, w32, byte_len, from_be_bytes, to_be_bytes}
@@ -124,8 +124,8 @@ number_again w limit wide n rest lt =
     let long : ltb (length (to_be_bytes w n ++ rest)) (byte_len w) ≡ false = le-ltb _ _ (omega (arith, length-append (to_be_bytes w n) rest)) in
     rw (long, take_at (to_be_bytes w n) rest (byte_len w) len, drop_at (to_be_bytes w n) rest (byte_len w) len, wide.again n lt) refl
 
--- If a number is read, the bytes start with its encoding, whichever fault the read returns for a
--- truncated number.
+-- If a number is read, the bytes start with its encoding, no matter which fault the read returns
+-- for a truncated number.
 pub number_or_takes : {F : Type 0} (w : Width) (limit : ℕ) (wide : IsWide w limit) (f : F) (bytes : List ℕ) (x : ℕ × List ℕ) → AreBytes bytes → or_fault (number_at w bytes) f ≡ Ok x → Takes bytes (to_be_bytes w x.0) x.1 × (x.0 < limit)
 number_or_takes w limit wide f bytes x fits e = number_takes w limit wide bytes x.0 x.1 fits (or_fault_ok (number_at w bytes) f x e)
 

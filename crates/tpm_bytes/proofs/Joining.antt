@@ -4,7 +4,7 @@ use Rattle.std.proofs.lemmas.List.{map-append}
 use Rattle.tpm_bytes.specs.Many.{many_at}
 use Rattle.tpm_bytes.specs.Reading.{◌>>=◌}
 
--- the result of a read, prefixed with the items read before it
+-- the result of a read, with the previously read items prepended
 abbrev pub behind : {A E : Type 0} → List A → Result (List A × List ℕ) E → Result (List A × List ℕ) E
 behind front read = do
   others ← read
@@ -19,8 +19,8 @@ moved front x (Ok y) = ap (λ l. Ok (l, y.1)) (append_assoc front (x ∷ []) y.0
 pub map_push : {X Y : Type 0} (f : X → Y) (xs : List X) (x : X) → map f (xs ++ x ∷ []) ≡ map f xs ++ f x ∷ []
 map_push f xs x = map-append f xs (x ∷ [])
 
--- If one more item is read, the items so far, followed by those still to be read, are still the
--- whole list.
+-- After one more item is read, the items read so far, followed by those still to be read, are still
+-- the whole list.
 pub one_more : {X A E : Type 0} (view : X → A) (at : List ℕ → Result (A × List ℕ) E) (so_far : List X) (m n : ℕ) (x : X) (text rest : List ℕ) → m ≡ suc n → at text ≡ Ok (view x, rest) → behind (map view (so_far ++ x ∷ [])) (many_at at n rest) ≡ behind (map view so_far) (many_at at m text)
 one_more {X} {A} {E} view at so_far m n x text rest e is =
     let front = map view so_far in
@@ -29,7 +29,7 @@ one_more {X} {A} {E} view at so_far m n x text rest e is =
     ∙ ap (λ (r : Result (A × List ℕ) E). behind front (r >>= λ first. many_at at n first.1 >>= λ others. Ok (first.0 ∷ others.0, others.1))) (sym is)
     ∙ ap (λ k. behind front (many_at at k text)) (sym e)
 
--- If an item cannot be read, the whole read fails with that item's fault.
+-- If an item cannot be read, the read of the list fails with the fault of that item.
 pub none_more : {A E : Type 0} (at : List ℕ → Result (A × List ℕ) E) (front : List A) (m n : ℕ) (fault : E) (text : List ℕ) → m ≡ suc n → at text ≡ Err fault → behind front (many_at at m text) ≡ Err fault
 none_more {A} {E} at front m n fault text e is =
     ap (λ k. behind front (many_at at k text)) e

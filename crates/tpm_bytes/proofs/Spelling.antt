@@ -1,16 +1,16 @@
--- If a read returns an item exactly when the text starts with its encoding, the same holds for a
--- list of such items.
+-- If a read returns an item exactly when the text starts with its encoding, the same is true of a
+-- list of items.
 use Rattle.std.proofs.Common.{◌≡◌, ℕ, zero, suc, List, [], ◌∷◌, ◌++◌, length, Result, Ok, refl, ap, subst, ◌∙◌, append_assoc}
 use Rattle.std.specs.List.{flat_map, AllByRecursion}
 use Rattle.tpm_bytes.specs.Many.{many_at}
 use Rattle.tpm_bytes.specs.Reading.{◌>>=◌}
 use Rattle.tpm_bytes.proofs.Fields.{AreBytes, Takes, Takes-then, bind_ok, ok_is}
 
--- Each item that is read has the property, and the bytes started with its encoding.
+-- Each item that a read returns has the property `Is`, and the bytes start with its encoding.
 abbrev pub IsTaken : {A E : Type 0} → (A → List ℕ) → (A → Type 0) → (List ℕ → Result (A × List ℕ) E) → Type 0
 IsTaken {A} text Is at = (bytes : List ℕ) (x : A × List ℕ) → AreBytes bytes → at bytes ≡ Ok x → Takes bytes (text x.0) x.1 × Is x.0
 
--- The encoding of an item with this property decodes to the item again.
+-- The encoding of each item with the property `Is` decodes to that item.
 abbrev pub IsAgain : {A E : Type 0} → (A → List ℕ) → (A → Type 0) → (List ℕ → Result (A × List ℕ) E) → Type 0
 IsAgain {A} text Is at = (x : A) (rest : List ℕ) → Is x → at (text x ++ rest) ≡ Ok (x, rest)
 

@@ -3,7 +3,7 @@
 use Rattle.std.specs.Prelude.{ℕ, zero, suc, ◌+◌, List, [], ◌∷◌, Result, Ok}
 use Rattle.tpm_bytes.specs.Reading.{◌>>=◌}
 
--- a number of items in a text; each starts at the end of the previous one
+-- the given number of items at the start of a text, one after another, and the rest of the text
 abbrev pub many_at : {A E : Type 0}
     → (List ℕ → Result (A × List ℕ) E)
     → ℕ → List ℕ → Result (List A × List ℕ) E
@@ -13,7 +13,8 @@ many_at at (suc count) text = do
   others ← many_at at count first.1
   Ok (first.0 ∷ others.0, others.1)
 
--- one item in a text for each key, read in sequence; the keys are numbered from n
+-- one item for each key at the start of a text, one after another, and the rest of the text. The
+-- keys are numbered from n
 abbrev pub each_at : {K A E : Type 0}
     → (ℕ → K → List ℕ → Result (A × List ℕ) E)
     → ℕ → List K → List ℕ → Result (List A × List ℕ) E

@@ -13,24 +13,24 @@ abbrev pub ◌>>=◌ : {A B E : Type 0} → Result A E → (A → Result B E) �
 (Ok x) >>= f = f x
 (Err e) >>= f = Err e
 
--- a result in which this fault replaces any other fault
+-- the same result, but with this fault instead of any other
 abbrev pub or_fault : {A E F : Type 0} → Result A E → F → Result A F
 or_fault (Ok x) fault = Ok x
 or_fault (Err e) fault = Err fault
 
--- a step that fails with this fault if the test holds
+-- a step that fails with this fault if the test is true
 abbrev pub refused_if : {E : Type 0} → Bool → E → Result (Unit {0}) E
 refused_if true fault = Err fault
 refused_if false fault = Ok tt
 
--- Each number in a list is below 256.
+-- Each number in the list is below 256.
 abbrev pub AreBytes : List ℕ → Type 0
 AreBytes bytes = (i : ℕ) → get_or bytes i 0 < 256
 
 abbrev pub too_short : Short
 too_short = record {}
 
--- the first bytes of a text, and the rest of it
+-- the first `count` bytes of a text, and the rest of it
 abbrev pub bytes_at : ℕ → List ℕ → Result (List ℕ × List ℕ) Short
 bytes_at count text =
     if nat_lt (length text) count then Err too_short
@@ -42,15 +42,14 @@ number_at width text =
     if nat_lt (length text) (byte_len width) then Err too_short
     else Ok (from_be_bytes width (take (byte_len width) text), drop (byte_len width) text)
 
--- the content of the sized buffer at the start of a text, and the rest of it. The fault is TooLong
--- if the size is over the limit, even if bytes are missing; otherwise it is Short if bytes are
--- missing
+-- the content of the sized buffer at the start of a text, and the rest of it. Fails with TooLong if
+-- the size is over the limit, even if bytes are missing; otherwise with Short if bytes are missing
 abbrev pub sized_at : ℕ → List ℕ → Result (List ℕ × List ℕ) SizedFault
 sized_at limit text = do
   size ← or_fault (number_at w16 text) fault.Short
   if nat_lt limit size.0 then Err fault.TooLong else or_fault (bytes_at size.0 size.1) fault.Short
 
--- The code returned the defined result: the value, seen through `view`, or the fault.
+-- The code's result is the defined one: the value, seen through `view`, or the fault.
 abbrev pub Gives : {X Y E : Type 0} → (X → Y) → Result Y E → Result X E → Type 0
 Gives view defined (Ok x) = defined ≡ Ok (view x)
 Gives view defined (Err e) = defined ≡ Err e

@@ -1,4 +1,4 @@
--- A tap wraps a reader or a writer, its device, and keeps these marks about it.
+-- A tap wraps a reader or a writer, which is called its device, and records these marks about it.
 use Rattle.std.specs.Prelude.{◌≡◌, ℕ, ◌+◌, ◌-◌, ◌^◌, ◌==◌, min, List, ◌++◌}
 use Rattle.std.specs.Prelude.{Bool, true, false, Option, Result, Ok, Err, if◌then◌else◌}
 use Rattle.std.specs.Io.KnownBytes.{Appends}
@@ -37,8 +37,8 @@ after_read marks (Ok count) room =
     else record marks { ended = true; room = room }
     ) else record marks { reads = min (marks.reads + 1) (2 ^ 64 - 1); room = room }
 
--- the marks after a write of this many bytes. A write that accepted only some of the bytes does not
--- change them
+-- the marks after a write of this many bytes. A write that accepts only some of the bytes changes
+-- no mark
 abbrev pub after_write : {E : Type 0} → Marks → Result ℕ E → ℕ → Marks
 after_write marks (Err e) size = record marks { failed = true }
 after_write marks (Ok count) size =

@@ -7,15 +7,16 @@ use Rattle.std.specs.Int.{w16, to_be_bytes}
 abbrev pub sized_text : List ℕ → List ℕ
 sized_text bytes = to_be_bytes w16 (length bytes) ++ bytes
 
--- A write of a text to a buffer of this capacity appends all of it if it fits, and nothing
--- otherwise.
+-- A write of a text to a buffer of this capacity appends all of it if it fits. Otherwise it appends
+-- nothing.
 abbrev pub Puts : {E : Type 0} → ℕ → List ℕ → List ℕ → Result (Unit {0}) E → List ℕ → Type 0
 Puts capacity text old result new =
     (IsOk result ↔ (length old + length text ≤ capacity))
     × OnOk result (new ≡ old ++ text)
     × OnErr result (new ≡ old)
 
--- A write of bytes as a sized buffer, with a two-byte size, appends all of it exactly if it fits.
+-- A write of bytes as a sized buffer, with a two-byte size, appends all of it if it fits. Otherwise
+-- it appends nothing.
 abbrev pub PutsSized : {E : Type 0} → ℕ → List ℕ → List ℕ → Result (Unit {0}) E → List ℕ → Type 0
 PutsSized capacity bytes old result new =
     (IsOk result ↔ ((length bytes < 2 ^ 16) × (length old + (2 + length bytes) ≤ capacity)))

@@ -1,5 +1,5 @@
-//! Reads bytes from the start of a text: a given number of bytes, big-endian numbers, and sized
-//! buffers (TPM2B). A read that fails leaves the text unchanged.
+//! Reads bytes from the start of a text: a given number of bytes, a big-endian number, or a sized
+//! buffer (TPM2B). A read that fails leaves the text unchanged.
 
 ghost use Rattle.std.specs.Prelude.{◌≡◌, ℕ, ◌==◌, List, length};
 ghost use Rattle.std.specs.Int.{w8, w16, w32, w64};
@@ -11,16 +11,16 @@ use std::marker::Model;
 #[derive(Clone, Copy, PartialEq, Eq)]
 pub struct Short;
 
-/// The reason why a sized buffer was not read.
+/// The reason why a sized buffer could not be read.
 #[derive(Clone, Copy, PartialEq, Eq)]
 pub enum SizedFault {
-    /// The size of the buffer is over the limit, even if bytes are missing.
+    /// The size of the buffer is over the limit, whether or not bytes are missing.
     TooLong,
     /// The size of the buffer is truncated, or some of its bytes are missing.
     Short,
 }
 
-/// The unread rest of a text. In contracts it is a list of the unread bytes.
+/// The unread rest of a text. Contracts represent it by the list of unread bytes.
 #[derive(Drop)]
 pub struct Cursor<'a> {
     left: &'a [u8],
@@ -40,7 +40,7 @@ impl<'a> Cursor<'a> {
         Cursor { left: text }
     }
 
-    /// All unread bytes. They remain unread.
+    /// Returns all unread bytes, which remain unread.
     pub fn rest(&self) -> &'a [u8]
         ensures { result.now ≡ self.now }
     {
@@ -59,7 +59,7 @@ impl<'a> Cursor<'a> {
         self.left.is_empty()
     }
 
-    /// The next `count` bytes.
+    /// Reads the next `count` bytes.
     pub fn take(&mut self, count: usize) -> Result<&'a [u8], Short>
         ensures { Reads (λ front. front.now) (bytes_at count self.old) self.old result self.new }
     {
@@ -101,7 +101,8 @@ impl<'a> Cursor<'a> {
         ]))
     }
 
-    /// A sized buffer (TPM2B) of at most `limit` bytes: a two-byte size, then that many bytes.
+    /// Reads a sized buffer (TPM2B) of at most `limit` bytes: a two-byte size, followed by that
+    /// many bytes.
     pub fn sized(&mut self, limit: usize) -> Result<&'a [u8], SizedFault>
         ensures { Reads (λ bytes. bytes.now) (sized_at limit self.old) self.old result self.new }
     {

@@ -1,5 +1,5 @@
 //! The fault [`NoMemory`], which the device's crates return when an allocation fails.
 
-/// An allocation failed, and the requested change did not happen.
+/// An allocation failed, and the requested change was not made.
 #[derive(Clone, Copy, Debug, PartialEq, Eq)]
 pub struct NoMemory;

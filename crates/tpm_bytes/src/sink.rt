@@ -15,7 +15,8 @@ use std::marker::Model;
 #[derive(Clone, Copy, PartialEq, Eq)]
 pub struct Full;
 
-/// A text of at most `N` bytes that is being written. In contracts it is the bytes written so far.
+/// A text of at most `N` bytes that is being written. Contracts represent it by the bytes written
+/// so far.
 #[derive(Drop)]
 pub struct Sink<const N: usize> {
     bytes: ArrayVec<u8, N>,
@@ -52,7 +53,7 @@ impl<const N: usize> Sink<N> {
         self.bytes.as_slice()
     }
 
-    /// Write access to the bytes written so far.
+    /// The bytes written so far, as a mutable slice.
     pub fn as_mut_slice(&mut self) -> &mut [u8]
         ensures* writes_back { sem 𝓛 (lends_bytes N.row self.entry result) }
         ensures value { result.now ≡ self.old }
@@ -108,8 +109,8 @@ impl<const N: usize> Sink<N> {
         self.put(&number.to_be_bytes())
     }
 
-    /// Writes a sized buffer: the size of `bytes` as two bytes, then `bytes`. More than 65,535
-    /// bytes never fit.
+    /// Writes a sized buffer: the size of `bytes` as two bytes, followed by `bytes`. More than
+    /// 65,535 bytes never fit.
     pub fn put_sized(&mut self, bytes: &[u8]) -> Result<(), Full>
         ensures { PutsSized N bytes.now self.old result self.new }
     {
@@ -120,7 +121,7 @@ impl<const N: usize> Sink<N> {
         self.put(bytes)
     }
 
-    /// Appends these bytes; the sink must have room for them.
+    /// Appends these bytes. The sink must have room for them.
     pub fn append(&mut self, bytes: &[u8])
         requires { length self.old + length bytes.now ≤ N }
         ensures { self.new ≡ self.old ++ bytes.now }
@@ -156,8 +157,8 @@ impl<const N: usize> Sink<N> {
         self.append(&number.to_be_bytes());
     }
 
-    /// Appends a sized buffer: the size of `bytes` as two bytes, then `bytes`. The sink must have
-    /// room for it.
+    /// Appends a sized buffer: the size of `bytes` as two bytes, followed by `bytes`. The sink must
+    /// have room for it.
     pub fn append_sized(&mut self, bytes: &[u8])
         requires short { length bytes.now < 2 ^ 16 }
         requires room { length self.old + (2 + length bytes.now) ≤ N }

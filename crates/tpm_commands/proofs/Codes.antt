@@ -1,5 +1,5 @@
--- The command found for a number on the wire has that number, and each command is found by its
--- number.
+-- Looking up a number on the wire finds a command with that number, and each command is found by
+-- its number.
 use Rattle.std.proofs.Common.{◌≡◌, ℕ, ◌<◌, ◌^◌, Bool, true, false, cond, List, [], ◌∷◌, Option, Some, None, refl, sym, subst, arith}
 use Rattle.std.specs.Prelude.{◌==◌, IfSome}
 use Rattle.std.specs.List.{find}
@@ -29,7 +29,7 @@ code_named-number number = numbered number (code_named number) (found_passes (λ
 pub code_named-is : (number : ℕ) (code : CommandCode) → code_named number ≡ Some code → number ≡ code_number code
 code_named-is number code e = sym (subst (λ (found : Option CommandCode). IfSome found (λ code. code_number code ≡ number)) e (code_named-number number))
 
--- ---- the last clause covers every command without a clause of its own
+-- ---- proofs whose last clause covers every command that has no clause of its own
 
 pub code_named-again : (code : CommandCode) → code_named (code_number code) ≡ Some code
 unfolding code_named

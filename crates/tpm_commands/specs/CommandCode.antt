@@ -19,11 +19,11 @@ use Rattle.tpm_commands.specs.Shape.{Facts, is_sized}
 abbrev pub code_number : CommandCode → ℕ
 code_number code = (command_facts code).number
 
--- the name of a command: the title of its section of Part 3 without "TPM2_"
+-- the name of a command: the title of its section in Part 3, without "TPM2_"
 abbrev pub code_name : CommandCode → List ℕ
 code_name code = (command_facts code).name
 
--- the part of the device's state that the command may change if it succeeds
+-- the part of the device's state that a command may change if it succeeds
 abbrev pub part_of : CommandCode → Part
 part_of code = (command_facts code).part
 
@@ -50,14 +50,15 @@ handle_count code = length (shape_of code).handles
 abbrev pub authorized_handles : CommandCode → ℕ
 authorized_handles code = count_by (λ rule. is_some rule.role) (shape_of code).handles
 
--- the role for authorizing the handle at a position, counted from 0; USER if the handle needs no
+-- the role in which the handle at a position (counted from 0) is authorized, or USER if it needs no
 -- authorization
 abbrev pub role_at : CommandCode → ℕ → Role
 role_at code place =
     option_map_or (λ (rule : HandleRule). unwrap_or rule.role role.User)
     (slice_get (shape_of code).handles place) role.User
 
--- how a command uses an NV index that authorizes it as the handle at a position, counted from 0
+-- how a command uses the NV index that authorizes it. This depends on the role in which the index
+-- is authorized, and on whether the command reads it
 abbrev pub nv_use : Role → (reads : Bool) → NvUse
 nv_use role.Admin reads = does.Administer
 nv_use role.User true = does.Read

@@ -1,6 +1,6 @@
--- The facts about the supported commands: the number of each (TPM 2.0 Library, Part 2, section
--- 6.5.2: TPM_CC), its name, the part of the device's state that it may change if it succeeds, and
--- its shape (Part 3, its own section).
+-- The facts about each supported command: its number (TPM 2.0 Library, Part 2, section 6.5.2:
+-- TPM_CC), its name, the part of the device's state that it may change if it succeeds, and its
+-- shape (the command's section in Part 3).
 use Rattle.tpm_types.specs.Limits.{data_limit}
 use Rattle.std.specs.Prelude.{ℕ, true, List, [], ◌∷◌, codes}
 use Prim.Native.String.{String}
@@ -21,7 +21,7 @@ pub record CommandFacts : Type 0 where
   pub part : Part
   pub shape : Facts
 
--- a line of the table of commands; the name is the title of the command's section without "TPM2_"
+-- a line of the table of commands. The name is the title of the command's section without "TPM2_"
 abbrev pub facts : (number : ℕ) → (name : String) → Part → Facts → CommandFacts
 facts number name part shape = record {
   number = number;
@@ -30,13 +30,13 @@ facts number name part shape = record {
   shape = shape;
 }
 
--- ---- words of the table of commands
+-- ---- the words used in the table of commands
 
 -- the shape of a command whose answer starts with a sized buffer
 abbrev pub answering : Facts → Facts
 answering shape = record shape { sized_answer = true }
 
--- the shape of a command whose success preserves the state that a TPM2_Shutdown saved
+-- the shape of a command whose success preserves the state that TPM2_Shutdown saved
 abbrev pub keeping : Facts → Facts
 keeping shape = record shape { keeps_shutdown = true }
 
@@ -52,8 +52,8 @@ reading shape = record shape { reads_nv = true }
 abbrev pub without_sessions : Facts → Facts
 without_sessions shape = record shape { forbids_sessions = true }
 
--- the shape of a command that creates a session or an object and can run out of memory; its answer
--- is the new handle, then a sized buffer
+-- the shape of a command that creates a session or an object, and can run out of memory. Its answer
+-- is the new handle, followed by a sized buffer
 abbrev pub making : Facts → Facts
 making shape = record shape { sized_answer = true; answers_handle = true; grows = true }
 
@@ -65,20 +65,20 @@ on_object parameters = answering (shape_with (user kind.Object ∷ []) parameter
 abbrev pub on_policy : List ParameterKind → Facts
 on_policy parameters = shape_with (unauthorized kind.PolicySession ∷ []) parameters
 
--- the shape of a command authorized by lockoutAuth: lockHandle
+-- the shape of a command that lockoutAuth authorizes. Its handle is lockHandle
 abbrev pub on_lockout : List ParameterKind → Facts
 on_lockout parameters = shape_with (user kind.Lockout ∷ []) parameters
 
--- the shape of a command authorized by lockoutAuth or the platform: authHandle
+-- the shape of a command that lockoutAuth or the platform authorizes. Its handle is authHandle
 abbrev pub on_clear : List ParameterKind → Facts
 on_clear parameters = shape_with (user kind.Clear ∷ []) parameters
 
--- the shape of a command that uses an NV index by the authorization of authHandle: authHandle,
+-- the shape of a command on an NV index. Its handles are authHandle, which is authorized, and
 -- nvIndex
 abbrev pub on_nv : List ParameterKind → Facts
 on_nv parameters = shape_with (user kind.NvAuth ∷ unauthorized kind.NvIndex ∷ []) parameters
 
--- the shape of a command that reads an NV index: authHandle, nvIndex
+-- the shape of a command that reads an NV index. Its handles are authHandle and nvIndex
 abbrev pub on_read_nv : List ParameterKind → Facts
 on_read_nv parameters = reading (on_nv parameters)
 
@@ -103,8 +103,8 @@ create_parameters =
 abbrev pub define_parameters : List ParameterKind
 define_parameters = parameter.Buffer 32 ∷ parameter.NvPublic ∷ []
 
--- the handles of TPM2_PolicySecret, authHandle and policySession; and its parameters nonceTPM,
--- cpHashA, policyRef and expiration
+-- the handles of TPM2_PolicySecret (authHandle and policySession), and its parameters (nonceTPM,
+-- cpHashA, policyRef and expiration)
 abbrev pub secret_handles : List HandleRule
 secret_handles = user kind.EntityNotNull ∷ unauthorized kind.PolicySession ∷ []
 
@@ -116,8 +116,8 @@ secret_parameters =
 abbrev pub evict_handles : List HandleRule
 evict_handles = user kind.Provision ∷ unauthorized kind.Object ∷ []
 
--- the handles of TPM2_PolicyNV, authHandle, nvIndex and policySession; and its parameters
--- operandB, offset and operation
+-- the handles of TPM2_PolicyNV (authHandle, nvIndex and policySession), and its parameters
+-- (operandB, offset and operation)
 abbrev pub compared_handles : List HandleRule
 compared_handles =
     user kind.NvAuth ∷ unauthorized kind.NvIndex ∷ unauthorized kind.PolicySession ∷ []

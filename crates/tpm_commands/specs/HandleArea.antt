@@ -1,5 +1,5 @@
--- The handles of a command, each checked by a rule. TPM 2.0 Library, Part 3, section 5.4 (handle
--- area validation).
+-- The handles of a command, each of which must be allowed by its rule. TPM 2.0 Library, Part 3,
+-- section 5.4 (handle area validation).
 use Rattle.std.specs.Prelude.{ℕ, not, List, Result, Ok}
 use Rattle.std.specs.Int.{w32}
 use Rattle.tpm_bytes.specs.Many.{each_at}
@@ -20,14 +20,15 @@ use Rattle.tpm_commands.specs.Shape.{is_of_kind}
 abbrev pub handle_fault : ℕ → ResponseCode → Rc
 handle_fault n fault = at (place.Handle n) (plain fault)
 
--- the command's n-th handle at the start of a text, and the rest of the text. The handle must be
--- one that its rule allows
+-- the n-th handle of a command at the start of a text, and the rest of the text. The rule must
+-- allow the handle
 unfoldable pub allowed_handle_at : ℕ → HandleRule → List ℕ → Result (Handle × List ℕ) Rc
 allowed_handle_at n rule text = do
   number ← or_fault (number_at w32 text) (handle_fault n code.Insufficient)
   allowed ← refused_if (not (is_of_kind rule.kind (numbered number.0))) (handle_fault n code.Value)
   Ok (numbered number.0, number.1)
 
--- the handles of a command, one for each of its rules, and the rest of the text
+-- the handles of a command at the start of a text, one for each of its rules, and the rest of the
+-- text
 abbrev pub allowed_handles_at : CommandCode → List ℕ → Result (List Handle × List ℕ) Rc
 allowed_handles_at code text = each_at allowed_handle_at 1 (shape_of code).handles text

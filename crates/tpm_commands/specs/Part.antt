@@ -1,13 +1,13 @@
--- The parts of a device's state that commands change, as the detailed actions in each command's
--- section say (TPM 2.0 Library, Part 3).
+-- The parts of a device's state that commands change. TPM 2.0 Library, Part 3, the detailed actions
+-- in each command's section.
 
--- A part of a device's state that a successful command may change. In order: nothing; the
--- sessions; the transient objects; both; the persistent objects; five changes to NV indices (one
--- is written or locked, a counter increments, an authorization value is replaced, one is defined,
--- one is undefined); the authorization values of the hierarchies and of lockout; the protection
--- against dictionary attacks; the banks; what a startup initializes, including NV indices; what a
--- shutdown saves; whether TPM2_Clear is disabled; and what TPM2_Clear removes, including objects
--- and NV indices.
+-- A part of a device's state that a successful command may change. In order: nothing; the sessions;
+-- the transient objects; the sessions and the transient objects; the persistent objects; five
+-- changes to NV indices (an index is written or locked, a counter increments, an authorization
+-- value is replaced, an index is defined, an index is undefined); the authorization values of the
+-- hierarchies and of lockout; the protection against dictionary attacks; the PCR banks; what a
+-- startup initializes, including NV indices; what a shutdown saves; whether TPM2_Clear is disabled;
+-- and what TPM2_Clear removes, including objects and NV indices.
 pub data Part : Type 0 where
   Nothing : Part
   Sessions : Part

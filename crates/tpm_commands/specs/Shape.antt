@@ -1,6 +1,6 @@
--- Every fact about a command except its number and its effect. TPM 2.0 Library, Part 3, the tables
--- in each command's section: its handles and how they are authorized, its parameters, and whether
--- it may have sessions.
+-- The shape of a command: every fact about it except its number, its name and its effect. TPM 2.0
+-- Library, Part 3, the tables in each command's section: its handles and how they are authorized,
+-- its parameters, and whether it may have sessions.
 use Rattle.std.specs.Prelude.{◌==◌, ◌||◌, ◌&&◌, not, is_some, Bool, true, false, List, Some, None}
 use Rattle.tpm_types.specs.declared.handle.Handle.{Handle}
 use Rattle.tpm_commands.specs.declared.shape.HandleKind.{HandleKind}
@@ -14,7 +14,7 @@ use Rattle.tpm_types.specs.Handle.{hierarchy_auth_of, hierarchy_of, is_nv_index,
 
 -- whether a handle is TPM_RH_NULL or has the type of an entity with an authorization value
 -- (TPMI_DH_ENTITY): a hierarchy or lockout, a PCR, an NV index (01), a transient object (80) or a
--- persistent one (81). The entity need not exist
+-- persistent object (81). The entity need not exist
 abbrev pub is_entity : Handle → Bool
 is_entity handle =
     handle.number == null_handle.number || is_some (hierarchy_auth_of handle) || is_some (pcr_of handle)
@@ -25,7 +25,7 @@ abbrev pub is_provision : Handle → Bool
 is_provision handle =
     handle.number == owner_handle.number || handle.number == platform_handle.number
 
--- whether a handle is of a kind (Part 2, section 9). The kinds, in order: a PCR (TPMI_DH_PCR); a
+-- whether a handle is of this kind (Part 2, section 9). The kinds, in order: a PCR (TPMI_DH_PCR); a
 -- PCR or TPM_RH_NULL; only TPM_RH_NULL (the standard also allows a key); a hierarchy or lockout
 -- (TPMI_RH_HIERARCHY_AUTH); a hierarchy or TPM_RH_NULL (TPMI_RH_HIERARCHY+); an entity
 -- (TPMI_DH_ENTITY), with or without TPM_RH_NULL; a transient or persistent object, which need not
@@ -75,10 +75,10 @@ is_sized parameter.YesNo = false
 -- the shape of a command, regardless of where its lists are in memory. Its fields: the handles and
 -- how each is authorized; the parameters; whether the answer's first parameter is a sized buffer;
 -- whether a handle precedes the answer's parameters; whether sessions are forbidden; whether memory
--- can run out; whether the command reads the NV index that authorizes it, if an index does (any
--- other command writes that index, or administers it in the role ADMIN); and whether a success
--- preserves the state that a TPM2_Shutdown saved (a success of any other command discards it: Part
--- 3, section 9.4)
+-- can run out; whether the command reads the NV index that authorizes it, if there is one (any
+-- other command writes that index, or administers it in the role ADMIN); and whether the command,
+-- if it succeeds, preserves the state that TPM2_Shutdown saved (any other command discards that
+-- state if it succeeds: Part 3, section 9.4)
 pub record Facts : Type 0 where
   pub handles : List HandleRule
   pub parameters : List ParameterKind

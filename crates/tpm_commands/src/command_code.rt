@@ -10,8 +10,8 @@ use crate::shape::ParameterKind::{
 use crate::shape::{HandleKind, HandleRule, ParameterKind, Shape};
 use tpm_types::{DATA_LIMIT, NvUse, Role};
 
-/// The supported commands, in ascending order of number. One line of `facts!` contains all facts
-/// about a command.
+/// The supported commands, in ascending order of number. All facts about a command are in one line
+/// of `facts!`.
 #[derive(Clone, Copy, PartialEq, Eq)]
 pub enum CommandCode {
     EvictControl,
@@ -143,7 +143,7 @@ const POLICY_SESSION: HandleRule = HandleRule {
     role: None,
 };
 
-/// The largest size in bytes of the data that a command takes.
+/// The largest size in bytes of the data that a command accepts.
 const DATA_SIZE: u16 = DATA_LIMIT as u16;
 
 /// The parameters of TPM2_CreatePrimary and TPM2_Create: inSensitive, inPublic, outsideInfo,
@@ -163,7 +163,7 @@ const COMPARED: &[ParameterKind] = &[Buffer(32), U16, Operation];
 /// authHash.
 const START: &[ParameterKind] = &[Buffer(32), Buffer(32), SessionType, Symmetric, Hash];
 
-/// Whether a fact is one of those named.
+/// Expands to `true` if the list contains the named fact, and to `false` otherwise.
 macro_rules! holds {
     (sized_answer: sized_answer $($rest:ident)*) => { true };
     (answers_handle: answers_handle $($rest:ident)*) => { true };
@@ -175,7 +175,7 @@ macro_rules! holds {
     ($fact:ident:) => { false };
 }
 
-/// A shape with these handles and parameters. Of the other facts, only those named are true.
+/// A shape with these handles and parameters, in which only the listed other facts are true.
 macro_rules! shape {
     ([$($handle:expr),*], $parameters:expr $(, $fact:ident)*) => {
         Shape {
@@ -191,8 +191,8 @@ macro_rules! shape {
     };
 }
 
-/// One column of the lines of `facts!`: all commands; the number, name or shape of a command; or
-/// the command with a given number.
+/// Expands to one column of the table `facts!`: all commands; the number, name or shape of a
+/// command; or the command with a given number.
 macro_rules! column {
     (all; $($number:literal $variant:ident $name:literal $shape:tt)*) => {
         [$(CommandCode::$variant),*]
@@ -211,9 +211,9 @@ macro_rules! column {
     };
 }
 
-/// The facts about all commands, one line for each, in ascending order of number: the command's
-/// number, its variant, its name and its shape. The name is the title of the command's section of
-/// TPM 2.0 Library, Part 3, without "TPM2_".
+/// The table of commands, in ascending order of number. Each line contains a command's number, its
+/// variant, its name and its shape. The name is the title of the command's section of TPM 2.0
+/// Library, Part 3, without "TPM2_".
 macro_rules! facts {
     ($($asked:tt)*) => {
         column! {
@@ -311,7 +311,7 @@ impl CommandCode {
         facts!(code of number)
     }
 
-    /// The name of the command, which no other command has.
+    /// The name of the command, which is unique.
     #[tactic(auto, unfolding(crate::specs::CommandCode::code_called))]
     pub fn name(self) -> &'static str
         ensures value { result.now ≡ code_name self }
@@ -333,7 +333,7 @@ impl CommandCode {
             .find(|code| name == code.name().as_bytes())
     }
 
-    /// The shape of the command: every fact except its number and its name.
+    /// The shape of the command: every fact except its number, its name and its effect.
     #[tactic(auto, unfolding(crate::specs::CommandCode::shape_of))]
     pub fn shape(self) -> Shape
         ensures value { facts_of result ≡ shape_of self }
@@ -362,7 +362,7 @@ impl CommandCode {
             .count()
     }
 
-    /// The role for authorizing the handle at this position, counted from 0.
+    /// The role in which the handle at this position (counted from 0) is authorized.
     pub fn role_at(self, place: usize) -> Role
         ensures { result ≡ role_at self place }
     {
@@ -372,8 +372,8 @@ impl CommandCode {
         }
     }
 
-    /// How the command uses an NV index that authorizes it as the handle at this position, counted
-    /// from 0.
+    /// How the command uses the NV index that authorizes it, if the handle at this position
+    /// (counted from 0) names one.
     pub fn nv_use_at(self, place: usize) -> NvUse
         ensures { result ≡ nv_use_at self place }
     {

@@ -1,5 +1,5 @@
-//! Reads a command's handles, and refuses a handle of a kind that the command's [`Shape`] does not
-//! allow (TPM 2.0 Library, Part 3, section 5.4).
+//! Reads a command's handles, and refuses each handle of a kind that the command's [`Shape`] does
+//! not allow (TPM 2.0 Library, Part 3, section 5.4).
 
 ghost use Rattle.std.specs.Prelude.{◌≡◌, IfOk, length};
 ghost use Rattle.tpm_bytes.specs.Reading.{Reads};
@@ -38,9 +38,9 @@ impl<'a> ReadableBy<'a, HandleRule> for Handle {
     }
 }
 
-/// Reads the handles of a command, each by its rule (TPM 2.0 Library, Part 3, section 5.4). The
-/// fault is INSUFFICIENT if a handle is truncated, VALUE if it is of the wrong kind; the fault
-/// reports the number of the handle.
+/// Reads the handles of a command, each according to its rule (Part 3, section 5.4). Fails with
+/// INSUFFICIENT if a handle is truncated, or with VALUE if it is of the wrong kind. The response
+/// code includes the number of the handle.
 pub fn read_handles(code: CommandCode, text: &mut Cursor) -> Result<ArrayVec<Handle, 3>, Rc>
     ensures exact { Reads (λ handles. handles.items) (allowed_handles_at code text.old)
         text.old result text.new }

@@ -1,13 +1,13 @@
 #![tactic(auto)]
 
-//! The supported commands (TPM 2.0 Library, Part 3), and the reader of their handles.
+//! The supported commands (TPM 2.0 Library, Part 3), and the function that reads their handles.
 //!
 //! The [`shape::Shape`] of a command contains every fact about it except its number, its name and
-//! its effect; [`command_code`] states all facts about a command in one line.
+//! its effect. [`command_code`] has one line with all facts about each command.
 //!
 //! The crate uses `tpm_types` for handles and response codes. A read returns the value, or the
-//! first fault as the standard's response code for it; a read that fails changes nothing. No call
-//! here allocates memory.
+//! standard's response code for the first fault. A read that fails changes nothing. No function of
+//! this crate allocates memory.
 
 pub mod command_code;
 pub mod handle_area;

@@ -1,12 +1,12 @@
-//! The shape of a command: its handles and their roles, its parameters, its answer. A [`Shape`]
-//! contains every fact about a command except its number and its effect.
+//! The shape of a command: its handles and their roles, its parameters, and its answer. A [`Shape`]
+//! contains every fact about a command except its number, its name and its effect.
 
 ghost use Rattle.std.specs.Prelude.{◌≡◌};
 ghost use Rattle.tpm_commands.specs.Shape.{is_entity, is_provision};
 
 use tpm_types::{Handle, Role};
 
-/// The kind of a handle, after the types of TPM 2.0 Library, Part 2, section 9.
+/// The kind of a handle. The kinds follow the types of TPM 2.0 Library, Part 2, section 9.
 #[derive(Clone, Copy, PartialEq, Eq)]
 pub enum HandleKind {
     /// TPMI_DH_PCR: a PCR.
@@ -81,7 +81,7 @@ impl HandleKind {
     }
 }
 
-/// The kind of a command's handle, and the role for authorizing it; None if it needs no
+/// The kind of a command's handle, and the role in which it is authorized, or None if it needs no
 /// authorization.
 #[derive(Clone, Copy, PartialEq, Eq)]
 pub struct HandleRule {
@@ -112,7 +112,7 @@ pub enum ParameterKind {
     Symmetric,
     /// A selection of PCRs: TPML_PCR_SELECTION.
     Selection,
-    /// A list of digests tagged with their algorithms: TPML_DIGEST_VALUES.
+    /// A list of digests with their algorithms: TPML_DIGEST_VALUES.
     Digests,
     /// A list of digests: TPML_DIGEST.
     DigestList,
@@ -128,7 +128,7 @@ pub enum ParameterKind {
     Operation,
     /// The handle of a persistent object: TPMI_DH_PERSISTENT.
     PersistentHandle,
-    /// A yes or a no: TPMI_YES_NO.
+    /// A yes-or-no value: TPMI_YES_NO.
     YesNo,
 }
 
@@ -163,7 +163,7 @@ impl ParameterKind {
     }
 }
 
-/// Every fact about a command except its number and its effect.
+/// Every fact about a command except its number, its name and its effect.
 #[derive(Clone, Copy)]
 pub struct Shape {
     pub handles: &'static [HandleRule],
@@ -172,14 +172,14 @@ pub struct Shape {
     pub sized_answer: bool,
     /// Whether a handle precedes the answer's parameters.
     pub answers_handle: bool,
-    /// Whether the command does not allow an authorization area.
+    /// Whether the command forbids an authorization area.
     pub forbids_sessions: bool,
-    /// Whether the command grows: it may allocate memory, and so can run out of it.
+    /// Whether the command may allocate memory, and therefore can run out of memory.
     pub grows: bool,
-    /// Whether the command reads the NV index that authorizes it, if an index does. Any other
-    /// command writes that index or is authorized in the role ADMIN.
+    /// Whether the command reads the NV index that authorizes it, if there is one. Any other
+    /// command writes that index, or administers it in the role ADMIN.
     pub reads_nv: bool,
-    /// Whether a success of the command preserves the state that a TPM2_Shutdown saved. A success
-    /// of any other command discards it.
+    /// Whether the command, if it succeeds, preserves the state that TPM2_Shutdown saved. Any other
+    /// command discards that state if it succeeds.
     pub keeps_shutdown: bool,
 }

@@ -15,7 +15,7 @@ module _ {X : Type 0} (kind : X → ℕ) where
         | inr apart ↦ inl (removed_others kind places number other apart)
       ]
 
-  -- if all slots are free, nothing is found
+  -- if all slots are free, no slot contains a value
   free_place : (count place : ℕ) → at_place {X = X} (free count) place ≡ None
   free_place zero place = refl
   free_place (suc count) zero = refl

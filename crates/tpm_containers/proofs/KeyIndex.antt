@@ -24,13 +24,13 @@ module _ {X : Type 0} where
   abbrev is_from : ℕ → ℕ × X → Bool
   is_from key e = nat_le key e.0
 
-  -- if no entry passes a test, the entry at any index fails it
+  -- if a search finds no entry that passes a test, then the entry at each index fails it
   position-None : (test : ℕ × X → Bool) (es : Entries X) (d : ℕ × X) → position test es ≡ None → (k : ℕ) → k < length es → test (get_or es k d) ≡ false
   position-None test es d is k inside =
       let none : length es ≤ position_or_len test es = ltb-false _ _ (not_found _ (position_or_len test es) is) in
       fails_before_first test es k d (omega arith)
 
-  -- ---- a key
+  -- ---- the value of a key
 
   pub at_key_position : (es : Entries X) (key i : ℕ) (d : ℕ × X) → position (λ e. e.0 == key) es ≡ Some i → at_key es key ≡ Some (get_or es i d).1
   at_key_position es key i d is =
@@ -62,15 +62,15 @@ module _ {X : Type 0} where
   key_from_none (e ∷ es) key is =
       found_nowhere (λ (l : Entries X). key_from l key) (is_from key) (λ e. Some e.0) None refl (λ _ _. refl) (e ∷ es) e (position-None (is_from key) (e ∷ es) e is)
 
-  -- ---- edits at the index of a key
+  -- ---- changes at the index of a key
 
-  -- The index is in the list, and is the first one whose entry passes a test.
+  -- The index is in the list, and its entry is the first one that passes a test.
   abbrev IsFirst : (ℕ × X → Bool) → Entries X → ℕ → ℕ × X → Type 0
   IsFirst test es i d =
       (i < length es) × (test (get_or es i d) ≡ true) × ((k : ℕ) → k < i → test (get_or es k d) ≡ false)
 
-  -- If the first index whose entry passes a test is not 0, it is also the first such index among
-  -- the rest.
+  -- If the first entry that passes a test is not the first entry of a list, it is also the first
+  -- one that passes in the rest of the list.
   first_rest : (test : ℕ × X → Bool) (e : ℕ × X) (es : Entries X) (i : ℕ) (d : ℕ × X) → IsFirst test (e ∷ es) (suc i) d → IsFirst test es i d
   first_rest test e es i d p =
       let inside = p.0 in
@@ -122,7 +122,7 @@ module _ {X : Type 0} where
 
   -- ---- the entry at the index of a key
 
-  -- the entry read at the index of a key contains the key's value
+  -- the entry at the index of a key contains the key's value
   pub read_where : (es : Entries X) (key : ℕ) (o : Option ℕ) → o ≡ position (λ e. e.0 == key) es → IfSome o (λ i. (e : ℕ × X) → get_or es i e ≡ e → at_key es key ≡ Some e.1)
   read_where es key None is = tt
   read_where es key (Some i) is = λ e read. at_key_position es key i e (sym is) ∙ ap (λ (p : ℕ × X). Some p.1) read
@@ -141,7 +141,7 @@ module _ {X : Type 0} where
     pub value : at_key es key ≡ Some e.1
     pub written : (x : X) → slice_set es i (e.0, x) ≡ changed_key es key x
 
-  -- An entry that is borrowed from a container's slice at a key's index, shared or mutable,
+  -- An entry that is borrowed from a container's slice at the index of a key, shared or mutable,
   -- belongs to that key.
   pub lent_at : (shown es : Entries X) (key i : ℕ) (e : ℕ × X) → shown ≡ es → e ≡ get_or es i e → ((e : ℕ × X) → get_or shown i e ≡ e → at_key shown key ≡ Some e.1) → ((e : ℕ × X) (x : X) → get_or shown i e ≡ e → slice_set shown i (e.0, x) ≡ changed_key shown key x) → Lent es key i e
   lent_at shown es key i e same read value written =

@@ -1,5 +1,5 @@
--- Slots form a map keyed by number. These lemmas say which values are found after a value was put,
--- removed or changed.
+-- Slots form a map keyed by number. These lemmas say which values are found after a value was
+-- inserted, removed or changed.
 use Rattle.std.proofs.Common.{◌≡◌, ◌≢◌, ℕ, ◌+◌, ◌<◌, ◌≤◌, ◌^◌, Bool, true, false, cond, eqb, List, length, Option, Some, None, slice_set, refl, sym, ap, subst, ◌∙◌, arith, inl, inr}
 use Rattle.std.specs.Prelude.{option_and_then}
 use Rattle.std.proofs.lemmas.Bool.{cases_eq, eqb-true, eq-eqb, ne_eqb}
@@ -13,7 +13,7 @@ module _ {X : Type 0} (kind : X → ℕ) where
 
   -- ---- numbers
 
-  -- the value that a number finds in a slot with this content: none if the slot is free or the
+  -- the value that a number finds in a slot with this content, or None if the slot is free or the
   -- value is of another kind
   abbrev seen : ℕ → Option X → Option X
   seen number cell = option_and_then (if_of_kind kind number) cell
@@ -44,7 +44,7 @@ module _ {X : Type 0} (kind : X → ℕ) where
   kind_of-number_of k place below = omega arith
 
   -- After a slot is written, a number finds the same value as before if it identifies another slot,
-  -- or if it finds that value in the new content too.
+  -- or if it also finds this value in the new content.
   elsewhere : (places : Slots) (place other : ℕ) (cell : Option X) → (place_of other ≡ place → seen other cell ≡ seen other (at_place places place)) → place < length places → at_number kind (slice_set places place cell) other ≡ at_number kind places other
   unfolding at_number
   elsewhere places place other cell same inside =
@@ -71,7 +71,7 @@ module _ {X : Type 0} (kind : X → ℕ) where
       ap (λ (n : ℕ). seen (number_of k place) (at_place places n)) (place_of-number_of k place below)
       ∙ ap (seen (number_of k place)) (lowest_free-free places place is).1
 
-  -- ---- putting a value
+  -- ---- putting a value into a slot
 
   pub put_found : (places : Slots) (place : ℕ) (x : X) → place < 2 ^ 24 → lowest_free places ≡ Some place → at_number kind (slice_set places place (Some x)) (number_of (kind x) place) ≡ Some x
   put_found places place x below is =
@@ -93,7 +93,8 @@ module _ {X : Type 0} (kind : X → ℕ) where
   unfolding at_number
   found_at places number x is = seen_some number (at_place places (place_of number)) x is
 
-  -- If another number identifies the same slot, it differs in its highest byte, and finds nothing.
+  -- Another number that identifies the same slot differs in its highest byte, and therefore finds
+  -- no value.
   hidden : (places : Slots) (number other : ℕ) (x y : X) → Found places number x → kind y ≡ kind x → other ≢ number → place_of other ≡ place_of number → seen other (Some y) ≡ None
   hidden places number other x y is same apart here =
       seen_apart other y (λ byte. apart (one_number other number here (byte ∙ same ∙ sym is.1)))
@@ -173,12 +174,12 @@ module _ {X : Type 0} (kind : X → ℕ) where
       let set = taken_set places place (Some x) free.0 in
       omega (arith, set, none)
 
-  -- If a number finds a value, the value is in the number's slot, and counts as one taken slot.
+  -- If a number finds a value, this value is in the number's slot, and counts as one taken slot.
   one_taken : (places : Slots) (number : ℕ) (x : X) → at_number kind places number ≡ Some x → counted (at_place places (place_of number)) ≡ 1
   one_taken places number x is = ap counted (found_at places number x is).0
 
-  -- If the slot of a number that finds a value is written, the number of taken slots decreases by
-  -- one, and increases by the count for the new content.
+  -- If a number finds a value and its slot is overwritten, the number of taken slots decreases by
+  -- one and increases by the count for the new content.
   taken_there : (places : Slots) (number : ℕ) (x : X) (cell : Option X) → at_number kind places number ≡ Some x → taken_count (slice_set places (place_of number) cell) + 1 ≡ taken_count places + counted cell
   taken_there places number x cell is =
       let set = taken_set places (place_of number) cell (at_inside places (place_of number) x (found_at places number x is).0) in

@@ -50,11 +50,11 @@ clear_padded [] n place behind = clear_free n place
 clear_padded (first ∷ cells) n zero behind = absurd (omega arith)
 clear_padded (first ∷ cells) n (suc place) behind = ap (λ (l : Cells _). first ∷ l) (clear_padded cells n place (omega arith))
 
--- a slot past the end of the list is already free
+-- freeing a slot past the end of the list changes nothing
 pub padded-clear : {X : Type 0} (most : ℕ) (cells : Cells X) (place : ℕ) → length cells ≤ place → slice_set (padded_to most cells) place None ≡ padded_to most cells
 padded-clear most cells place behind = clear_padded cells _ place behind
 
--- a slot past the end of the list contains nothing
+-- a slot past the end of the list is free
 pub at_behind : {X : Type 0} (cells : Cells X) (place : ℕ) → length cells ≤ place → at_place cells place ≡ None
 at_behind [] place behind = refl
 at_behind (first ∷ cells) zero behind = absurd (omega arith)
@@ -96,7 +96,7 @@ free_among most cells place is =
 length-padded : {X : Type 0} (most : ℕ) (cells : Cells X) → length cells ≤ most → length (padded_to most cells) ≡ most
 length-padded most cells few = rw (length-append, length-replicate) (omega arith)
 
--- if no cell of the list is free, the lowest free slot is the first one past its end
+-- if no cell of the list is free, the lowest free slot is the first slot past the list's end
 pub free_behind : {X : Type 0} (most : ℕ) (cells : Cells X) → length cells < most → position is_none cells ≡ None → lowest_free (padded_to most cells) ≡ Some (length cells)
 free_behind most cells few is =
     let none : length cells ≤ first_free cells = ltb-false _ _ (not_found (ltb (first_free cells) (length cells)) (first_free cells) is) in
@@ -118,7 +118,7 @@ padded-push most cells cell few =
     ∙ sym (set_first_free cells (most - suc (length cells)) cell)
     ∙ ap (λ (n : ℕ). slice_set (cells ++ free n) (length cells) cell) (sym before)
 
--- If a free cell is added to a list, no slot changes.
+-- Adding a free cell to a list changes no slot.
 pub padded-grown : {X : Type 0} (most : ℕ) (cells : Cells X) → length cells < most → padded_to most (cells ++ None ∷ []) ≡ padded_to most cells
 padded-grown most cells few = padded-push most cells None few ∙ padded-clear most cells (length cells) (omega arith)
 

@@ -1,5 +1,5 @@
 -- Writing a slot changes no other slot. The lowest free slot is free, and each slot below it is
--- taken. If no slot is free, all are taken.
+-- taken. If there is no lowest free slot, all slots are taken.
 use Rattle.std.proofs.Common.{◌≡◌, ◌≢◌, ℕ, zero, suc, ◌+◌, ◌<◌, true, false, ◌≤◌, ltb, List, [], ◌∷◌, length, Option, Some, None, slice_set, is_none, is_some, cond, refl, sym, ap, ◌∙◌, arith, inl, inr}
 use Rattle.std.proofs.lemmas.List.Quantifiers.{position-Some}
 use Rattle.std.proofs.lemmas.List.Sums.{sum_by-cons}
@@ -30,7 +30,7 @@ is_none_true : {X : Type 0} (cell : Option X) → is_none cell ≡ true → cell
 is_none_true None e = refl
 is_none_true (Some x) e = absurd cc
 
--- the lowest free slot exists and is free
+-- the lowest free slot is one of the slots, and is free
 pub lowest_free-free : {X : Type 0} (places : List (Option X)) (place : ℕ) → lowest_free places ≡ Some place → (place < length places) × (at_place places place ≡ None)
 lowest_free-free places place is =
     let p = position-Some is_none places place None is in
@@ -54,7 +54,7 @@ taken_up (None ∷ places) place none below = absurd (omega arith)
 taken_up (Some x ∷ places) zero none below = λ e. absurd cc
 taken_up (Some x ∷ places) (suc place) none below = taken_up places place (omega arith) (omega arith)
 
--- if no slot is free, all are taken
+-- if there is no free slot, all slots are taken
 pub all_taken : {X : Type 0} (places : List (Option X)) (place : ℕ) → lowest_free places ≡ None → place < length places → at_place places place ≢ None
 all_taken places place is below =
     taken_up places place (ltb-false _ _ (not_found (ltb (first_free places) (length places)) (first_free places) is)) below
@@ -71,15 +71,15 @@ free_within most cells place is =
 
 -- ---- the number of taken slots
 
--- the count for one slot: 1 if it is taken, else 0
+-- the count for one slot: 1 if it is taken, and 0 otherwise
 abbrev pub counted : {X : Type 0} → Option X → ℕ
 counted cell = cond (is_some cell) 1 0
 
 taken-cons : {X : Type 0} (first : Option X) (places : List (Option X)) → taken_count (first ∷ places) ≡ counted first + taken_count places
 taken-cons first places = sum_by-cons counted first places
 
--- replacing or removing the value in a slot changes the number of taken slots by the count for
--- that slot
+-- overwriting a slot changes the number of taken slots by the difference between the counts for its
+-- new and its old content
 pub taken_set : {X : Type 0} (places : List (Option X)) (place : ℕ) (cell : Option X) → place < length places → taken_count (slice_set places place cell) + counted (at_place places place) ≡ taken_count places + counted cell
 taken_set [] place cell below = absurd (omega arith)
 taken_set (first ∷ places) zero cell below =

@@ -1,6 +1,6 @@
 -- Entries in ascending order of key form a map. These lemmas say which values are found after a
--- value is put, removed or changed, or only some are kept; that the keys still ascend; how many
--- keys there are; and which key is next.
+-- value is inserted, removed or changed, or after a choice keeps only some values. They also say
+-- that the keys still ascend, how many keys there are, and which key is next.
 use Rattle.std.proofs.Common.{◌≡◌, ◌≢◌, ℕ, ◌<◌, ◌≤◌, ◌+◌, ◌⊎◌, Bool, false, true, cond, eqb, leb, [], ◌∷◌, length, Option, Some, None, is_some, refl, sym, ap, subst, ◌∙◌, arith, inl, inr}
 use Rattle.std.proofs.lemmas.Bool.{cases_eq, cases_lt, cond_both, cond-true, cond-false, eq-eqb, ne_eqb, eqb-true, leb-true, leb-false}
 use Rattle.tpm_containers.specs.SortedMap.{AllAbove, AreEach, Ascends, Entries, at_key, changed_key, kept_entries, key_from, with_key, without_key}
@@ -55,7 +55,7 @@ module _ {X : Type 0} where
       (λ _. above)
       (λ _. (above.0, changed_above low es key x above.1))
 
-  -- ---- putting a value under a free key
+  -- ---- inserting a value under a free key
 
   put_found : (es : Entries X) (key : ℕ) (x : X) → at_key es key ≡ None → at_key (with_key es key x) key ≡ Some x
   put_found [] key x none = at_first (key, x) [] key refl
@@ -306,8 +306,8 @@ module _ {X : Type 0} where
   abbrev SameFound : Entries X → Entries X → Type 0
   SameFound es fs = (key : ℕ) → at_key es key ≡ at_key fs key
 
-  -- if each key has the same value in two maps, the first key of one map is not below the first key
-  -- of the other
+  -- if each key has the same value in two maps, then the first key of one map is not below the
+  -- first key of the other
   not_below : (e f : ℕ × X) (es fs : Entries X) → Ascends (f ∷ fs) → SameFound (e ∷ es) (f ∷ fs) → f.0 ≤ e.0
   not_below e f es fs up found =
       elim (cases_lt e.0 f.0) [
@@ -319,8 +319,8 @@ module _ {X : Type 0} where
         | inr above ↦ above
       ]
 
-  -- if each key has the same value in two maps, and their first keys are equal, each key has the
-  -- same value in the rest of both
+  -- if each key has the same value in two maps, and their first keys are equal, then each key has
+  -- the same value in the rest of both maps
   same_rest : (e f : ℕ × X) (es fs : Entries X) → e.0 ≡ f.0 → Ascends (e ∷ es) → Ascends (f ∷ fs) → SameFound (e ∷ es) (f ∷ fs) → SameFound es fs
   same_rest e f es fs one up vp found key =
       elim (cases_eq e.0 key) [

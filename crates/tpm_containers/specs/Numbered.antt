@@ -1,5 +1,5 @@
 -- Slots as a map keyed by number. The three lower bytes of a number identify a slot, and its
--- highest byte is the kind of the value there. A value is not found by a number of another kind.
+-- highest byte is the kind of the value there. A number of another kind does not find the value.
 use Rattle.std.specs.Prelude.{◌≡◌, ◌≢◌, ℕ, ◌+◌, ◌*◌, ◌/◌, ◌%◌, ◌^◌, ◌==◌, ◌<◌, is_some, List, length, Option, Some, None, option_and_then, if◌then◌else◌, slice_set}
 use Rattle.std.specs.Option.{option_map_or}
 use Rattle.tpm_containers.specs.Slots.{at_place, lowest_free, taken_count}
@@ -17,17 +17,17 @@ module _ {X : Type 0} where
   abbrev pub if_of_kind : (X → ℕ) → ℕ → X → Option X
   if_of_kind kind number x = if kind_of number == kind x then Some x else None
 
-  -- the value found by a number
+  -- the value that a number finds
   unfoldable pub at_number : (X → ℕ) → List (Option X) → ℕ → Option X
   at_number kind places number =
       option_and_then (if_of_kind kind number) (at_place places (place_of number))
 
-  -- the slots without the value found by a number
+  -- the slots without the value that a number finds
   unfoldable pub without_number : (X → ℕ) → List (Option X) → ℕ → List (Option X)
   without_number kind places number =
       if is_some (at_number kind places number) then slice_set places (place_of number) None else places
 
-  -- the slots after the value found by a number, if there is one, was changed
+  -- the slots after the value that a number finds, if there is one, was changed
   abbrev pub changed_at : (X → ℕ) → (X → X) → List (Option X) → ℕ → List (Option X)
   changed_at kind change places number =
       option_map_or (λ (x : X). slice_set places (place_of number) (Some (change x)))
@@ -35,15 +35,15 @@ module _ {X : Type 0} where
 
   -- the laws of slots as a map keyed by number
   pub record MapLaws (kind : X → ℕ) : Type 0 where
-    -- a value that is put into the lowest free slot is found by its number, and all else is
-    -- unchanged
+    -- a value that is put into the lowest free slot is found by its number, and the other values
+    -- are unchanged
     pub put_found : (places : List (Option X)) (place : ℕ) (x : X) → place < 2 ^ 24
         → lowest_free places ≡ Some place
         → at_number kind (slice_set places place (Some x)) (number_of (kind x) place) ≡ Some x
     pub put_others : (places : List (Option X)) (place : ℕ) (x : X) (other : ℕ) → place < 2 ^ 24
         → lowest_free places ≡ Some place → other ≢ number_of (kind x) place
         → at_number kind (slice_set places place (Some x)) other ≡ at_number kind places other
-    -- nothing is found by any number of the lowest free slot, and each lower slot is taken
+    -- no number of the lowest free slot finds a value, and each lower slot is taken
     pub free : (places : List (Option X)) (k place : ℕ) → place < 2 ^ 24
         → lowest_free places ≡ Some place → at_number kind places (number_of k place) ≡ None
     pub lowest : (places : List (Option X)) (place below : ℕ)
@@ -54,15 +54,16 @@ module _ {X : Type 0} where
     -- a value in a slot is found by its number
     pub taken : (places : List (Option X)) (place : ℕ) (x : X) → place < 2 ^ 24
         → at_place places place ≡ Some x → at_number kind places (number_of (kind x) place) ≡ Some x
-    -- a removed number finds nothing, and all else is unchanged
+    -- a removed number finds no value, and the other values are unchanged
     pub removed_gone : (places : List (Option X)) (number : ℕ)
         → at_number kind (without_number kind places number) number ≡ None
     pub removed_others : (places : List (Option X)) (number other : ℕ) → other ≢ number
         → at_number kind (without_number kind places number) other ≡ at_number kind places other
-    -- removing a number changes nothing if no value is found by it
+    -- removing a number that finds no value changes nothing
     pub removed_absent : (places : List (Option X)) (number : ℕ)
         → at_number kind places number ≡ None → without_number kind places number ≡ places
-    -- a changed value that keeps its kind is found by its number, and all else is unchanged
+    -- a changed value that keeps its kind is found by its number, and the other values are
+    -- unchanged
     pub changed_found : (change : X → X) → ((x : X) → kind (change x) ≡ kind x)
         → (places : List (Option X)) (number : ℕ) (x : X) → at_number kind places number ≡ Some x
         → at_number kind (changed_at kind change places number) number ≡ Some (change x)

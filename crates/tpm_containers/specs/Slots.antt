@@ -11,7 +11,7 @@ free n = replicate n None
 abbrev pub at_place : {X : Type 0} → List (Option X) → ℕ → Option X
 at_place places place = option_and_then (λ x. x) (slice_get places place)
 
--- Each value in a taken slot has this property.
+-- Each value in the slots has this property.
 abbrev pub AreAll : {X : Type 0} → (X → Type 0) → List (Option X) → Type 0
 AreAll IsOne places = (place : ℕ) → IfSome (at_place places place) IsOne
 
@@ -22,8 +22,7 @@ lowest_free places = position is_none places
 abbrev pub taken_count : {X : Type 0} → List (Option X) → ℕ
 taken_count places = count_by is_some places
 
--- A value was put into the lowest free one of `most` slots, unless all were taken or an allocation
--- failed.
+-- A value was put into the lowest free slot, unless all slots were taken or an allocation failed.
 abbrev pub Inserts : {X : Type 0} → ℕ → Bool → List (Option X) → X
     → Result ℕ SlotFault → List (Option X) → Type 0
 Inserts most can old x (Ok place) new =
@@ -39,6 +38,6 @@ Puts can old place x (Ok done) new = new ≡ slice_set old place (Some x)
 Puts can old place x (Err Full) new = ⊥
 Puts can old place x (Err NoMemory) new = (can ≡ true) × (new ≡ old)
 
--- all slots of a list with this capacity; those past its end are free
+-- all slots that a list with this capacity represents. The slots past the list's end are free
 abbrev pub padded_to : {X : Type 0} → ℕ → List (Option X) → List (Option X)
 padded_to most cells = cells ++ free (most - length cells)

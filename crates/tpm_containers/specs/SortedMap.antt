@@ -1,30 +1,29 @@
--- A map from numbers, its keys, to values, as a list of entries with ascending keys.
+-- A map whose keys are numbers, as a list of entries with ascending keys.
 use Rattle.std.specs.Prelude.{◌≡◌, ℕ, ◌==◌, ◌<◌, ◌≤◌, nat_le, Bool, true, List, [], ◌∷◌, length, filter, Option, Some, None, Result, Ok, Err, is_some, if◌then◌else◌}
 use Rattle.tpm_containers.specs.declared.sorted_map.KeyFault.{KeyFault}
 use Rattle.tpm_containers.specs.declared.sorted_map.KeyFault.TheVariants.{Taken, Full, NoMemory}
 
--- entries: keys with their values
+-- entries: keys, each with its value
 abbrev pub Entries : Type 0 → Type 0
 Entries X = List (ℕ × X)
 
 module _ {X : Type 0} where
-  -- the value of a key
+  -- the value of a key, or None if the key has no value
   abbrev pub at_key : Entries X → ℕ → Option X
   at_key [] key = None
   at_key (e ∷ es) key = if e.0 == key then Some e.1 else at_key es key
 
-  -- the first key of the entries at or above this one. Since keys ascend, it is the lowest such
-  -- key
+  -- the first key that is at least `key`. Because the keys ascend, it is also the lowest of them
   abbrev pub key_from : Entries X → ℕ → Option ℕ
   key_from [] key = None
   key_from (e ∷ es) key = if nat_le key e.0 then Some e.0 else key_from es key
 
-  -- the entries after a new key and its value were inserted before the entries with higher keys
+  -- the entries with a new key and its value, inserted before the entries with higher keys
   abbrev pub with_key : Entries X → ℕ → X → Entries X
   with_key [] key x = (key, x) ∷ []
   with_key (e ∷ es) key x = if nat_le key e.0 then (key, x) ∷ e ∷ es else e ∷ with_key es key x
 
-  -- the entries after the value of a key, if the key exists, was replaced
+  -- the entries with a new value for this key, if the key exists
   abbrev pub changed_key : Entries X → ℕ → X → Entries X
   changed_key [] key x = []
   changed_key (e ∷ es) key x = if e.0 == key then (e.0, x) ∷ es else e ∷ changed_key es key x
@@ -43,7 +42,7 @@ module _ {X : Type 0} where
   AllAbove key [] = Unit {0}
   AllAbove key (e ∷ es) = (key < e.0) × AllAbove key es
 
-  -- The keys ascend, so no key occurs twice.
+  -- The keys ascend. Therefore no key occurs twice.
   abbrev pub Ascends : Entries X → Type 0
   Ascends [] = Unit {0}
   Ascends (e ∷ es) = AllAbove e.0 es × Ascends es
@@ -53,8 +52,8 @@ module _ {X : Type 0} where
   AreEach Is [] = Unit {0}
   AreEach Is (e ∷ es) = Is e.0 e.1 × AreEach Is es
 
-  -- A value was put under a free key; or nothing changed, and the fault is the first of these that
-  -- applies: the key is taken, the map is full, an allocation failed.
+  -- A value was inserted under a free key. Otherwise nothing changed, and the fault is the first of
+  -- these that applies: the key is taken, the map is full, an allocation failed.
   abbrev pub PutsKey : ℕ → Bool → Entries X → ℕ → X → Result (Unit {0}) KeyFault → Entries X
       → Type 0
   PutsKey most can old key x (Ok done) new =

@@ -1,5 +1,5 @@
-//! Slots stored in cells; the slots past the last cell are free. A list grows as slots are taken,
-//! so an allocation can fail; fixed-size storage never allocates memory.
+//! Slots that are stored in cells. The slots past the last cell are free. A list grows as slots are
+//! taken, and an allocation can fail. Fixed-size storage never allocates memory.
 
 use crate::Items;
 use crate::cells::{free_place, reach};
@@ -8,8 +8,8 @@ use arrayvec::ArrayVec;
 use std::alloc::Global;
 use std::marker::{Model, PhantomData};
 
-/// `N` slots, numbered from 0. There are only as many cells as the slots in use have ever needed.
-/// Contracts see each slot, free or with its value.
+/// `N` slots, numbered from 0. Only the slots up to the highest one used since the last `clear`
+/// have cells. Contracts represent the slots by a list of all of them, each free or with its value.
 #[derive(Drop)]
 pub struct CellSlots<T: Drop, C: Items<N, Item = Option<T>>, const N: usize> {
     cells: C,
@@ -19,7 +19,7 @@ pub struct CellSlots<T: Drop, C: Items<N, Item = Option<T>>, const N: usize> {
 /// Slots in a list that grows as they are taken.
 pub type ListSlots<T, const N: usize> = CellSlots<T, Vec<Option<T>>, N>;
 
-/// Slots in fixed-size storage with space for all of them; it never allocates memory.
+/// Slots in fixed-size storage, which has space for all of them and never allocates memory.
 pub type FixedSlots<T, const N: usize> = CellSlots<T, ArrayVec<Option<T>, N>, N>;
 
 impl<T: Drop, C: Items<N, Item = Option<T>>, const N: usize> Model for CellSlots<T, C, N> {

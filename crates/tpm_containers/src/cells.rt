@@ -1,5 +1,5 @@
-//! Cells, each free or with a value. The functions find the lowest free slot, and append cells
-//! until the cell of a slot exists. All kinds of slots share this code.
+//! Cells, each of which is free or contains a value. These functions find the lowest free slot, and
+//! append cells until the cell of a slot exists. All kinds of slots share this code.
 
 ghost use Rattle.std.specs.Prelude.{◌≡◌, ◌<◌, ◌≤◌, IfSome, OnErr, OnOk, is_none, length, position, true};
 ghost use Rattle.tpm_containers.specs.Slots.{lowest_free, padded_to};
@@ -7,7 +7,7 @@ ghost use Rattle.tpm_containers.specs.Slots.{lowest_free, padded_to};
 use crate::Items;
 use std::alloc::AllocError;
 
-/// The first cell without a value.
+/// The index of the first cell without a value.
 fn free_cell<T>(cells: &[Option<T>]) -> Option<usize>
     ensures value { result ≡ position is_none cells.now }
     ensures within { IfSome result (λ cell. cell < length cells.now) }
@@ -15,7 +15,8 @@ fn free_cell<T>(cells: &[Option<T>]) -> Option<usize>
     cells.iter().position(|cell| cell.is_none())
 }
 
-/// The lowest free one of `most` slots. These cells are the first slots, and all others are free.
+/// The lowest free slot among `most` slots. The cells are the first of these slots, and the slots
+/// without a cell are free.
 #[tactic(auto, using(crate::proofs::Padding::free_among, crate::proofs::Padding::free_behind))]
 pub(crate) fn free_place<T>(cells: &[Option<T>], most: usize) -> Option<usize>
     requires { length cells.now ≤ most }
@@ -29,7 +30,7 @@ pub(crate) fn free_place<T>(cells: &[Option<T>], most: usize) -> Option<usize>
     if place == most { None } else { Some(place) }
 }
 
-/// Appends free cells until the cell of a slot exists. The content of the slots does not change.
+/// Appends free cells until the cell of this slot exists. The content of the slots does not change.
 pub(crate) fn reach<T: Drop, C: Items<N, Item = Option<T>>, const N: usize>(
     cells: &mut C,
     place: usize,

@@ -1,5 +1,5 @@
-//! The map as entries: in a list that grows, for which an allocation can fail, or in fixed-size
-//! storage, which never allocates memory.
+//! A map that is stored as entries: in a list that grows, for which an allocation can fail, or in
+//! fixed-size storage, which never allocates memory.
 
 use crate::lookup::{index_for, index_of, key_at, value_at};
 use crate::sorted_map::{KeyFault, SortedMap};
@@ -8,18 +8,18 @@ use arrayvec::ArrayVec;
 use std::alloc::Global;
 use std::marker::{Model, PhantomData};
 
-/// Values by key; the items `E` are the entries, each a key with its value.
+/// A map from keys to values. The items `E` are its entries, each of which is a key with its value.
 #[derive(Drop)]
 pub struct EntryMap<T: Drop, E: Items<N, Item = (u32, T)>, const N: usize> {
     entries: E,
     of: PhantomData<T>,
 }
 
-/// Values by key, in a list that grows.
+/// A map in a list that grows.
 pub type ListMap<T, const N: usize> = EntryMap<T, Vec<(u32, T)>, N>;
 
-/// Values by key, in fixed-size storage, whose free slots contain default values. It never
-/// allocates memory.
+/// A map in fixed-size storage, which never allocates memory. Its free slots contain default
+/// values.
 pub type SlotMap<T, const N: usize> = EntryMap<T, ArrayVec<(u32, T), N>, N>;
 
 impl<T: Drop, E: Items<N, Item = (u32, T)>, const N: usize> Model for EntryMap<T, E, N> {

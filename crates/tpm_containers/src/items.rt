@@ -1,12 +1,12 @@
-//! The trait of an ordered sequence of items, limited to a fixed number, for any type that stores
-//! them; and the choice of the items to keep when others are removed.
+//! Defines the trait of an ordered sequence with at most a fixed number of items, and the trait of
+//! a choice of the items to keep when others are removed.
 
 ghost use Rattle.std.specs.Prelude.{◌≡◌, ◌<◌, ◌≤◌, ℕ, [], Bool, IfNone, IfSome, List, OnErr, OnOk, filter, insert, length, remove, slice_index_or, slice_set, take, true};
 ghost use Rattle.std.specs.Borrow.{Array, Lends, LendsIf, sem};
 
 use std::alloc::{AllocError, Global};
 
-/// A choice among items: which of them to keep when the others are removed.
+/// A choice among items, which decides which of them to keep when the others are removed.
 pub trait Choice<T> {
     ghost stays: { T → Bool };
 
@@ -23,7 +23,7 @@ pub trait Items<const N: usize>: Drop + Sized {
     /// The items.
     ghost items: { Self → List Self.Item };
 
-    /// The same items after one of them was replaced.
+    /// The items after one of them was replaced.
     ghost with_item: { Self → ℕ → Self.Item → Self };
 
     /// The items after all of them were overwritten.
@@ -32,15 +32,15 @@ pub trait Items<const N: usize>: Drop + Sized {
     /// Whether an allocation can fail.
     ghost can_refuse: { Bool };
 
-    /// An empty sequence; nothing is allocated.
+    /// An empty sequence, for which nothing is allocated.
     fn new(alloc: Global) -> Self
         ensures { items result ≡ [] };
 
-    /// Read access to all items.
+    /// All items, as a slice.
     fn as_slice(&self) -> &[Self::Item]
         ensures { result.now ≡ items self.now };
 
-    /// Write access to the item at this position, or None.
+    /// A mutable reference to the item at this position, or None.
     fn item_mut(&mut self, place: usize) -> Option<&mut Self::Item>
         ensures* writes_back { sem 𝓛 (LendsIf Self.row Self.Item.row self.entry result
             (with_item self.entry.now place) self.entry.now) }
@@ -48,7 +48,7 @@ pub trait Items<const N: usize>: Drop + Sized {
             × (item.now ≡ slice_index_or (items self.old) place item.now)) }
         ensures absent { IfNone result (length (items self.old) ≤ place) };
 
-    /// Write access to all items.
+    /// All items, as a mutable slice.
     fn slice_mut(&mut self) -> &mut [Self::Item]
         ensures* writes_back { sem 𝓛 (Lends Self.row (Array Self.Item.row 0) self.entry result
             (with_items self.entry.now)) }
@@ -75,12 +75,12 @@ pub trait Items<const N: usize>: Drop + Sized {
     fn truncate(&mut self, count: usize)
         ensures { items self.new ≡ take count (items self.old) };
 
-    /// An item written through its mutable reference is at its position afterwards.
+    /// After an item is written through its mutable reference, it is at its position.
     ghost written: { (all : Self) (place : ℕ) (item : Self.Item)
         → items (with_item all place item) ≡ slice_set (items all) place item };
 
-    /// If all items are overwritten through a mutable reference, with the same number of items,
-    /// the sequence consists of the new items afterwards.
+    /// After all items are overwritten through a mutable reference, with the same number of items,
+    /// the sequence consists of the new items.
     ghost written_all: { (all : Self) (new : List Self.Item) → length new ≡ length (items all)
         → items (with_items all new) ≡ new };
 }

@@ -1,4 +1,4 @@
-//! Laws that show that ascending keys with their values form a map.
+//! Laws which show that ascending keys with their values form a map.
 
 ghost use Rattle.std.specs.Prelude.{◌≡◌, ◌⊎◌, ℕ, Bool, None, Some, map, option_map};
 ghost use Rattle.tpm_containers.specs.IsSortedMap.{IsSortedMap};
@@ -6,8 +6,8 @@ ghost use Rattle.tpm_containers.specs.SortedMap.{Ascends, Entries, at_key, chang
 ghost use Rattle.tpm_containers.specs.SortedMap.{kept_entries, without_key};
 
 /// Ascending keys with their values form a map. The laws say which values are found after a key was
-/// put, removed or changed, that the keys still ascend, how many there are, and which one comes
-/// next. A proof only: it has no effect at run time.
+/// inserted, removed or changed. They also say that the keys still ascend, how many there are, and
+/// which key is next. This function is only a proof: it has no effect at run time.
 #[inline(always)]
 #[tactic(auto, using(crate::proofs::SortedMapLaws::is_map))]
 pub fn sorted_map_laws<T>()
@@ -15,9 +15,9 @@ pub fn sorted_map_laws<T>()
 {}
 
 /// How a change of the map affects the value found by each key. If a key is removed, or only some
-/// values are kept, each value is unchanged or removed. If a value changes and a view of it does
-/// not, the view of the value found does not change either. If all values change, each key finds
-/// the changed value. A proof only: it has no effect at run time.
+/// values are kept, each value is unchanged or removed. If a value changes but a view of it does
+/// not, the view of the value found by any key does not change. If all values change, each key
+/// finds the changed value. This function is only a proof: it has no effect at run time.
 #[inline(always)]
 #[tactic(auto, using(crate::proofs::FoundKeys::removed_or_same, crate::proofs::FoundKeys::kept_or_gone, crate::proofs::FoundKeys::changed_shows, crate::proofs::FoundKeys::all_changed_found))]
 pub fn found_laws<T, V>()

@@ -1,22 +1,22 @@
 #![tactic(auto)]
 
-//! Containers for the state of a device that grows, in a list or in one area of fixed size, with
-//! the same code for both. Nothing in it is specific to TPMs.
+//! Containers for the state of a device that grows, in a list or in one area of fixed size. The
+//! code is the same for both, and nothing in it is specific to TPMs.
 //!
 //! - **Items** are an ordered sequence, limited to a fixed number: the trait [`items::Items`].
 //! - **Slots** are a fixed number of places, each free or with a value: the trait
 //!   [`slots::Slots`], stored in cells ([`cell_slots`]). A value is put into the lowest free slot
-//!   or into one that the caller chooses; otherwise nothing changes. [`numbered`] finds values by
-//!   numbers that consist of a slot and a kind, and states the laws of that map once.
+//!   or into one that the caller chooses. If that fails, nothing changes. [`numbered`] finds values
+//!   by numbers that consist of a slot and a kind, and states the laws of that map once.
 //! - **Sorted maps** contain values with ascending keys, up to a fixed number, and can find the
 //!   lowest key at or above any number: the trait [`sorted_map::SortedMap`], stored as entries
-//!   ([`entry_map`]). A value is put under a free key; otherwise nothing changes. An
-//!   [`items::Choice`] decides which values to keep. [`laws::sorted_map_laws`] states once that
-//!   this is a map.
+//!   ([`entry_map`]). A value can only be inserted under a free key. If that fails, nothing
+//!   changes. An [`items::Choice`] decides which values to keep. [`laws::sorted_map_laws`] states
+//!   once that this is a map.
 //!
-//! In contracts, slots are a list of all slots, and a map is a list of its keys and values in
-//! ascending order of key, whatever type stores them. The crate uses only `arrayvec`. Only adding
-//! a value to a list may allocate memory.
+//! Contracts represent slots by a list of all slots, and a map by a list of its keys and values in
+//! ascending order of key, no matter which type stores them. The crate uses only `arrayvec`. Only
+//! adding a value to a list may allocate memory.
 
 pub mod cell_slots;
 mod cells;

@@ -1,4 +1,4 @@
-//! Searches among entries in ascending order of key, which both maps share.
+//! Searches in entries that are in ascending order of key. Both maps share this code.
 
 ghost use Rattle.std.specs.Prelude.{◌≡◌, ◌<◌, ◌≤◌, ◌==◌, ℕ, IfNone, IfSome, Some, insert, is_some, length, nat_le, option_copied, position, remove, slice_index_or, slice_set};
 ghost use Rattle.tpm_containers.specs.SortedMap.{at_key, changed_key, key_from, with_key, without_key};
@@ -11,7 +11,7 @@ fn first_with<T>(entries: &[(u32, T)], key: u32) -> Option<usize>
     entries.iter().position(|entry| entry.0 == key)
 }
 
-/// The index of the first entry whose key is at least this one.
+/// The index of the first entry whose key is at least `key`.
 fn first_from<T>(entries: &[(u32, T)], key: u32) -> Option<usize>
     ensures value { result ≡ position (λ e. nat_le key e.0) entries.now }
     ensures within { IfSome result (λ i. i < length entries.now) }
@@ -19,7 +19,7 @@ fn first_from<T>(entries: &[(u32, T)], key: u32) -> Option<usize>
     entries.iter().position(|entry| key <= entry.0)
 }
 
-/// The value of a key.
+/// The value of this key.
 #[tactic(auto, using(crate::proofs::KeyIndex::at_key_position, crate::proofs::KeyIndex::at_key_absent))]
 pub(crate) fn value_at<T>(entries: &[(u32, T)], key: u32) -> Option<&T>
     ensures { option_copied result ≡ at_key entries.now key }
@@ -28,7 +28,7 @@ pub(crate) fn value_at<T>(entries: &[(u32, T)], key: u32) -> Option<&T>
     Some(&entries[index].1)
 }
 
-/// The lowest key among the entries at or above this one.
+/// The lowest key among the entries that is at least `key`.
 #[tactic(auto, using(crate::proofs::KeyIndex::key_from_position, crate::proofs::KeyIndex::key_from_none))]
 pub(crate) fn key_at<T>(entries: &[(u32, T)], key: u32) -> Option<u32>
     ensures { result ≡ key_from entries.now key }
@@ -53,7 +53,7 @@ pub(crate) fn index_of<T>(entries: &[(u32, T)], key: u32) -> Option<usize>
     first_with(entries, key)
 }
 
-/// The index at which to insert a key that does not exist yet.
+/// The index at which to insert a key that is not among the entries yet.
 #[tactic(auto, using(crate::proofs::KeyIndex::insert_position, crate::proofs::KeyIndex::insert_none))]
 pub(crate) fn index_for<T>(entries: &[(u32, T)], key: u32) -> usize
     ensures within { result ≤ length entries.now }

@@ -1,5 +1,5 @@
-//! Values in slots, found by numbers that consist of a kind and a slot, like the handles of a TPM;
-//! with laws that show that this is a map.
+//! Finds values in slots by number. A number consists of a kind and a slot, like a handle of a TPM.
+//! Laws show that this is a map.
 
 ghost use Rattle.std.specs.Prelude.{◌≡◌, ◌<◌, ◌⊎◌, ℕ, List, None, Option, is_some, length, option_copied};
 ghost use Rattle.std.specs.Borrow.{LendsIf, sem};
@@ -9,7 +9,7 @@ ghost use Rattle.tpm_containers.specs.Slots.{AreAll, free};
 
 use crate::slots::Slots;
 
-/// A value that is found by numbers of one kind. The kind is the highest byte of the number.
+/// A value that only numbers of its kind can find. The kind is the highest byte of a number.
 pub trait Kinded: Drop {
     ghost kind: { Self → ℕ };
 
@@ -22,8 +22,8 @@ pub trait Sizes: Drop {
     /// The properties of a value that follow from the types of its parts.
     ghost IsOne: { Self → Type 0 };
 
-    /// The value has the properties that follow from the types of its parts. A proof only: it has
-    /// no effect at run time.
+    /// The value has the properties that follow from the types of its parts. This function is only
+    /// a proof: it has no effect at run time.
     fn read_sizes(&self)
         ensures { IsOne self.now };
 }
@@ -38,7 +38,7 @@ pub fn place_of(number: u32) -> usize
     (number % PLACE_NUMBERS) as usize
 }
 
-/// The number for a value of this kind in this slot.
+/// The number of a value of this kind in this slot.
 pub fn number_of(kind: u32, place: usize) -> u32
     requires kind { kind < 256 }
     requires place { place < 0x0100_0000 }
@@ -47,7 +47,7 @@ pub fn number_of(kind: u32, place: usize) -> u32
     kind * PLACE_NUMBERS + place as u32
 }
 
-/// The value found by a number.
+/// The value that this number finds, or None.
 #[tactic(auto, unfolding(crate::specs::Numbered::at_number))]
 pub fn get<T: Kinded, const N: usize, P: Slots<T, N>>(places: &P, number: u32) -> Option<&T>
     ensures value { option_copied result ≡ at_number T.kind (P.places places.now) number }
@@ -62,7 +62,7 @@ pub fn get<T: Kinded, const N: usize, P: Slots<T, N>>(places: &P, number: u32) -
     }
 }
 
-/// Write access to the value found by a number, or None.
+/// A mutable reference to the value that this number finds, or None.
 #[tactic(auto, unfolding(crate::specs::Numbered::at_number))]
 pub fn get_mut<T: Kinded, const N: usize, P: Slots<T, N>>(
     places: &mut P,
@@ -78,7 +78,7 @@ pub fn get_mut<T: Kinded, const N: usize, P: Slots<T, N>>(
     places.get_mut(place_of(number))
 }
 
-/// Removes the value found by a number. Returns whether there was one.
+/// Removes the value that this number finds. Returns whether there was one.
 #[tactic(auto, unfolding(crate::specs::Numbered::without_number))]
 pub fn remove<T: Kinded, const N: usize, P: Slots<T, N>>(places: &mut P, number: u32) -> bool
     ensures there { result ≡ is_some (at_number T.kind (P.places places.old) number) }
@@ -92,7 +92,7 @@ pub fn remove<T: Kinded, const N: usize, P: Slots<T, N>>(places: &mut P, number:
 }
 
 /// Each value has the properties that follow from the types of its parts, and there are `N` slots.
-/// A proof only: it has no effect at run time.
+/// This function is only a proof: it has no effect at run time.
 pub fn read_sizes<T: Sizes, const N: usize, P: Slots<T, N>>(places: &P)
     ensures each { AreAll T.IsOne (P.places places.now) }
     // There are always `N` slots.
@@ -106,16 +106,16 @@ pub fn read_sizes<T: Sizes, const N: usize, P: Slots<T, N>>(places: &P)
     }
 }
 
-/// Slots form a map keyed by number, for any type of value. A proof only: it has no effect at run
-/// time.
+/// For any type of value, slots form a map keyed by number. This function is only a proof: it has
+/// no effect at run time.
 #[inline(always)]
 #[tactic(auto, using(crate::proofs::NumberedLaws::is_map))]
 pub fn numbered_laws<T: Kinded>()
     ensures { MapLaws T.kind }
 {}
 
-/// After a removal, the value found by each number is unchanged or removed; if all slots are free,
-/// no number finds anything. A proof only: it has no effect at run time.
+/// After a removal, the value found by each number is unchanged or removed. If all slots are free,
+/// no number finds a value. This function is only a proof: it has no effect at run time.
 #[inline(always)]
 #[tactic(auto, using(crate::proofs::FoundNumbers::removed_or_same, crate::proofs::FoundNumbers::free_found))]
 pub fn found_laws<T: Kinded>()

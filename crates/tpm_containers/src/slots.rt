@@ -1,5 +1,5 @@
-//! The trait of slots: a fixed number of places, each free or with a value. A new value is put
-//! into the lowest free slot, or into one that the caller chooses.
+//! The trait of slots: a fixed number of places, each of which is free or contains a value. A new
+//! value is put into the lowest free slot, or into one that the caller chooses.
 
 ghost use Rattle.std.specs.Prelude.{◌≡◌, ◌<◌, ℕ, Bool, IfSome, List, None, Option, Some, length, option_copied, slice_set};
 ghost use Rattle.std.specs.Borrow.{LendsIf, sem};
@@ -8,7 +8,7 @@ ghost use Rattle.tpm_containers.specs.Slots.{Inserts, Puts, at_place, free, lowe
 
 use std::alloc::Global;
 
-/// The reason why a value was not put into a slot.
+/// The reason why a value could not be put into a slot.
 #[derive(Clone, Copy, PartialEq, Eq)]
 pub enum SlotFault {
     /// All slots are taken.
@@ -17,19 +17,19 @@ pub enum SlotFault {
     NoMemory,
 }
 
-/// `N` slots for values, numbered from 0. In contracts they are a list of the slots, each free or
-/// with its value.
+/// `N` slots for values, numbered from 0. Contracts represent them by a list of the slots, each
+/// free or with its value.
 pub trait Slots<T: Drop, const N: usize>: Drop + Sized {
     /// The slots.
     ghost places: { Self → List (Option T) };
 
-    /// The same slots after a value was put into one of them.
+    /// The slots after a value was put into one of them.
     ghost with_place: { Self → ℕ → T → Self };
 
     /// Whether an allocation can fail.
     ghost can_refuse: { Bool };
 
-    /// `N` free slots; nothing is allocated.
+    /// `N` free slots, for which nothing is allocated.
     fn new(alloc: Global) -> Self
         ensures { places result ≡ free N };
 
@@ -39,7 +39,7 @@ pub trait Slots<T: Drop, const N: usize>: Drop + Sized {
         // There are always `N` slots.
         ensures all { length (places self.now) ≡ N };
 
-    /// Write access to the value in this slot, or None if the slot is free.
+    /// A mutable reference to the value in this slot, or None if the slot is free.
     fn get_mut(&mut self, place: usize) -> Option<&mut T>
         ensures* writes_back { sem 𝓛 (LendsIf Self.row T.row self.entry result
             (with_place self.entry.now place) self.entry.now) }
@@ -67,7 +67,7 @@ pub trait Slots<T: Drop, const N: usize>: Drop + Sized {
     fn clear(&mut self)
         ensures { places self.new ≡ free N };
 
-    /// A value written through a mutable reference to its slot is in that slot afterwards.
+    /// After a value is written through a mutable reference to its slot, it is in that slot.
     ghost written: { (all : Self) (place : ℕ) (value : T)
         → places (with_place all place value) ≡ slice_set (places all) place (Some value) };
 }

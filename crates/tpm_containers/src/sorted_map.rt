@@ -1,4 +1,5 @@
-//! The trait of a map keyed by numbers in ascending order, and the reasons why it refuses a value.
+//! The trait of a map whose keys are numbers in ascending order, and the reasons why it refuses a
+//! value.
 
 ghost use Rattle.std.specs.Prelude.{◌≡◌, ◌≤◌, ℕ, [], Bool, List, is_some, length, option_copied};
 ghost use Rattle.std.specs.Borrow.{LendsIf, sem};
@@ -8,7 +9,7 @@ ghost use Rattle.tpm_containers.specs.SortedMap.{Ascends, PutsKey, at_key, chang
 use crate::Choice;
 use std::alloc::Global;
 
-/// The reason why no value was put under a key.
+/// The reason why a value could not be inserted under a key.
 #[derive(Clone, Copy, PartialEq, Eq)]
 pub enum KeyFault {
     /// The key already has a value.
@@ -19,19 +20,19 @@ pub enum KeyFault {
     NoMemory,
 }
 
-/// At most `N` values, each with its own key. In contracts they are a list of keys and values, in
-/// ascending order of key.
+/// At most `N` values, each with its own key. Contracts represent them by a list of keys and
+/// values, in ascending order of key.
 pub trait SortedMap<T: Drop, const N: usize>: Drop + Sized {
     /// The keys in ascending order, each with its value.
     ghost entries: { Self → List (ℕ × T) };
 
-    /// The same map after the value of an existing key was replaced.
+    /// The map after the value of an existing key was replaced.
     ghost with_value: { Self → ℕ → T → Self };
 
     /// Whether an allocation can fail.
     ghost can_refuse: { Bool };
 
-    /// An empty map; nothing is allocated.
+    /// An empty map, for which nothing is allocated.
     fn new(alloc: Global) -> Self
         ensures { entries result ≡ [] };
 
@@ -43,28 +44,29 @@ pub trait SortedMap<T: Drop, const N: usize>: Drop + Sized {
     fn as_slice(&self) -> &[(u32, T)]
         ensures { result.now ≡ entries self.now };
 
-    /// The value of a key.
+    /// The value of a key, or None.
     fn get(&self, key: u32) -> Option<&T>
         ensures value { option_copied result ≡ at_key (entries self.now) key }
         // The keys always ascend, and there are never more than `N`.
         ensures ascends { Ascends (entries self.now) }
         ensures few { length (entries self.now) ≤ N };
 
-    /// Write access to the value of a key, or None.
+    /// A mutable reference to the value of a key, or None.
     fn get_mut(&mut self, key: u32) -> Option<&mut T>
         ensures* writes_back { sem 𝓛 (LendsIf Self.row T.row self.entry result
             (with_value self.entry.now key) self.entry.now) }
         ensures value { option_copied_mut result ≡ at_key (entries self.old) key };
 
-    /// The lowest key in the map at or above this one.
+    /// The lowest key in the map that is at least `key`.
     fn next(&self, key: u32) -> Option<u32>
         ensures { result ≡ key_from (entries self.now) key };
 
-    /// Puts a value under a key that must be free.
+    /// Inserts a value under a key. Fails if the key has a value, the map is full, or an allocation
+    /// fails.
     fn insert(&mut self, key: u32, value: T) -> Result<(), KeyFault>
         ensures { PutsKey N can_refuse (entries self.old) key value result (entries self.new) };
 
-    /// Removes the value of a key. Returns whether there was one.
+    /// Removes a key and its value. Returns whether the key existed.
     fn remove(&mut self, key: u32) -> bool
         ensures there { result ≡ is_some (at_key (entries self.old) key) }
         ensures after { entries self.new ≡ without_key (entries self.old) key };
@@ -77,7 +79,7 @@ pub trait SortedMap<T: Drop, const N: usize>: Drop + Sized {
     fn clear(&mut self)
         ensures { entries self.new ≡ [] };
 
-    /// A value written through a mutable reference is the value of its key afterwards.
+    /// After a value is written through a mutable reference, it is the value of its key.
     ghost written: { (map : Self) (key : ℕ) (value : T)
         → entries (with_value map key value) ≡ changed_key (entries map) key value };
 }

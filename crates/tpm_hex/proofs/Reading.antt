@@ -13,7 +13,7 @@ PairsTellSoFar digits largest place bytes =
     ≡ prepend (take place bytes) (decode_pairs (2 * place) (drop (2 * place) digits)))
     × (16 ≤ largest → (fault : FromHexError) × (decode_pairs 0 digits ≡ Err fault))
 
--- If the value of a byte is below 16, the byte is the hex digit with that value.
+-- If the value of a byte is below 16, this byte is the hex digit with that value.
 small_is_digit : (digit : Option ℕ) (value : ℕ) → value ≡ unwrap_or digit 255 → value < 16 → digit ≡ Some value
 small_is_digit (Some own) value e small = ap Some (sym e)
 small_is_digit None value e small = absurd (omega (arith, e, small))
@@ -50,7 +50,8 @@ pair_is_bad first second high low index e f large =
       | inr not_small ↦ (_, first_is_bad first second index (large_is_none first high e not_small))
     ]
 
--- If the next pair is decoded, all pairs up to it have been decoded.
+-- If the pairs before `place` were decoded and the next pair is decoded, then all pairs up to it
+-- were decoded.
 pub pair_read : (digits bytes : List ℕ) (largest place high low next : ℕ)
     → 2 * place + 1 < length digits → place < length bytes
     → high ≡ unwrap_or (hex_digit_value (slice_index digits (2 * place))) 255

@@ -1,10 +1,10 @@
--- The largest digit value decides whether a text is hex, so a loop need not stop at the first bad
--- digit.
+-- The largest digit value shows whether a text is hex. Therefore a loop need not stop at the first
+-- bad digit.
 use Rattle.std.specs.Prelude.{◌≡◌, ℕ, ◌<◌, ◌≤◌, List, Ok, Err}
 use Rattle.hex.specs.Hex.{decode_pairs}
 use Rattle.hex.specs.declared.error.FromHexError.{FromHexError}
 
--- If the largest digit value is below 16, the digits decode to these bytes; otherwise decoding them
+-- If the largest digit value is below 16, the digits decode to these bytes. Otherwise decoding them
 -- fails.
 abbrev pub PairsTell : List ℕ → (largest : ℕ) → (bytes : List ℕ) → Type 0
 PairsTell digits largest bytes =

@@ -1,22 +1,22 @@
 #![tactic(auto)]
 
-//! Bytes in hex, which a script's lines and its responses consist of.
+//! Encodes bytes in hex and decodes them. Scripts contain commands and responses in hex.
 //!
-//! The crate uses the kit's `hex`, which defines hex; each call is proved to equal its definition
-//! there. A text that is not hex is refused, and the content of the output buffer is then
-//! unspecified. The loops do not branch on single digits, so that the compiler can process sixteen
-//! digits at a time.
+//! The crate uses the kit's `hex`, which defines hex. The result of each function is proved to
+//! equal its definition there. A text that is not hex is refused, and the content of the output
+//! buffer is then unspecified. The loops do not branch on single digits, so that the compiler can
+//! process sixteen digits at a time.
 
 ghost use Rattle.std.specs.Prelude.{◌≡◌, ◌*◌, ◌/◌, ◌<◌, length, slice_index, unwrap_or, IsErr, MatchResult};
 ghost use Rattle.hex.specs.Hex.{decode_of, encode_lower, hex_digit_value, lower_digits};
 ghost use Rattle.tpm_hex.specs.Values.{PairsTell};
 ghost use Rattle.tpm_hex.specs.declared.TheConstants.{NO_DIGIT};
 
-/// The fault of a text that is not hex: its length is odd, or one of its bytes is not a digit.
+/// The text is not hex: its length is odd, or one of its bytes is not a digit.
 #[derive(Clone, Copy, PartialEq, Eq)]
 pub struct NotHex;
 
-/// The value of a byte that is not a digit.
+/// The value used for a byte that is not a digit.
 const NO_DIGIT: u8 = 255;
 
 /// Writes bytes as lower-case hex.

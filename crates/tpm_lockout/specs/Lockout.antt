@@ -2,9 +2,9 @@
 use Rattle.std.specs.Prelude.{ℕ, ◌<◌, ◌*◌, ◌^◌, false}
 use Rattle.tpm_lockout.specs.declared.fields.LockoutFields.{LockoutFields}
 
--- the lockout state: failedTries, the parameters of the protection, and whether lockoutAuth is
--- disabled, all of which survive a power cycle; and two times in milliseconds, since the latest
--- failed try was counted or forgiven, and since lockoutAuth was disabled
+-- the lockout state. The fields survive a power cycle: failedTries, the parameters of the
+-- protection, and whether lockoutAuth is disabled. The times, in milliseconds, count towards
+-- forgiving the next failed try and towards enabling lockoutAuth again
 pub record LockoutState : Type 0 where
   pub fields : LockoutFields
   pub forgiving_time : ℕ
@@ -37,7 +37,7 @@ times_restarted s = record s { forgiving_time = 0; closed_time = 0 }
 abbrev pub restored : LockoutFields → LockoutState
 restored fields = record { fields = fields; forgiving_time = 0; closed_time = 0 }
 
--- the lockout state after TPM2_DictionaryAttackParameters: these parameters, with both times at
+-- the lockout state after TPM2_DictionaryAttackParameters set these parameters, with both times at
 -- zero
 abbrev pub with_parameters : (max_tries recovery_time lockout_recovery : ℕ)
     → LockoutState → LockoutState
@@ -47,8 +47,8 @@ with_parameters max_tries recovery_time lockout_recovery s = restored (record s.
   lockout_recovery = lockout_recovery;
 })
 
--- The conditions that every lockout state meets: each number fits its integer type, and each time
--- is less than 2^32 seconds, counted in milliseconds.
+-- The conditions that every lockout state satisfies: each number fits its integer type, and each
+-- time, counted in milliseconds, is less than 2^32 seconds.
 pub record IsLockout (s : LockoutState) : Type 0 where
   pub failed_tries : s.fields.failed_tries < 2 ^ 32
   pub max_tries : s.fields.max_tries < 2 ^ 32

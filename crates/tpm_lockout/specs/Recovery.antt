@@ -1,5 +1,6 @@
--- lockoutAuth: how a failed try disables it, and when it is enabled again. TPM 2.0 Library, Part
--- 1, section 19.8 (dictionary attack protection: lockoutAuth and lockoutRecovery).
+-- lockoutAuth: how a failed attempt to authorize with it disables it, and when it is enabled again.
+-- TPM 2.0 Library, Part 1, section 19.8 (dictionary attack protection: lockoutAuth and
+-- lockoutRecovery).
 use Rattle.std.specs.Prelude.{ℕ, ◌+◌, ◌==◌, ◌&&◌, not, nat_le, Bool, true, false, if◌then◌else◌}
 use Rattle.tpm_lockout.specs.Lockout.{LockoutState, milliseconds}
 use Rattle.tpm_lockout.specs.Tries.{forgiven_after}
@@ -8,18 +9,18 @@ use Rattle.tpm_lockout.specs.declared.fields.LockoutFields.{LockoutFields}
 abbrev pub with_closed : Bool → LockoutState → LockoutState
 with_closed closed s = record s { fields = record s.fields { closed = closed } }
 
--- the lockout state after a failed try at lockoutAuth, which disables lockoutAuth from now on;
--- nothing changes if it is already disabled
+-- the lockout state after a failed attempt to authorize with lockoutAuth, which then becomes
+-- disabled; nothing changes if it is already disabled
 abbrev pub closed_by_failure : LockoutState → LockoutState
 closed_by_failure s =
     if s.fields.closed then s else record (with_closed true s) { closed_time = 0 }
 
--- whether elapsed time enables lockoutAuth again: only if it is disabled and lockoutRecovery is
--- not 0; with 0, a TPM Reset enables it
+-- whether lockoutAuth will be enabled again after some time: it is disabled, and lockoutRecovery is
+-- not 0. If lockoutRecovery is 0, a TPM Reset enables lockoutAuth
 abbrev pub opens_by_time : LockoutFields → Bool
 opens_by_time f = f.closed && not (f.lockout_recovery == 0)
 
--- the lockout state after lockoutAuth has been disabled for this time: it is enabled once
+-- the lockout state once lockoutAuth has been disabled for this time: it is enabled again if
 -- lockoutRecovery has passed
 abbrev pub opened_at : (time : ℕ) → LockoutState → LockoutState
 opened_at time s =
@@ -27,7 +28,7 @@ opened_at time s =
     then record (with_closed false s) { closed_time = 0 }
     else record s { closed_time = time }
 
--- the lockout state after some milliseconds, in which only lockoutAuth and its time change
+-- the lockout state after lockoutAuth and its time are updated for some elapsed milliseconds
 unfoldable pub opened_after : (elapsed : ℕ) → LockoutState → LockoutState
 opened_after elapsed s =
     if opens_by_time s.fields then opened_at (s.closed_time + elapsed) s

@@ -11,14 +11,13 @@ ghost use Rattle.tpm_lockout.specs.Tries.{after_failure, forgiven_after, is_lock
 use crate::fields::LockoutFields;
 use std::marker::Model;
 
-/// Dictionary attack protection and its two times. In contracts it is its fields and the two
-/// times.
+/// Dictionary attack protection: its fields and two times. Contracts represent it by these.
 #[derive(Drop)]
 pub struct Lockout {
     fields: LockoutFields,
-    /// Milliseconds since the latest failed try was counted or forgiven.
+    /// Milliseconds that count towards forgiving the next failed try.
     forgiving_time: u64,
-    /// Milliseconds since lockoutAuth was disabled.
+    /// Milliseconds that count towards enabling lockoutAuth again.
     closed_time: u64,
     ghost short_forgiving: { forgiving_time < milliseconds (2 ^ 32) },
     ghost short_closed: { closed_time < milliseconds (2 ^ 32) },
@@ -76,7 +75,7 @@ impl Lockout {
         }
     }
 
-    /// The lockout state of a device that continues to run: its fields and its two times.
+    /// The lockout state of a device that continues to run, with these fields and times.
     pub fn resume(fields: LockoutFields, forgiving_time: u64, closed_time: u64) -> Lockout
         requires forgiving { forgiving_time < milliseconds (2 ^ 32) }
         requires closed { closed_time < milliseconds (2 ^ 32) }
@@ -93,14 +92,14 @@ impl Lockout {
         }
     }
 
-    /// Milliseconds since the latest failed try was counted or forgiven.
+    /// Milliseconds that count towards forgiving the next failed try.
     pub fn forgiving_time(&self) -> u64
         ensures { result ≡ self.now.forgiving_time }
     {
         self.forgiving_time
     }
 
-    /// Milliseconds since lockoutAuth was disabled.
+    /// Milliseconds that count towards enabling lockoutAuth again.
     pub fn closed_time(&self) -> u64
         ensures { result ≡ self.now.closed_time }
     {
@@ -120,8 +119,8 @@ impl Lockout {
         self.fields
     }
 
-    /// Lets some milliseconds elapse: each full recoveryTime forgives a failed try, and
-    /// lockoutAuth is enabled again after it was disabled for lockoutRecovery.
+    /// Lets some milliseconds elapse. Each full recoveryTime forgives a failed try. lockoutAuth is
+    /// enabled again once it has been disabled for lockoutRecovery.
     pub fn tick(&mut self, elapsed_ms: u32)
         ensures { self.new ≡ lockout_ticked elapsed_ms self.old }
     {
@@ -168,8 +167,8 @@ impl Lockout {
         self.fields.recovery_time != 0 && self.fields.failed_tries >= self.fields.max_tries
     }
 
-    /// Counts a failed try at a protected entity, unless the entities are locked out or failed
-    /// tries are not counted.
+    /// Counts a failed try, unless the protected entities are locked out or failed tries are not
+    /// counted.
     #[tactic(auto, unfolding(crate::specs::Tries::after_failure))]
     pub fn failed(&mut self)
         ensures { self.new ≡ after_failure self.old }
@@ -199,7 +198,8 @@ impl Lockout {
         self.power_cycle();
     }
 
-    /// Disables lockoutAuth after a failed try at it. If it is already disabled, nothing changes.
+    /// Disables lockoutAuth after a failed attempt to authorize with it. If it is already disabled,
+    /// nothing changes.
     pub fn lockout_failed(&mut self)
         ensures { self.new ≡ closed_by_failure self.old }
     {

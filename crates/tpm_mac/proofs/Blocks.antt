@@ -12,11 +12,11 @@ use Rattle.tpm_mac.specs.Kdf.{kdfa_of, kdfa_text}
 use Rattle.tpm_mac.specs.declared.algorithm.HashAlg.{HashAlg}
 use Rattle.tpm_mac.specs.declared.algorithm.HashAlg.TheVariants.{Sha1, Sha256}
 
--- blocks 1 to n concatenated; a function of the counter returns each block
+-- blocks 1 to n, concatenated. `piece` returns the block for each counter
 abbrev pub pieces_to : (ℕ → List ℕ) → ℕ → List ℕ
 pieces_to piece n = flat_map piece (range_with_len 1 n)
 
--- blocks 1 to n of KDFa concatenated
+-- blocks 1 to n of KDFa, concatenated
 abbrev pub blocks_to : HashAlg → (key label context_u context_v : List ℕ) (size n : ℕ) → List ℕ
 blocks_to alg key label context_u context_v size n =
     pieces_to (λ i. hmac_of alg key (kdfa_text label context_u context_v (size * 8) i)) n
@@ -28,15 +28,15 @@ pieces_to-suc piece n =
     ∙ flat_map-append piece (range_with_len 1 n) ((1 + n) ∷ [])
     ∙ ap (λ (xs : List ℕ). pieces_to piece n ++ xs) (append-nil (piece (1 + n)))
 
--- n blocks of the same size, concatenated, are n times as long as one
+-- n blocks of the same size, concatenated, are n times as long as one block
 length-pieces_to : (piece : ℕ → List ℕ) (size : ℕ) → ((i : ℕ) → length (piece i) ≡ size)
     → (n : ℕ) → length (pieces_to piece n) ≡ n * size
 length-pieces_to piece size each zero = omega arith
 length-pieces_to piece size each (suc n) =
     rw (pieces_to-suc piece n, length-append, each (1 + n), length-pieces_to piece size each n) (omega arith)
 
--- if a list starts with the first n blocks and block n + 1 is written after them, the list starts
--- with the first n + 1 blocks
+-- if a list starts with the first n blocks and block n + 1 is written after them, then the list
+-- starts with the first n + 1 blocks
 pub take-piece_written : (piece : ℕ → List ℕ) (size : ℕ) → ((i : ℕ) → length (piece i) ≡ size)
     → (old new block : List ℕ) (n : ℕ) → n * size ≤ length old
     → take (n * size) old ≡ take (length old) (pieces_to piece n)
@@ -54,8 +54,8 @@ take-piece_written piece size each old new block n fits so_far same after =
     ∙ ap (λ (xs : List ℕ). before ++ xs) (ap piece (omega arith) ∙ sym same) in
     rw (seam, last, after, front, ← at) (take-block_written old before block (omega arith))
 
--- If block n + 1 of KDFa is written after the first n, the output starts with the first n + 1
--- blocks.
+-- If block n + 1 of KDFa is written after the first n blocks, the output starts with the first n +
+-- 1 blocks.
 pub kdfa_block_written : (alg : HashAlg) (key label context_u context_v old new block : List ℕ) (size n : ℕ)
     → size ≡ digest_size alg → n * size ≤ length old
     → take (n * size) old ≡ take (length old) (blocks_to alg key label context_u context_v (length old) n)
@@ -67,7 +67,7 @@ kdfa_block_written alg key label context_u context_v old new block size n sized 
     let each : (i : ℕ) → length (piece i) ≡ size = λ i. rw sized (length-hmac_of alg key _) in
     take-piece_written piece size each old new block n fits so_far same after
 
--- after the last block, possibly truncated, is written, the list is a prefix of the concatenated
+-- once the last block, which may be truncated, is written, the list is a prefix of the concatenated
 -- blocks
 last-piece_written : (piece : ℕ → List ℕ) (size count n : ℕ) (new : List ℕ) → length new ≤ count * size
     → n ≡ count - 1
@@ -86,7 +86,7 @@ digest_size-positive : (alg : HashAlg) → 0 < digest_size alg
 digest_size-positive Sha1 = omega arith
 digest_size-positive Sha256 = omega arith
 
--- after the last block is written, the output is the key that KDFa derives
+-- once the last block is written, the output is the key that KDFa derives
 pub kdfa_written : (alg : HashAlg) (key label context_u context_v new : List ℕ) (size n : ℕ)
     → size ≡ digest_size alg → n ≡ div_ceil (length new) size - 1
     → take ((n + 1) * size) new ≡ take (length new) (blocks_to alg key label context_u context_v (length new) (n + 1))

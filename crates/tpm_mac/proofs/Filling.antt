@@ -8,14 +8,16 @@ use Rattle.std.proofs.Math.Seq.{take-append-add}
 use Rattle.std.specs.List.{range_with_len}
 use Rattle.tpm_mac.specs.Hmac.{masked_key}
 
--- If bytes overwrite the first of 64 zeros, the result is the bytes padded with zeros to 64.
+-- If bytes overwrite the start of 64 zeros, the result is these bytes, padded with zeros to 64
+-- bytes.
 pub zeros_overwritten : (zeros bytes written : List ℕ) → zeros ≡ replicate 64 0 → written ≡ bytes
     → written ++ drop (length bytes) zeros ≡ bytes ++ replicate (64 - length bytes) 0
 zeros_overwritten zeros bytes written blank same =
     let none : ℕ = 0 in
     rw (blank, same, drop-replicate (length bytes) 64 none) refl
 
--- If the first i bytes of the key are masked, and then byte i is, the first i + 1 bytes are masked.
+-- If the first i bytes of a key are masked and byte i is masked next, then the first i + 1 bytes
+-- are masked.
 pub masked_more : (key bytes : List ℕ) (pad i : ℕ) → i < length key
     → bytes ≡ masked_key pad (take i key) ++ drop i key
     → slice_set bytes i (bit_xor (slice_index_or bytes i 0) pad) ≡ masked_key pad (take (i + 1) key) ++ drop (i + 1) key
@@ -26,8 +28,8 @@ masked_more key bytes pad i within so_far =
     map_over_more (λ (x : ℕ). bit_xor x pad) key bytes i byte within so_far
     (sym (get_or_default_zero bytes i byte (omega arith)))
 
--- If nothing follows a block that was truncated, the first bytes, up to the size of the whole
--- block, are the bytes that were kept of it.
+-- If nothing follows a truncated block, then the start of the list, up to the size of the whole
+-- block, is the truncated block.
 take-cut_block : (block rest : List ℕ) (room : ℕ) → (room < length block → rest ≡ [])
     → take (length block) (take room block ++ rest) ≡ take room block
 take-cut_block block rest room none =
@@ -36,8 +38,8 @@ take-cut_block block rest room none =
       | inr fits ↦ rw (take_all room block fits) (take_at block rest (length block) refl)
     ]
 
--- If a block, truncated to fit, is written after some bytes, the list starts with those bytes and
--- the block.
+-- If a block is written after some bytes, truncated to fit, then the list starts with these bytes
+-- and the block.
 pub take-block_written : (old before block : List ℕ) → length before ≤ length old
     → take (length before + length block)
     (before ++ take (length old - length before) block ++ drop (length before + length block) old)

@@ -8,18 +8,18 @@ use Rattle.tpm_mac.specs.declared.hasher.Hasher.{Hasher}
 use Rattle.tpm_mac.specs.declared.hasher.State.{State}
 use Rattle.tpm_mac.specs.declared.hasher.State.TheVariants.{Sha1, Sha256}
 
--- This is the state of a hash with this algorithm, to which this message was fed.
+-- The state is that of a hash with this algorithm that was fed this message.
 abbrev pub StateHolds : State → HashAlg → List ℕ → Type 0
 StateHolds (Sha1 hasher) alg.Sha1 message = S1.Holds hasher message
 StateHolds (Sha1 hasher) alg.Sha256 message = ⊥
 StateHolds (Sha256 hasher) alg.Sha1 message = ⊥
 StateHolds (Sha256 hasher) alg.Sha256 message = Holds256 hasher message
 
--- The hasher uses this algorithm, and this message was fed to it.
+-- The hasher uses this algorithm and was fed this message.
 unfoldable pub Holds : Hasher → HashAlg → List ℕ → Type 0
 Holds hasher algorithm message = StateHolds hasher.state algorithm message
 
--- This text was fed to the hasher, after the message fed to it before.
+-- `new` is the hasher `old` after this text was fed to it.
 abbrev pub Takes : (old : Hasher) → List ℕ → (new : Hasher) → Type 0
 Takes old text new = (algorithm : HashAlg) (message : List ℕ)
     → Holds old algorithm message → Holds new algorithm (message ++ text)

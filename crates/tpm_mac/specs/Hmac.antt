@@ -4,7 +4,7 @@ use Rattle.std.specs.Prelude.{List, ◌++◌, length, map, replicate}
 use Rattle.tpm_mac.specs.Digest.{hash_of}
 use Rattle.tpm_mac.specs.declared.algorithm.HashAlg.{HashAlg}
 
--- K0: the key, padded with zeros to the 64 bytes of a block; a longer key is hashed first (FIPS
+-- K0: the key, padded with zeros to the 64 bytes of a block. A longer key is hashed first (FIPS
 -- 198-1, 4, steps 1 to 3)
 abbrev pub padded_key : HashAlg → List ℕ → List ℕ
 padded_key alg key =

@@ -35,13 +35,13 @@ pub fn kdfa(
         take_text(&mut copy, counter, label, context_u, context_v, &bits);
         write_front(out, index * size, copy.finish().as_slice());
     }
-    // The last block uses up the HMAC, so that a single block needs no copy of it.
+    // The last block consumes the HMAC. Therefore a single block needs no copy of it.
     let counter = last as u32 + 1;
     take_text(&mut mac, counter, label, context_u, context_v, &bits);
     write_front(out, last * size, mac.finish().as_slice());
 }
 
-/// Feeds the input of the counter's block to an HMAC to which no text was fed yet.
+/// Feeds the input of the block with this counter to an HMAC that was fed no text yet.
 fn take_text(
     mac: &mut Mac,
     counter: u32,
@@ -63,7 +63,7 @@ fn take_text(
     mac.update(bits);
 }
 
-/// Writes the block at `start`, truncated at the end of `out`.
+/// Writes the block at `start`, truncated to the end of `out`.
 fn write_front(out: &mut [u8], start: usize, block: &[u8])
     requires { start ≤ length out.old }
     ensures { out.new ≡ take start out.old ++ take (length out.old - start) block.now

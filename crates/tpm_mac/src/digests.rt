@@ -1,4 +1,4 @@
-//! The digest of a message given in parts.
+//! Computes the digest of a message that is passed in parts.
 
 ghost use Rattle.std.specs.Prelude.{◌≡◌, length};
 ghost use Rattle.tpm_mac.specs.Digest.{digest_size, hash_of, joined_text};
@@ -7,7 +7,7 @@ use crate::algorithm::HashAlg;
 use crate::hasher::Hasher;
 use arrayvec::ArrayVec;
 
-/// A digest by either algorithm; its length is the algorithm's `size`.
+/// A digest of either algorithm. Its length is the algorithm's `size`.
 pub type Digest = ArrayVec<u8, 32>;
 
 /// The digest of the concatenated parts, which are not copied.

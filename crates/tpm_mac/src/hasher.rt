@@ -1,4 +1,4 @@
-//! The digest of a message that is fed piece by piece.
+//! Computes the digest of a message that is fed piece by piece.
 
 ghost use Rattle.std.specs.Prelude.{◌≡◌, [], length, List, ℕ};
 ghost use Rattle.tpm_mac.specs.Digest.{digest_size, hash_of};
@@ -25,7 +25,7 @@ enum State {
 }
 
 impl Hasher {
-    /// A hash to which nothing was fed yet.
+    /// A hash that was fed nothing yet.
     #[tactic(auto, unfolding(crate::specs::Hasher::Holds))]
     pub fn new(alg: HashAlg) -> Hasher
         ensures { Holds result alg [] }
@@ -59,7 +59,7 @@ impl Hasher {
         Hasher { state }
     }
 
-    /// The digest of the message.
+    /// Returns the digest of the message.
     #[tactic(auto, unfolding(crate::specs::Hasher::Holds))]
     #[inline(always)]
     pub fn finish(self) -> Digest

@@ -1,4 +1,5 @@
-//! HMACs with one key after another. If a key is used again, it is not masked and hashed again.
+//! Computes HMACs. If the key and the algorithm are the same as before, the key is not masked and
+//! hashed again.
 
 ghost use Rattle.std.specs.Prelude.{◌≡◌, length};
 ghost use Rattle.tpm_mac.specs.Digest.{digest_size, joined_text};
@@ -10,9 +11,9 @@ use crate::mac::Mac;
 use arrayvec::ArrayVec;
 use std::marker::Model;
 
-/// An HMAC to which no text was fed yet, and its key. The next HMAC with the same key starts from
-/// a copy, which saves hashing both blocks of the key. The contracts do not mention the stored
-/// key, because it does not change the result of any HMAC.
+/// An HMAC that was fed no text yet, and its key. The next HMAC with the same key starts from a
+/// copy, which saves hashing both blocks of the key. The contracts do not mention the stored key,
+/// because it does not change the result of any HMAC.
 #[derive(Drop)]
 pub struct KeyedMac {
     alg: HashAlg,
@@ -41,8 +42,8 @@ impl KeyedMac {
         }
     }
 
-    /// The HMAC of the concatenated parts, equal to that of [`hmac_parts`](crate::hmac_parts). The
-    /// key is stored for the next call.
+    /// The HMAC of the concatenated parts, equal to the result of
+    /// [`hmac_parts`](crate::hmac_parts). Stores the key for the next call.
     pub fn hmac_parts(&mut self, alg: HashAlg, key: ArrayVec<u8, 64>, parts: &[&[u8]]) -> Digest
         ensures value { result.items ≡ hmac_of alg key.items (joined_text parts.now) }
         ensures size { length result.items ≡ digest_size alg }

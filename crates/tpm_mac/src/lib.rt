@@ -2,10 +2,10 @@
 //! piece by piece, and the key derivation KDFa (SP 800-108 in counter mode; TCG TPM 2.0 Library
 //! Part 1, 11.4.10.2).
 //!
-//! The crate uses the hash crates `sha1` and `sha2`, and its definitions refer to their
-//! definitions of the hashes (FIPS 180-4). It uses `arrayvec` for a digest of either size. Each
-//! call equals its definition over the whole text, however the text is divided into parts. No call
-//! allocates memory or fails.
+//! The crate uses the hash crates `sha1` and `sha2`, and its definitions refer to their definitions
+//! of the hashes (FIPS 180-4). It uses `arrayvec` for a digest of either size. The result of each
+//! function equals its definition for the whole text, no matter how the text is divided into parts.
+//! No function allocates memory or fails.
 
 #![tactic(auto)]
 

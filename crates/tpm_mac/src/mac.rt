@@ -1,4 +1,4 @@
-//! HMAC (FIPS 198-1) of a text fed piece by piece, or given in parts.
+//! Computes the HMAC (FIPS 198-1) of a text that is fed piece by piece, or passed in parts.
 
 ghost use Rattle.std.specs.Prelude.{◌≡◌, ◌-◌, ◌≤◌, [], ◌++◌, length, List, replicate, ℕ};
 ghost use Rattle.tpm_mac.specs.Digest.{digest_size, joined_text};
@@ -10,7 +10,7 @@ use crate::algorithm::HashAlg;
 use crate::digests::{Digest, digest_parts};
 use crate::hasher::Hasher;
 
-/// The block size of either hash in bytes.
+/// The block size in bytes of both hash algorithms.
 const BLOCK_SIZE: usize = 64;
 
 /// The byte `ipad`, which masks the key of the inner hash.
@@ -23,8 +23,8 @@ const OUTER_PAD: u8 = 0x5c;
 type BlockKey = [u8; BLOCK_SIZE];
 
 /// An HMAC in progress. The text is fed to the inner hash, and at the end the inner digest is fed
-/// to the outer hash. Both are fed their masked keys at the start, so copying a `Mac` saves
-/// hashing both blocks of the key.
+/// to the outer hash. Both hashes are fed their masked keys at the start. Therefore, copying a
+/// `Mac` saves hashing both blocks of the key.
 #[derive(Drop)]
 pub struct Mac {
     inner: Hasher,
@@ -32,7 +32,7 @@ pub struct Mac {
 }
 
 impl Mac {
-    /// An HMAC with a key of any length, to which no text was fed yet.
+    /// An HMAC with a key of any length, which was fed no text yet.
     pub fn new(alg: HashAlg, key: &[u8]) -> Mac
         ensures { MacHolds result alg key.now [] }
     {
@@ -42,7 +42,7 @@ impl Mac {
     }
 
     /// A `Mac` whose two hashes were fed nothing, not even a key. `take_key` feeds the key later,
-    /// in place, since returning a `Mac` copies it.
+    /// in place, because returning a `Mac` would copy it.
     #[inline(always)]
     #[tactic(auto, unfolding(crate::specs::Mac::IsUnkeyed))]
     pub(crate) fn unkeyed(alg: HashAlg) -> Mac
@@ -93,7 +93,7 @@ impl Mac {
         }
     }
 
-    /// The HMAC of the text.
+    /// Returns the HMAC of the text.
     #[inline(always)]
     #[tactic(auto, unfolding(crate::specs::Mac::MacHolds, crate::specs::Hmac::hmac_of))]
     pub fn finish(self) -> Digest
@@ -119,7 +119,7 @@ pub fn hmac_parts(alg: HashAlg, key: &[u8], parts: &[&[u8]]) -> Digest
     mac.finish()
 }
 
-/// The key padded with zeros to a block; a key longer than a block is hashed first.
+/// The key, padded with zeros to a block. A key longer than a block is hashed first.
 fn block_key(alg: HashAlg, key: &[u8]) -> BlockKey
     ensures { result ≡ padded_key alg key.now }
 {

@@ -4,6 +4,6 @@ use Rattle.tpm_types_name.specs.Name.{hashed_name}
 use Rattle.tpm_types_object.specs.declared.public.Public.{Public}
 use Rattle.tpm_types_object.specs.Public.{public_text}
 
--- the Name of an object: its nameAlg, followed by the nameAlg digest of its public area
+-- the Name of an object: its nameAlg, followed by the digest of its public area with that algorithm
 unfoldable pub object_name : Public → List ℕ
 object_name p = hashed_name p.name_alg (public_text p)

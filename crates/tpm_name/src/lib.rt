@@ -4,8 +4,8 @@
 //! their public areas.
 //!
 //! The crate uses `tpm_types_object` and `tpm_types_nv` for public areas. From `tpm_types_name` it
-//! re-exports the type of a Name, the Names of other handles, and qualified Names. No call here
-//! allocates memory or fails.
+//! re-exports the type of a Name, the Names of other handles, and qualified Names. No function of
+//! this crate allocates memory or fails.
 
 mod nv_name;
 mod object_name;

@@ -1,4 +1,4 @@
--- Numbers in a token.
+-- The number that a token contains.
 use Rattle.std.specs.Prelude.{ℕ, ◌-◌, ◌^◌, nat_eq, nat_le, nat_lt, if◌then◌else◌, Bool, List, [], ◌∷◌, drop, codes}
 use Rattle.std.specs.Prelude.{Option, Some, None, Result, Ok, ok_or}
 use Rattle.std.specs.Char.{digit_value}
@@ -23,8 +23,8 @@ radix_number radix.Hexadecimal = 16
 abbrev pub is_digit : ℕ → ℕ → Bool
 is_digit radix digit = nat_lt (digit_value digit) radix
 
--- the number that digits of a radix encode; there must be at least one digit, and leading zeros
--- are allowed
+-- the number that these digits encode in this radix. There must be at least one digit, and leading
+-- zeros are allowed
 unfoldable pub numeral : ℕ → List ℕ → Option ℕ
 numeral radix [] = None
 numeral radix (digit ∷ digits) =
@@ -36,7 +36,8 @@ unfoldable pub number_of : List ℕ → Option ℕ
 number_of token =
     if starts_with nat_eq token (codes "0x") then numeral 16 (drop 2 token) else numeral 10 token
 
--- the number that was read; the fault is Bad if there is no number, Range if it exceeds this limit
+-- the number that was read. Fails with Bad if there is no number, or with Range if it exceeds this
+-- limit
 unfoldable pub at_most : ℕ → Option ℕ → Result ℕ TokenFault
 at_most most written = do
   number ← ok_or written Bad
@@ -46,11 +47,11 @@ at_most most written = do
 abbrev pub number_in : ℕ → List ℕ → Result ℕ TokenFault
 number_in most token = at_most most (number_of token)
 
--- the number below 2^32 in decimal digits: at least one digit, leading zeros allowed; None for
--- any other text
+-- the number below 2^32 that one or more decimal digits encode, possibly with leading zeros, or
+-- None for any other text
 abbrev pub decimal_of : List ℕ → Option ℕ
 decimal_of digits = result_ok (at_most (2 ^ 32 - 1) (numeral 10 digits))
 
--- the number of a locality, 0 to 4
+-- the number of a locality, or None if it is not 0 to 4
 abbrev pub locality_of : ℕ → Option ℕ
 locality_of number = if nat_le number 4 then Some number else None

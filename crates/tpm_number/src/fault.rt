@@ -1,6 +1,6 @@
-//! Why a token is refused.
+//! The reasons why a token is refused.
 
-/// Why a token is refused.
+/// The reason why a token is refused.
 #[derive(Clone, Copy, PartialEq, Eq)]
 pub enum TokenFault {
     /// The token is not of the right form.

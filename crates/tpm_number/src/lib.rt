@@ -1,10 +1,11 @@
 #![tactic(auto)]
 
-//! Numbers as people write and read them, decimal or in hex, up to a given limit; and localities.
-//! A [`TokenFault`] says what is wrong with a token. The caller knows the whole line, and adds the
-//! token's position.
+//! Reads numbers that people write, in decimal or in hex, up to a given limit. Also reads
+//! localities. A [`TokenFault`] says what is wrong with a token. The caller knows the whole line,
+//! and adds the token's position.
 //!
-//! The crate uses `tpm_types` for localities. Each call equals its definition in `specs/Number`.
+//! The crate uses `tpm_types` for localities. The result of each function equals its definition in
+//! `specs/Number`.
 
 pub mod fault;
 pub mod number;

@@ -1,4 +1,4 @@
-//! Numbers in words, decimal or in hex, up to a given limit; and localities.
+//! Reads numbers in decimal or in hex, up to a given limit. Also reads localities.
 
 ghost use Rattle.std.specs.Prelude.{◌≡◌, ◌<◌, ◌≤◌, ◌^◌, ◌-◌, IfOk, option_and_then, option_map};
 ghost use Rattle.std.specs.List.{list_all};
@@ -49,8 +49,8 @@ impl Radix {
         bytes.iter().all(|byte| self.has_digit(*byte))
     }
 
-    /// Returns the number that these digits of this radix encode. The fault is Bad if they are not
-    /// a number, and Range if the number is 2^64 or more.
+    /// Returns the number that these digits encode in this radix. Fails with Bad if they are not a
+    /// number, or with Range if the number is 2^64 or more.
     fn read(self, digits: &[u8]) -> Result<u64, TokenFault>
         ensures { Gives (λ number. number)
             (at_most (2 ^ 64 - 1) (numeral (radix_number self) digits.now)) result }
@@ -68,8 +68,8 @@ impl Radix {
     }
 }
 
-/// Returns the number in a token: hex digits after 0x, or decimal digits. The fault is Bad if the
-/// token is not a number, and Range if the number exceeds `most`.
+/// Returns the number in a token: hex digits after 0x, or decimal digits. Fails with Bad if the
+/// token is not a number, or with Range if the number exceeds `most`.
 #[tactic(auto, unfolding(crate::specs::Number::number_of, crate::specs::Number::at_most))]
 pub fn number_in(most: u64, token: &[u8]) -> Result<u64, TokenFault>
     ensures value { Gives (λ number. number) (number_in most token.now) result }
@@ -85,8 +85,9 @@ pub fn number_in(most: u64, token: &[u8]) -> Result<u64, TokenFault>
     Ok(number)
 }
 
-/// Returns the number in decimal digits: at least one digit, with or without leading zeros, and no
-/// sign. For any other text, and for 2^32 or more, the result is `None`.
+/// Returns the number that these decimal digits encode. There must be at least one digit, leading
+/// zeros are allowed, and there is no sign. For any other text, and for 2^32 or more, the result is
+/// `None`.
 #[tactic(auto, unfolding(crate::specs::Number::at_most))]
 pub fn decimal(digits: &[u8]) -> Option<u32>
     ensures { result ≡ decimal_of digits.now }
@@ -97,7 +98,7 @@ pub fn decimal(digits: &[u8]) -> Option<u32>
     }
 }
 
-/// Returns the locality with this decimal number, 0 to 4.
+/// Returns the locality with this decimal number, if it is 0 to 4.
 pub fn locality(digits: &[u8]) -> Option<Locality>
     ensures { option_map locality_number result
         ≡ option_and_then locality_of (decimal_of digits.now) }

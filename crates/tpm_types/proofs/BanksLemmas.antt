@@ -1,4 +1,4 @@
--- An encoded PCR selection has six bytes for each bank, after its count. The loop over the banks
+-- An encoded PCR selection consists of a count and six bytes for each bank. The loop over the banks
 -- writes this encoding.
 use Rattle.std.proofs.Common.{◌≡◌, ℕ, ◌+◌, ◌*◌, ◌<◌, List, [], ◌∷◌, ◌++◌, length, take, get_or, refl, append_assoc, arith, length-append, take_all}
 use Rattle.std.specs.Int.{w32, to_be_bytes}
@@ -19,7 +19,7 @@ pub banks_text-nil : banks_text [] ≡ []
 unfolding banks_text
 banks_text-nil = refl
 
--- If one more bank is written, six bytes are appended after the previous banks.
+-- Writing one more bank appends its six bytes to the encoding of the previous banks.
 pub bank_written : (banks : List BankSelection) (i : ℕ) (bank : BankSelection) (start so_far new : List ℕ) → i < length banks → bank ≡ get_or banks i bank → so_far ≡ start ++ banks_text (take i banks) → length so_far ≡ length start + 6 * i → new ≡ so_far ++ bank_text bank → (new ≡ start ++ banks_text (take (i + 1) banks)) × (length new ≡ length start + 6 * (i + 1))
 unfolding banks_text
 bank_written banks i bank start so_far new below is so size wrote =
@@ -32,7 +32,7 @@ selection_text-is banks = refl
 pub length-selection_text : (banks : List BankSelection) → length (selection_text banks) ≡ 4 + 6 * length banks
 length-selection_text banks = rw (selection_text-is banks) (omega (arith, length-banks_text banks))
 
--- The count followed by the banks is the encoding of the selection.
+-- The encoding of a selection is the number of banks, followed by the encoded banks.
 pub selection_written : (banks : List BankSelection) (start : List ℕ) → start ++ to_be_bytes w32 (length banks) ++ banks_text banks ≡ start ++ selection_text banks
 unfolding selection_text
 selection_written banks start = append_assoc start (to_be_bytes w32 (length banks)) (banks_text banks)

@@ -15,7 +15,7 @@ pub digests_text_more : (digests : List (ArrayVec ℕ)) (i : ℕ) (d : ArrayVec 
 unfolding digests_text
 digests_text_more digests i d below = rw (take_more digests i d below, map-append) (grind (arith, common_steps))
 
--- If one more digest is written, at most 34 bytes are appended after the previous digests.
+-- Writing one more digest appends at most 34 bytes to the encoding of the previous digests.
 pub digest_written : (digests : List (ArrayVec ℕ)) (i : ℕ) (digest : ArrayVec ℕ) (bytes start so_far new : List ℕ) → i < length digests → digest ≡ get_or digests i digest → bytes ≡ digest.items → length bytes ≤ 32 → so_far ≡ start ++ digests_text (digests_of (take i digests)) → length so_far ≤ length start + 34 * i → new ≡ so_far ++ sized_text bytes → (new ≡ start ++ digests_text (digests_of (take (i + 1) digests))) × (length new ≤ length start + 34 * (i + 1))
 digest_written digests i digest bytes start so_far new below is same short so small sized = (
   sized
@@ -27,7 +27,7 @@ digest_written digests i digest bytes start so_far new below is same short so sm
   rw sized (omega (arith, length-append so_far (sized_text bytes))),
 )
 
--- the count followed by the digests is the encoding of the list
+-- the encoding of a list is the number of digests, followed by the encoded digests
 pub digest_list_written : (digests : List (ArrayVec ℕ)) (start : List ℕ) → start ++ to_be_bytes w32 (length digests) ++ digests_text (digests_of digests) ≡ start ++ digest_list_text (digests_of digests)
 unfolding digest_list_text
 digest_list_written digests start =

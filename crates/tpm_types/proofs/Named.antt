@@ -1,4 +1,5 @@
--- The value found for a number on the wire has that number, and each value is found by its number.
+-- Looking up a number from the wire finds a value with that number, and each value is found by its
+-- number.
 use Rattle.std.proofs.Common.{◌≡◌, ℕ, ◌<◌, ◌^◌, Bool, true, false, cond, List, Option, Some, None, Ok, refl, ap, subst, ◌∙◌, arith}
 use Rattle.std.specs.Prelude.{◌==◌, ok_or}
 use Rattle.std.specs.Int.{w16, to_be_bytes}
@@ -14,8 +15,8 @@ use Rattle.tpm_types.specs.Algorithm.{hash_named, hash_number, hash_or_null_name
 use Rattle.tpm_types.specs.Rc.{plain}
 use Rattle.tpm_types.proofs.Spelled.{Spelled}
 
--- A search tests one value after another. If each value that the later tests find has the number,
--- so does the value that this test finds.
+-- If a search finds only values with the given number, so does the search that first tests one more
+-- value.
 pub link : {A : Type 0} (number_of : A → ℕ) (number : ℕ) (first : A) (others : Option A) (x : A) → ((o : A) → others ≡ Some o → number ≡ number_of o) → cond (number == number_of first) (Some first) others ≡ Some x → number ≡ number_of x
 link number_of number first others x after = chosen (number == number_of first) refl
   where
@@ -54,7 +55,7 @@ pub hash_or_null_number-small : (hash : Option HashAlg) → hash_or_null_number 
 hash_or_null_number-small (Some hash) = hash_number-small hash
 hash_or_null_number-small None = omega arith
 
--- ---- a two-byte number that names something
+-- ---- identifiers of two bytes
 
 pub named_spelled : {A : Type 0} (number_of : A → ℕ) (named : ℕ → Option A) (unknown : ResponseCode) → ((n : ℕ) (x : A) → named n ≡ Some x → n ≡ number_of x) → ((x : A) → named (number_of x) ≡ Some x) → ((x : A) → number_of x < 2 ^ 16) → Spelled (λ x. to_be_bytes w16 (number_of x)) (λ x. Unit {0}) (λ text. or_fault (number_at w16 text) (plain code.Insufficient) >>= λ number. ok_or (named number.0) (plain unknown) >>= λ one. Ok (one, number.1))
 named_spelled {A} number_of named unknown is found small = record {

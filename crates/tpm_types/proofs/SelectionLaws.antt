@@ -1,4 +1,4 @@
--- A read returns a selection of PCRs exactly if the text starts with its encoding.
+-- A read returns a selection of PCRs exactly when the text starts with its encoding.
 use Rattle.std.proofs.Common.{◌≡◌, ℕ, zero, suc, ◌/◌, ◌%◌, ◌^◌, ◌<◌, Bool, true, false, ltb, List, [], ◌∷◌, ◌++◌, length, take, Ok, refl, sym, ap, subst, ◌∙◌, append_assoc, arith}
 use Rattle.std.specs.Prelude.{◌==◌, not}
 use Rattle.std.specs.Int.{w8, w16, w32, to_be_bytes, from_le_bytes, to_le_bytes}
@@ -46,7 +46,7 @@ fourth_octet select small = ap (λ n. select % 256 ∷ select / 256 % 256 ∷ se
 pub select_again : (select : ℕ) → select < 2 ^ 24 → select_of (select_text select) ≡ select
 select_again select small = ap (from_le_bytes w32) (fourth_octet select small) ∙ from_le_bytes-to_le_bytes_4 select (omega arith)
 
--- ---- the selection of a bank
+-- ---- the selection of one bank
 
 abbrev bank_of : HashAlg → List ℕ × List ℕ → BankSelection × List ℕ
 bank_of hash octets = (record { hash = hash; select = select_of octets.0 }, octets.1)
@@ -76,7 +76,7 @@ bank_again bank rest small =
     ap bank_at regrouped
     ∙ rw (hash_again bank.hash (to_be_bytes w8 3 ++ (select_text bank.select ++ rest)), number_or_again w8 (2 ^ 8) wide8 (plain code.Insufficient) 3 (select_text bank.select ++ rest) (omega arith), bytes_again (select_text bank.select) rest 3 refl) (ap (λ (n : ℕ). let made : BankSelection × List ℕ = (record { hash = bank.hash; select = n }, rest) in Ok made) (select_again bank.select small))
 
--- ---- a selection
+-- ---- the selection of several banks
 
 pub selection_takes : (bytes : List ℕ) (x : List BankSelection × List ℕ) → AreBytes bytes → selection_at bytes ≡ Ok x → (bytes ≡ selection_text x.0 ++ x.1) × IsSelection x.0
 unfolding selection_at selection_text banks_text

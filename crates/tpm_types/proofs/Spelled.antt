@@ -6,13 +6,14 @@ use Rattle.tpm_bytes.specs.Reading.{◌>>=◌}
 use Rattle.tpm_bytes.proofs.Fields.{AreBytes, AreBytes-take, Takes, Takes-then, bind_ok, ok_is}
 use Rattle.tpm_bytes.proofs.Spelling.{IsAgain, IsTaken}
 
--- A read returns a value exactly if the value is valid and the text starts with its encoding.
+-- A read returns a value exactly when the value is valid and the text starts with its encoding.
 pub record Spelled {A E : Type 0} (text : A → List ℕ) (Is : A → Type 0) (at : List ℕ → Result (A × List ℕ) E) : Type 0 where
   pub taken : IsTaken text Is at
   pub again : IsAgain text Is at
 
--- The read of a structure's remaining fields returns the whole value exactly if the value contains
--- the fields already read and the text starts with the encoding of the remaining ones.
+-- After some fields were read, the read of the remaining ones returns the whole value exactly when
+-- the value contains the fields already read and the text starts with the encoding of the remaining
+-- ones.
 pub record Behind {B C E : Type 0} (seen : B → C) (text : B → List ℕ) (Is : B → Type 0) (at : C → List ℕ → Result (B × List ℕ) E) : Type 0 where
   pub taken : (before : C) (bytes : List ℕ) (x : B × List ℕ) → AreBytes bytes → at before bytes ≡ Ok x → Takes bytes (text x.0) x.1 × Is x.0 × (seen x.0 ≡ before)
   pub again : (x : B) (rest : List ℕ) → Is x → at (seen x) (text x ++ rest) ≡ Ok (x, rest)
@@ -26,8 +27,8 @@ all_read {B} {C} {E} seen made same whole = record {
   again = λ x rest is. ap (λ (y : B). Ok (y, rest)) (whole x);
 }
 
--- If `Spelled` holds for the next field, and `Behind` for the fields after it, `Behind` holds for
--- all of them.
+-- If `Spelled` holds for the next field and `Behind` holds for the fields after it, then `Behind`
+-- holds for all these fields.
 pub then : {A B C E : Type 0} {text : A → List ℕ} {Is : A → Type 0} {at : List ℕ → Result (A × List ℕ) E} {seen : B → C × A} {others : B → List ℕ} {Are : B → Type 0} {behind : C × A → List ℕ → Result (B × List ℕ) E} → Spelled text Is at → Behind seen others Are behind → Behind (λ x. (seen x).0) (λ x. text (seen x).1 ++ others x) (λ x. Is (seen x).1 × Are x) (λ c bytes. at bytes >>= λ a. behind (c, a.0) a.1)
 then {A} {B} {C} {E} {text} {Is} {at} {seen} {others} {Are} {behind} field next = record {
   taken = λ before bytes x fits e.
@@ -43,8 +44,8 @@ then {A} {B} {C} {E} {text} {Is} {at} {seen} {others} {Are} {behind} field next 
       ∙ next.again x rest are.1;
 }
 
--- If `Spelled` holds for the first field, and `Behind` for the other fields, which may depend on
--- it, `Spelled` holds for the whole structure.
+-- If `Spelled` holds for the first field and `Behind` holds for the other fields, which may depend
+-- on it, then `Spelled` holds for the whole structure.
 pub first : {A B E : Type 0} {text : A → List ℕ} {Is : A → Type 0} {at : List ℕ → Result (A × List ℕ) E} {seen : B → A} {others : B → List ℕ} {Are : B → Type 0} {behind : A → List ℕ → Result (B × List ℕ) E} → Spelled text Is at → Behind seen others Are behind → Spelled (λ x. text (seen x) ++ others x) (λ x. Is (seen x) × Are x) (λ bytes. at bytes >>= λ a. behind a.0 a.1)
 first {A} {B} {E} {text} {Is} {at} {seen} {others} {Are} {behind} field next = record {
   taken = λ bytes x fits e.
@@ -60,23 +61,23 @@ first {A} {B} {E} {text} {Is} {at} {seen} {others} {Are} {behind} field next = r
       ∙ next.again x rest are.1;
 }
 
--- If `Spelled` holds for the remaining fields, for each value of the fields already read, `Behind`
--- holds for the remaining fields.
+-- If `Spelled` holds for the remaining fields whatever the fields already read contain, then
+-- `Behind` holds for the remaining fields.
 pub for_each : {B C E : Type 0} (seen : B → C) (text : B → List ℕ) (Is : B → Type 0) (at : C → List ℕ → Result (B × List ℕ) E) → ((c : C) → Spelled text (λ x. Is x × (seen x ≡ c)) (at c)) → Behind seen text Is at
 for_each seen text Is at each = record {
   taken = λ before bytes x fits e. let t = (each before).taken bytes x fits e in (t.0, t.1.0, t.1.1);
   again = λ x rest is. (each (seen x)).again x rest (is, refl);
 }
 
--- If the definitions of the encoding and of the valid values are replaced by equal ones, `Spelled`
--- still holds.
+-- `Spelled` still holds if the encoding and the condition for valid values are replaced by
+-- equivalent ones.
 pub respelled : {A E : Type 0} {text other : A → List ℕ} {Is Are : A → Type 0} {at : List ℕ → Result (A × List ℕ) E} → Spelled text Is at → ((x : A) → other x ≡ text x) → ((x : A) → Is x → Are x) → ((x : A) → Are x → Is x) → Spelled other Are at
 respelled {A} {E} {text} {other} {Is} {Are} {at} law same to from = record {
   taken = λ bytes x fits e. let t = law.taken bytes x fits e in (subst (λ (l : List ℕ). Takes bytes l x.1) (sym (same x.0)) t.0, to x.0 t.1);
   again = λ x rest are. ap (λ (l : List ℕ). at (l ++ rest)) (same x) ∙ law.again x rest (from x are);
 }
 
--- ---- bytes in two parts
+-- ---- a list of bytes in two parts
 
 pub front_fits : (front rest : List ℕ) → AreBytes (front ++ rest) → AreBytes front
 front_fits front rest fits = subst AreBytes (take_at front rest (length front) refl) (AreBytes-take (length front) (front ++ rest) fits)
@@ -87,11 +88,11 @@ rest_fits front rest fits = subst AreBytes (drop_at front rest (length front) re
     later : AreBytes (drop (length front) (front ++ rest))
     later i = rw get_or-drop (fits (length front + i))
 
--- if the bytes consist of a text and a rest, taking the text leaves the rest
+-- if the bytes consist of a text and a rest, then reading the text leaves the rest
 pub takes : (bytes text rest : List ℕ) → AreBytes bytes → bytes ≡ text ++ rest → Takes bytes text rest
 takes bytes text rest fits parts = record { parts = parts; rest_fits = rest_fits text rest (subst AreBytes parts fits) }
 
--- ---- the same bytes grouped differently
+-- ---- the same bytes, joined in a different order
 
 pub two_texts : (a b : List ℕ) → a ++ b ≡ a ++ (b ++ [])
 two_texts a b = simp append-nil refl

@@ -1,4 +1,4 @@
--- A read returns a symmetric definition exactly if the text starts with its encoding.
+-- A read returns a symmetric definition exactly when the text starts with its encoding.
 use Rattle.std.proofs.Common.{◌≡◌, ℕ, ◌^◌, Bool, true, false, cond, List, ◌++◌, Result, Ok, Err, refl, sym, ap, subst, ◌∙◌, append_assoc, arith, inl, inr}
 use Rattle.std.specs.Prelude.{◌==◌, ◌⊎◌, not}
 use Rattle.std.specs.Int.{w16, to_be_bytes}
@@ -16,8 +16,7 @@ use Rattle.tpm_types.specs.Algorithm.{hash_at, hash_number}
 use Rattle.tpm_types.proofs.HashLaws.{hash_again, hash_takes}
 use Rattle.tpm_types.proofs.SelectionLaws.{is_equal}
 
--- A choice between two results returned one of them: the first if the test held, otherwise the
--- second.
+-- A conditional returns its first result if the test is true, and its second result otherwise.
 pub chosen : {A E : Type 0} (b : Bool) (x y : Result A E) (z : A) → cond b x y ≡ Ok z → ((b ≡ true) × (x ≡ Ok z)) ⊎ ((b ≡ false) × (y ≡ Ok z))
 chosen true x y z e = inl (refl, e)
 chosen false x y z e = inr (refl, e)
@@ -50,8 +49,8 @@ aes_again rest =
     ap aes_at (append_assoc (to_be_bytes w16 0x0080) (to_be_bytes w16 0x0043) rest)
     ∙ rw (number_or_again w16 (2 ^ 16) wide16 f 0x0080 (to_be_bytes w16 0x0043 ++ rest) (omega arith), number_or_again w16 (2 ^ 16) wide16 f 0x0043 rest (omega arith)) refl
 
--- If a hash is read after the number of XOR, the bytes started with the encoding of XOR with that
--- hash.
+-- If the field after the number of XOR can be read, it encodes a hash, and the definition is XOR
+-- with that hash.
 xor_takes : (bytes : List ℕ) (x : SymmetricDefinition × List ℕ) → AreBytes bytes → xor_at bytes ≡ Ok x → (hash : HashAlg) × (bytes ≡ to_be_bytes w16 (hash_number hash) ++ x.1) × (x.0 ≡ Xor hash)
 unfolding xor_at
 xor_takes bytes x fits e =

@@ -12,7 +12,7 @@ pub trimmed_twice : (bytes : List ℕ) → trimmed (trimmed bytes) ≡ trimmed b
 unfolding trimmed
 trimmed_twice bytes = rw (reverse-reverse (without_first_zeros (reverse bytes)), first_zeros_twice (reverse bytes)) refl
 
--- If the last byte is zero, it is removed.
+-- Trimming removes the last byte if it is zero.
 trimmed_zero : (bytes : List ℕ) (last : ℕ) → last ≡ 0 → trimmed (bytes ++ last ∷ []) ≡ trimmed bytes
 unfolding trimmed
 trimmed_zero bytes zero none = rw (reverse-append bytes (0 ∷ [])) refl
@@ -30,7 +30,8 @@ trimmed_other bytes (suc last) some =
 front_more : (bytes : List ℕ) (size : ℕ) → 0 < size → size ≤ length bytes → take size bytes ≡ take (size - 1) bytes ++ get_or bytes (size - 1) 0 ∷ []
 front_more bytes size some within = ap (λ (n : ℕ). take n bytes) (let next : size ≡ size - 1 + 1 = omega arith in next) ∙ take_more bytes (size - 1) 0 (omega arith)
 
--- If the last byte of a prefix is zero, trimming the prefix without that byte has the same result.
+-- If the last byte of a prefix is zero, trimming the prefix with or without that byte has the same
+-- result.
 pub front_shorter : (bytes : List ℕ) (size : ℕ) → 0 < size → size ≤ length bytes → get_or bytes (size - 1) 0 ≡ 0 → trimmed (take size bytes) ≡ trimmed (take (size - 1) bytes)
 front_shorter bytes size some within last = ap trimmed (front_more bytes size some within) ∙ trimmed_zero (take (size - 1) bytes) _ last
 

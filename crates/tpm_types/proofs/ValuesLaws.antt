@@ -1,4 +1,4 @@
--- A read returns a digest with its algorithm, or a list of them, exactly if the text starts with
+-- A read returns a digest with its algorithm, or a list of them, exactly when the text starts with
 -- its encoding.
 use Rattle.std.proofs.Common.{◌≡◌, ℕ, ltb, List, ◌++◌, Ok, refl, sym, ap, subst, ◌∙◌, append_assoc, arith}
 use Rattle.std.specs.Int.{w16, to_be_bytes}

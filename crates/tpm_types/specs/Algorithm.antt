@@ -15,8 +15,8 @@ abbrev pub hash_number : HashAlg → ℕ
 hash_number Sha1 = 0x0004
 hash_number Sha256 = 0x000b
 
--- whether an authPolicy of this size is allowed with this nameAlg: it must be empty or have the
--- size of the digest
+-- whether an authPolicy of this size is allowed with this nameAlg: it must be empty, or have the
+-- size of a digest of nameAlg
 abbrev pub is_policy_size : HashAlg → (size : ℕ) → Bool
 is_policy_size name_alg size = size == 0 || size == digest_size name_alg
 
@@ -37,8 +37,8 @@ abbrev pub hash_or_null_number : Option HashAlg → ℕ
 hash_or_null_number (Some algorithm) = hash_number algorithm
 hash_or_null_number None = 0x0010
 
--- the hash algorithm with this number, or Some None for the number of NULL; None if the algorithm
--- is not supported
+-- the hash algorithm with this number, or Some None if it is the number of NULL, or None if the
+-- algorithm is not supported
 abbrev pub hash_or_null_named : ℕ → Option (Option HashAlg)
 hash_or_null_named number =
     if number == 0x0010 then Some None else option_map Some (hash_named number)

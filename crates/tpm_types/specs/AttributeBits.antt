@@ -7,7 +7,7 @@ use Rattle.tpm_types.specs.declared.rc.Rc.{Rc}
 use Rattle.tpm_types.specs.declared.rc.ResponseCode.TheVariants as code
 use Rattle.tpm_types.specs.Rc.{plain}
 
--- Attributes that can be encoded: they fit in 32 bits, and no reserved bit is set.
+-- Attributes can be encoded if they fit in 32 bits and no reserved bit is set.
 pub record AreAttributeBits (reserved bits : ℕ) : Type 0 where
   pub fits : bits < 2 ^ 32
   pub named : bit_and bits reserved ≡ 0

@@ -9,7 +9,7 @@ use Rattle.tpm_types.specs.declared.rc.ResponseCode.TheVariants as code
 use Rattle.tpm_types.specs.Rc.{plain}
 
 -- the response code for a bad sized buffer: SIZE if it is over its limit, even if it is also
--- truncated; else INSUFFICIENT if it is truncated
+-- truncated; otherwise INSUFFICIENT
 abbrev pub sized_rc : SizedFault → Rc
 sized_rc fault.TooLong = plain code.Size
 sized_rc fault.Short = plain code.Insufficient
@@ -18,11 +18,11 @@ abbrev pub or_sized_rc : {X : Type 0} → Result X SizedFault → Result X Rc
 or_sized_rc (Ok x) = Ok x
 or_sized_rc (Err fault) = Err (sized_rc fault)
 
--- the content of the sized buffer at the start of a text, with at most this many bytes, and the
--- rest of the text
+-- the content of the sized buffer at the start of a text, at most `limit` bytes, and the rest of
+-- the text
 unfoldable pub buffer_at : ℕ → List ℕ → Result (List ℕ × List ℕ) Rc
 buffer_at limit text = or_sized_rc (sized_at limit text)
 
--- whether a buffer contains anything, which is how a caller provides an optional value
+-- whether an optional value is present: its buffer is not empty
 abbrev pub is_given : List ℕ → Bool
 is_given bytes = not (length bytes == 0)

@@ -5,8 +5,8 @@ use Rattle.tpm_types.specs.ActionCheck.{action_number}
 use Rattle.tpm_types.specs.declared.check.Check.{Check}
 use Rattle.tpm_types.specs.declared.check.Check.TheVariants as check
 
--- the number of a check: 1 to 11 for the general checks G1 to G11 of every command, 20 + k for Ak,
--- the command's own k-th check, and 255 for out of memory
+-- the number of a check: 1 to 11 for the general checks G1 to G11, 20 + k for the command's own
+-- check Ak, and 255 for out of memory
 abbrev pub check_number : Check → ℕ
 check_number check.Length = 1
 check_number check.Tag = 2

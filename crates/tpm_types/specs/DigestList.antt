@@ -12,7 +12,7 @@ use Rattle.tpm_types.specs.declared.rc.ResponseCode.TheVariants as code
 use Rattle.tpm_types.specs.Buffer.{buffer_at}
 use Rattle.tpm_types.specs.Rc.{plain}
 
--- the bytes of each digest
+-- the bytes of each digest in a list
 abbrev pub digests_of : List (ArrayVec ℕ) → List (List ℕ)
 digests_of digests = map (λ digest. digest.items) digests
 
@@ -26,14 +26,14 @@ digest_list_text digests = to_be_bytes w32 (length digests) ++ digests_text dige
 abbrev pub IsDigest : List ℕ → Type 0
 IsDigest digest = length digest ≤ 32
 
--- A list of digests that can be read contains two to eight digests. Only TPM2_PolicyOR has such a
--- list as a parameter (Part 3, section 23.6).
+-- A list of digests that can be read contains two to eight digests. Only TPM2_PolicyOR has a list
+-- of digests as a parameter (Part 3, section 23.6).
 pub record IsDigestList (digests : List (List ℕ)) : Type 0 where
   pub several : 2 ≤ length digests
   pub few : length digests ≤ 8
   pub each : AllByRecursion IsDigest digests
 
--- ---- reading a list of digests, with the first fault
+-- ---- reading a list of digests, up to the first fault
 
 abbrev pub digest_at : List ℕ → Result (List ℕ × List ℕ) Rc
 digest_at text = buffer_at 32 text

@@ -1,5 +1,5 @@
--- Digests tagged with their algorithms. TPM 2.0 Library, Part 2, section 10.3.2 (TPMT_HA) and
--- section 10.9.6 (TPML_DIGEST_VALUES).
+-- Digests with their hash algorithms. TPM 2.0 Library, Part 2, section 10.3.2 (TPMT_HA) and section
+-- 10.9.6 (TPML_DIGEST_VALUES).
 use Rattle.std.specs.Prelude.{◌≡◌, ℕ, ◌≤◌, nat_lt, List, ◌++◌, length, Result, Ok}
 use Rattle.std.specs.List.{flat_map, AllByRecursion}
 use Rattle.std.specs.Int.{w16, w32, to_be_bytes}
@@ -38,12 +38,12 @@ abbrev pub IsDigestValue : DigestValue → Type 0
 IsDigestValue (Sha1 digest) = length digest ≡ 20
 IsDigestValue (Sha256 digest) = length digest ≡ 32
 
--- A list of digests that can be encoded: it contains at most two.
+-- A list of digests that can be encoded contains at most two digests.
 pub record IsDigestValues (values : List DigestValue) : Type 0 where
   pub few : length values ≤ 2
   pub each : AllByRecursion IsDigestValue values
 
--- ---- reading a list of digests with their algorithms, with the first fault
+-- ---- reading a list of digests with their algorithms, up to the first fault
 
 abbrev pub octets_at : ℕ → List ℕ → Result (List ℕ × List ℕ) Rc
 octets_at count text = or_fault (bytes_at count text) (plain code.Insufficient)

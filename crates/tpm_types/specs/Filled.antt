@@ -1,5 +1,5 @@
--- Structures that fill a sized buffer. TPM 2.0 Library, Part 2, section 10.4.1 (a TPM2B whose bytes
--- are a structure: its size is that of the structure).
+-- Structures that fill a sized buffer. TPM 2.0 Library, Part 2, section 10.4.1 (a TPM2B that
+-- contains a structure has the structure's size).
 use Rattle.std.specs.Prelude.{ℕ, ◌==◌, not, List, length, Result, Ok, Err}
 use Rattle.tpm_bytes.specs.Reading.{◌>>=◌, refused_if}
 use Rattle.tpm_types.specs.declared.rc.Rc.{Rc}
@@ -8,7 +8,7 @@ use Rattle.tpm_types.specs.declared.rc.ResponseCode.TheVariants as code
 use Rattle.tpm_types.specs.Buffer.{buffer_at}
 use Rattle.tpm_types.specs.Rc.{plain}
 
--- the response code for a fault inside a sized buffer: running out of bytes means that the
+-- the response code for a fault inside a sized buffer: INSUFFICIENT becomes SIZE, because the
 -- buffer's size is wrong; other codes stay the same
 abbrev pub within_buffer : ResponseCode → ResponseCode
 within_buffer code.Insufficient = code.Size
@@ -18,8 +18,8 @@ abbrev pub or_size : {X : Type 0} → Result X Rc → Result X Rc
 or_size (Ok x) = Ok x
 or_size (Err fault) = Err (record fault { code = within_buffer fault.code })
 
--- the structure that fills the sized buffer at the start of a text, and the rest of the text. The
--- fault is INSUFFICIENT if the buffer is truncated, SIZE if it is shorter or longer than the
+-- the structure that fills the sized buffer at the start of a text, and the rest of the text. Fails
+-- with INSUFFICIENT if the buffer is truncated, or with SIZE if it is shorter or longer than the
 -- structure
 unfoldable pub filled_by : {X : Type 0}
     → (List ℕ → Result (X × List ℕ) Rc)

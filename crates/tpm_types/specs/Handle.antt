@@ -55,15 +55,15 @@ endorsement_handle = numbered 0x4000_000b
 abbrev pub platform_handle : Handle
 platform_handle = numbered 0x4000_000c
 
--- the meaning of a handle in an authorization entry: TPM_RS_PW, an HMAC session (02) or a policy
--- session (03)
+-- the meaning of a handle in an authorization entry: a password (TPM_RS_PW), an HMAC session (02)
+-- or policy session (03), or neither
 abbrev pub session_kind : Handle → SessionKind
 session_kind handle =
     if handle.number == password_handle.number then Password
     else (if is_session handle then Session
     else Other)
 
--- the hierarchy or lockout that a handle names, as the owner of an authorization value (Part 2:
+-- the hierarchy or lockout that a handle names, each of which has an authorization value (Part 2:
 -- TPMI_RH_HIERARCHY_AUTH)
 abbrev pub hierarchy_auth_of : Handle → Option HierarchyAuth
 hierarchy_auth_of handle =
@@ -89,7 +89,7 @@ hierarchy_of handle =
     else (if handle.number == null_handle.number then Some hierarchy.Null
     else None)))
 
--- the PCR that a handle names, if it is 0 to 23 (TPM_HT_PCR)
+-- the PCR that a handle names, if the handle is 0 to 23 (TPM_HT_PCR)
 abbrev pub pcr_of : Handle → Option ℕ
 pcr_of handle = if nat_lt handle.number 24 then Some handle.number else None
 

@@ -1,23 +1,24 @@
--- This device's limits on memory and data, which the standard leaves to the implementer. Bounds of
--- a single structure are defined with that structure.
+-- This device's limits on memory and data, which the standard leaves to the implementer. The bounds
+-- of a single structure are defined with that structure.
 use Rattle.std.specs.Prelude.{ℕ, ◌+◌, ◌*◌}
 
 -- the largest size in bytes of a command buffer and of a response
 abbrev pub buffer_limit : ℕ
 buffer_limit = 4096
 
--- the most bytes of data that one command takes or returns: MAX_NV_BUFFER_SIZE, MAX_DIGEST_BUFFER
+-- the largest size in bytes of the data that one command accepts or returns: MAX_NV_BUFFER_SIZE and
+-- MAX_DIGEST_BUFFER
 abbrev pub data_limit : ℕ
 data_limit = 1024
 
--- the largest size in bytes of a response's parameters: those of TPM2_NV_Read, a sized buffer with
--- the longest data
+-- the largest size in bytes of a response's parameters. TPM2_NV_Read returns the longest ones: a
+-- sized buffer with `data_limit` bytes
 abbrev pub answer_limit : ℕ
 answer_limit = data_limit + 2
 
 -- the largest size in bytes of a response: a header of 10 bytes, a handle, the size of the
--- parameters, the parameters, and 69 bytes for each of three entries (a nonce and an HMAC of 32
--- bytes each, their sizes, and the attributes)
+-- parameters, the parameters, and 69 bytes for each of three entries. An entry contains a nonce and
+-- an HMAC of 32 bytes each, their sizes, and the attributes
 abbrev pub response_limit : ℕ
 response_limit = 10 + 4 + 4 + answer_limit + 3 * 69
 
@@ -41,10 +42,10 @@ persistent_limit = 16
 abbrev pub nv_index_limit : ℕ
 nv_index_limit = 64
 
--- the most bytes of data that all NV indices together may contain
+-- the largest total size in bytes of the data of all NV indices
 abbrev pub nv_space_limit : ℕ
 nv_space_limit = 16384
 
--- the most bytes of data that one ordinary NV index may contain
+-- the largest size in bytes of the data of one ordinary NV index
 abbrev pub nv_data_limit : ℕ
 nv_data_limit = 2048

@@ -1,5 +1,5 @@
--- Localities 0 to 4. TPM 2.0 Library, Part 2, section 8.5 (TPMA_LOCALITY has a bit for each); the
--- device does not support extended localities (32 and above).
+-- Localities 0 to 4. TPM 2.0 Library, Part 2, section 8.5 (TPMA_LOCALITY has a bit for each of
+-- them). The device does not support extended localities (32 and above).
 use Rattle.std.specs.Prelude.{◌≡◌, ℕ, ◌≤◌, ◌<◌, Option, Some, None}
 use Rattle.tpm_types.specs.declared.locality.Locality.{Locality}
 

@@ -1,5 +1,5 @@
 -- PCRs and selections of them. TPM 2.0 Library, Part 2, sections 10.6.1 and 10.6.2: PCR n is bit n
--- mod 8 of octet n div 8. That is bit n of the octets read as one little-endian number.
+-- mod 8 of octet n div 8. This is also bit n of the little-endian number that the octets encode.
 use Rattle.std.specs.Prelude.{◌≡◌, ℕ, ◌≤◌, ◌<◌, ◌^◌, ◌==◌, bit_or, Bool}
 use Rattle.std.specs.Prelude.{List, [], ◌∷◌, ◌++◌, take, Option, Some, None}
 use Rattle.std.specs.Int.{w32, bit_at, from_le_bytes, to_le_bytes}
@@ -10,8 +10,8 @@ abbrev pub SomePcr : ℕ → Option PcrIndex → Type 0
 SomePcr number (Some pcr) = (number < 24) × (pcr ≡ number)
 SomePcr number None = 24 ≤ number
 
--- the number encoded by the three octets of a selection, extended with a zero octet to 32 bits;
--- and the octets of a number
+-- the number that the three octets of a selection encode after a zero octet extends them to 32
+-- bits, and the octets that encode a number
 abbrev pub select_of : List ℕ → ℕ
 select_of octets = from_le_bytes w32 (octets ++ 0 ∷ [])
 
@@ -21,6 +21,6 @@ select_text select = take 3 (to_le_bytes w32 select)
 abbrev pub is_selected : ℕ → ℕ → Bool
 is_selected select pcr = bit_at select pcr == 1
 
--- a selection to which one PCR was added
+-- the selection with one more PCR
 abbrev pub with_pcr : ℕ → ℕ → ℕ
 with_pcr select pcr = bit_or select (2 ^ pcr)

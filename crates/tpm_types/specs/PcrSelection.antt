@@ -28,12 +28,12 @@ selection_text banks = to_be_bytes w32 (length banks) ++ banks_text banks
 abbrev pub IsBank : BankSelection → Type 0
 IsBank bank = bank.select < 2 ^ 24
 
--- A selection that can be encoded: it names at most sixteen banks.
+-- A selection that can be encoded names at most sixteen banks.
 pub record IsSelection (banks : List BankSelection) : Type 0 where
   pub few : length banks ≤ 16
   pub each : AllByRecursion IsBank banks
 
--- ---- reading a selection, with the first fault
+-- ---- reading a selection, up to the first fault
 
 unfoldable pub bank_at : List ℕ → Result (BankSelection × List ℕ) Rc
 bank_at text = do

@@ -59,7 +59,7 @@ code_number code.ReservedBits = 0x0a1
 code_number code.BadAuth = 0x0a2
 code_number code.PolicyCc = 0x0a4
 
--- the number that a fault's handle, parameter or session adds to the number of its code
+-- the number that is added to a response code for the handle, parameter or session at fault
 abbrev pub place_number : Place → ℕ
 place_number place.Nowhere = 0
 place_number (place.Handle n) = 0x100 * n
@@ -73,10 +73,10 @@ rc_number rc = code_number rc.code + place_number rc.place
 abbrev pub plain : ResponseCode → Rc
 plain code = record { code = code; place = place.Nowhere }
 
--- the same response code, now for this handle, parameter or session
+-- the same response code, but for this handle, parameter or session
 abbrev pub at : Place → Rc → Rc
 at place rc = record rc { place = place }
 
--- the fault of the authorization entry with this number
+-- a response code for a fault in the authorization entry with this number
 abbrev pub entry_fault : ℕ → ResponseCode → Rc
 entry_fault n fault = at (place.Session n) (plain fault)

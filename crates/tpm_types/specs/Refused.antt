@@ -5,12 +5,12 @@ use Rattle.tpm_types.specs.declared.check.Check.{Check}
 use Rattle.tpm_types.specs.declared.refused.Counted.TheVariants as counted
 use Rattle.tpm_types.specs.declared.refused.Refused.{Refused}
 
--- the refusal by this check with this response code, which does not count against dictionary
--- attacks
+-- the refusal by this check with this response code, which neither counts as a failed try nor
+-- disables lockoutAuth
 abbrev pub refusal : Check → Rc → Refused
 refusal check rc = record { rc = rc; check = check; counted = counted.None }
 
--- the result of a read or of an entry's checks, in which a fault becomes a refusal by this check
+-- the result of a read or of an entry's checks, with any fault turned into a refusal by this check
 abbrev pub checked : {X : Type 0} → Check → Result X Rc → Result X Refused
 checked check (Ok x) = Ok x
 checked check (Err rc) = Err (refusal check rc)

@@ -3,7 +3,7 @@
 use Rattle.std.specs.Prelude.{ℕ, ◌==◌, not, bit_and, Bool}
 use Rattle.tpm_types.specs.declared.session_attributes.SessionAttributes.{SessionAttributes}
 
--- whether one of these bits of the attributes is set
+-- whether any of these bits of the attributes is set
 abbrev pub has_bits : ℕ → SessionAttributes → Bool
 has_bits bits attributes = not (bit_and attributes.octet bits == 0)
 
@@ -11,8 +11,7 @@ has_bits bits attributes = not (bit_and attributes.octet bits == 0)
 abbrev pub continues_session : SessionAttributes → Bool
 continues_session attributes = has_bits 0x01 attributes
 
--- whether a session is requested to be an audit session: auditExclusive (bit 1), auditReset (2) or
--- audit (7)
+-- whether the client requests an audit session: auditExclusive (bit 1), auditReset (2) or audit (7)
 abbrev pub audits : SessionAttributes → Bool
 audits attributes = has_bits 0x86 attributes
 

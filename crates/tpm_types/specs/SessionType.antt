@@ -27,7 +27,8 @@ type_byte Hmac = 0x02
 type_byte Policy = 0x03
 type_byte Trial = 0x03
 
--- whether a session is a trial session, which computes a policy digest and authorizes nothing
+-- whether sessions of this type are trial sessions, which compute a policy digest and authorize
+-- nothing
 abbrev pub is_trial : SessionType → Bool
 is_trial Hmac = false
 is_trial Policy = false

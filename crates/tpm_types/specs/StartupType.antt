@@ -1,4 +1,4 @@
--- The types of startup: with or without the state that a shutdown saved. TPM 2.0 Library, Part 2,
+-- The types of startup: with or without the state that the shutdown saved. TPM 2.0 Library, Part 2,
 -- section 6.10 (TPM_SU).
 use Rattle.std.specs.Prelude.{ℕ, ◌==◌, List, if◌then◌else◌, Option, Some, None, Result, Ok, ok_or}
 use Rattle.std.specs.Int.{w16}

@@ -1,8 +1,8 @@
-//! A command's own checks, numbered by their order in the command's section of Part 3.
+//! A command's own checks, numbered in the order of the command's section of Part 3.
 
 ghost use Rattle.std.specs.Prelude.{◌≡◌};
 
-/// One of a command's own checks, numbered by its order in the command's section.
+/// One of a command's own checks. Its number is its position in the command's section.
 #[derive(Clone, Copy, PartialEq, Eq)]
 pub enum ActionCheck {
     First = 1,
@@ -24,7 +24,7 @@ impl ActionCheck {
         self as u8
     }
 
-    /// The check with this number, or the seventh if no check has it.
+    /// The check with this number, or the seventh check if there is none.
     pub fn named(number: u8) -> ActionCheck
         ensures { result ≡ action_named number }
     {

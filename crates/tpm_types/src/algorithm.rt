@@ -1,5 +1,5 @@
-//! The numbers of hash algorithms on the wire, and the readers of an algorithm, with NULL allowed
-//! or not (TPM_ALG_ID; TPM 2.0 Library, Part 2, section 6.3).
+//! Encodes and reads the identifiers of hash algorithms, with or without NULL (TPM_ALG_ID; TPM 2.0
+//! Library, Part 2, section 6.3).
 
 ghost use Rattle.std.specs.Prelude.{◌≡◌};
 ghost use Rattle.tpm_bytes.specs.Reading.{Reads};
@@ -10,10 +10,10 @@ use crate::rc::{Rc, ResponseCode};
 use tpm_bytes::Cursor;
 use tpm_mac::HashAlg;
 
-/// The wire number of NULL as an algorithm: TPM_ALG_NULL.
+/// The wire number of the algorithm NULL: TPM_ALG_NULL.
 const NULL: u16 = 0x0010;
 
-/// The wire number of a hash algorithm: TPM_ALG_ID of TPM 2.0 Library, Part 2, section 6.3.
+/// The wire number of a hash algorithm: TPM_ALG_ID (Part 2, section 6.3).
 pub fn hash_number(algorithm: HashAlg) -> u16
     ensures { result ≡ hash_number algorithm }
 {
@@ -23,8 +23,8 @@ pub fn hash_number(algorithm: HashAlg) -> u16
     }
 }
 
-/// Whether an authPolicy of this size is allowed with this nameAlg: it must be empty or have the
-/// size of the digest.
+/// Whether an authPolicy of this size is allowed with this nameAlg: it must be empty, or have the
+/// size of a digest of nameAlg.
 pub fn is_policy_size(name_alg: HashAlg, size: usize) -> bool
     ensures { result ≡ is_policy_size name_alg size }
 {
@@ -42,8 +42,8 @@ pub fn hash_named(number: u16) -> Option<HashAlg>
     }
 }
 
-/// Reads a hash algorithm (TPMI_ALG_HASH, Part 2, section 9). The fault is INSUFFICIENT if it is
-/// truncated, HASH if it is not supported.
+/// Reads a hash algorithm (TPMI_ALG_HASH, Part 2, section 9). Fails with INSUFFICIENT if it is
+/// truncated, or with HASH if it is not supported.
 #[tactic(auto, unfolding(crate::specs::Algorithm::hash_at))]
 pub fn read_hash(text: &mut Cursor) -> Result<HashAlg, Rc>
     ensures { Reads (λ algorithm. algorithm) (hash_at text.old) text.old result text.new }
@@ -69,7 +69,7 @@ pub fn hash_or_null_number(algorithm: Option<HashAlg>) -> u16
     }
 }
 
-/// The hash algorithm with this number, or `Some(None)` for the number of NULL; None if the
+/// The hash algorithm with this number, or `Some(None)` if it is the number of NULL, or None if the
 /// algorithm is not supported.
 pub fn hash_or_null_named(number: u16) -> Option<Option<HashAlg>>
     ensures { result ≡ hash_or_null_named number }
@@ -81,8 +81,8 @@ pub fn hash_or_null_named(number: u16) -> Option<Option<HashAlg>>
     }
 }
 
-/// Reads a hash algorithm or NULL (TPMI_ALG_HASH+, Part 2, section 9). The fault is INSUFFICIENT
-/// if it is truncated, HASH if it is neither NULL nor a supported algorithm.
+/// Reads a hash algorithm or NULL (TPMI_ALG_HASH+, Part 2, section 9). Fails with INSUFFICIENT if
+/// it is truncated, or with HASH if it is neither NULL nor a supported algorithm.
 #[tactic(auto, unfolding(crate::specs::Algorithm::hash_or_null_at))]
 pub fn read_hash_or_null(text: &mut Cursor) -> Result<Option<HashAlg>, Rc>
     ensures { Reads (λ algorithm. algorithm) (hash_or_null_at text.old) text.old result text.new }

@@ -8,8 +8,8 @@ ghost use Rattle.tpm_types.specs.AttributeBits.{attribute_bits_at};
 use crate::rc::{Rc, ResponseCode};
 use tpm_bytes::Cursor;
 
-/// Reads attributes. The fault is INSUFFICIENT if they are truncated, RESERVED_BITS if one of the
-/// `reserved` bits is set.
+/// Reads attributes. Fails with INSUFFICIENT if they are truncated, or with RESERVED_BITS if any of
+/// the `reserved` bits is set.
 #[tactic(auto, unfolding(crate::specs::AttributeBits::attribute_bits_at))]
 pub fn read_attribute_bits(text: &mut Cursor, reserved: u32) -> Result<u32, Rc>
     ensures exact { Reads (λ bits. bits) (attribute_bits_at reserved text.old) text.old

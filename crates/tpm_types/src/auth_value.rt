@@ -12,8 +12,8 @@ use arrayvec::ArrayVec;
 use std::marker::Model;
 use tpm_bytes::{Cursor, copied};
 
-/// An authorization value: at most 32 bytes, without trailing zeros (TPM2B_AUTH of TPM 2.0
-/// Library, Part 2, section 10.4.5, and Part 1, section 19.6.4.3). In contracts it is its bytes.
+/// An authorization value: at most 32 bytes, without trailing zeros (TPM2B_AUTH, Part 2, section
+/// 10.4.5, and Part 1, section 19.6.4.3). Contracts represent it by its bytes.
 #[derive(Drop)]
 pub struct AuthValue {
     bytes: ArrayVec<u8, 32>,
@@ -30,7 +30,7 @@ impl Model for AuthValue {
     ghost invariant = { λ a. trimmed a.bytes.items ≡ a.bytes.items };
 }
 
-/// The bytes without trailing zeros.
+/// Returns the bytes without trailing zeros.
 pub fn trimmed(bytes: &[u8]) -> &[u8]
     ensures value { result.now ≡ trimmed bytes.now }
     ensures within { length result.now ≤ length bytes.now }
@@ -63,8 +63,8 @@ impl AuthValue {
         }
     }
 
-    /// Reads an authorization value, a sized buffer. The fault is SIZE if its size is over 32
-    /// bytes, else INSUFFICIENT if it is truncated.
+    /// Reads an authorization value from a sized buffer. Fails with SIZE if its size is over 32
+    /// bytes, or else with INSUFFICIENT if it is truncated.
     #[tactic(auto, unfolding(crate::specs::AuthValue::auth_value_at))]
     pub fn read(text: &mut Cursor) -> Result<AuthValue, Rc>
         ensures { Reads (λ value. value) (auth_value_at text.old) text.old result text.new }
@@ -90,7 +90,7 @@ impl AuthValue {
         }
     }
 
-    /// Whether the value consists of these bytes.
+    /// Whether the value consists of exactly these bytes.
     pub fn is_same(&self, bytes: &[u8]) -> bool
         ensures { result ≡ bytes_eq self.now bytes.now }
     {

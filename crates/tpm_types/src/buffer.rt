@@ -8,11 +8,11 @@ ghost use Rattle.tpm_types.specs.Buffer.{buffer_at};
 use crate::rc::{Rc, ResponseCode};
 use tpm_bytes::{Cursor, SizedFault};
 
-/// The largest size in bytes of a digest, and therefore of a nonce or an HMAC.
+/// The largest size in bytes of a digest, and therefore of a nonce and of an HMAC.
 pub const DIGEST_LIMIT: usize = 32;
 
 /// Reads a sized buffer of at most `limit` bytes (TPM2B of TPM 2.0 Library, Part 2, section 10.4).
-/// The fault is SIZE if its size is over the limit, else INSUFFICIENT if it is truncated.
+/// Fails with SIZE if its size is over the limit, or else with INSUFFICIENT if it is truncated.
 pub fn read_buffer<'a>(text: &mut Cursor<'a>, limit: usize) -> Result<&'a [u8], Rc>
     ensures exact { Reads (λ buffer. buffer.now) (buffer_at limit text.old) text.old
         result text.new }

@@ -1,12 +1,11 @@
-//! The check that refused a command: one of the general checks, one of the command's own, or the
-//! check for memory. The row of an event reports the check's number.
+//! The checks that can refuse a command. The row of an event reports the number of the check.
 
 ghost use Rattle.std.specs.Prelude.{◌≡◌};
 
 use crate::action_check::ActionCheck;
 
-/// The check that refused a command: one of G1 to G11, which every command has; one of A1 to A7,
-/// the command's own; or M. A row reports its number.
+/// The check that refused a command: one of G1 to G11, which apply to every command; one of A1 to
+/// A7, which are the command's own; or M. A row reports its number.
 #[derive(Clone, Copy, PartialEq, Eq)]
 pub enum Check {
     /// G1: the buffer is shorter than a header, or longer than the limit.
@@ -20,7 +19,8 @@ pub enum Check {
     /// G5: the device is not started and the command is not TPM2_Startup, or the device is started
     /// and the command is TPM2_Startup.
     Started,
-    /// G6: a handle is truncated, has a type that the command does not accept, or names nothing.
+    /// G6: a handle is truncated, has a type that the command does not accept, or names nothing
+    /// that exists.
     Handles,
     /// G7: the command has sessions but allows none, or has no sessions but a handle needs
     /// authorization.
@@ -29,7 +29,7 @@ pub enum Check {
     Entries,
     /// G9: the authorization of one of the command's handles fails.
     Authorization,
-    /// G10: one of the other entries fails, or the first parameter cannot be decrypted.
+    /// G10: an entry that authorizes no handle fails, or the first parameter cannot be decrypted.
     Others,
     /// G11: a parameter has a fault, or bytes follow the last parameter.
     Parameters,

@@ -12,13 +12,13 @@ use arrayvec::ArrayVec;
 use tpm_bytes::{Cursor, Full, Readable, Sink, append, read_many};
 use tpm_mac::Digest;
 
-/// The fewest digests that a list may contain when it is read.
+/// The smallest number of digests in a list that can be read.
 pub const FEWEST_DIGESTS: u32 = 2;
 
-/// The most digests that a list may contain when it is read.
+/// The largest number of digests in a list that can be read.
 pub const DIGEST_LIST_LIMIT: u32 = 8;
 
-/// One digest of a list, borrowed from the input.
+/// A digest of a list, borrowed from the input.
 #[derive(Drop)]
 struct ListedDigest<'a> {
     bytes: &'a [u8],
@@ -46,7 +46,7 @@ impl<'a> Readable<'a> for ListedDigest<'a> {
     }
 }
 
-/// Up to eight digests: TPML_DIGEST of TPM 2.0 Library, Part 2, section 10.9.5.
+/// Up to eight digests: TPML_DIGEST (Part 2, section 10.9.5).
 #[derive(Drop)]
 pub struct DigestList {
     pub digests: ArrayVec<Digest, 8>,
@@ -55,8 +55,8 @@ pub struct DigestList {
 impl DigestList {
     ghost use Rattle.tpm_types.specs.DigestList.{IsDigestList, digest_list_at, digest_list_text, digests_of};
 
-    /// Reads a list of two to eight digests. The fault is INSUFFICIENT if the list is truncated,
-    /// SIZE if it has fewer than two or more than eight digests, or else the first fault of a
+    /// Reads a list of two to eight digests. Fails with INSUFFICIENT if the list is truncated, with
+    /// SIZE if it has fewer than two or more than eight digests, or else with the first fault of a
     /// digest.
     pub fn read(text: &mut Cursor) -> Result<DigestList, Rc>
         // The result is the decoded digests, or the first fault.
@@ -94,8 +94,8 @@ impl DigestList {
         })
     }
 
-    /// Appends the list, at most 276 bytes. If it does not fit, writes nothing and returns an
-    /// error.
+    /// Appends the encoded list, at most 276 bytes. If it does not fit, writes nothing and returns
+    /// an error.
     pub fn write<const N: usize>(&self, sink: &mut Sink<N>) -> Result<(), Full>
         ensures written { Puts N (digest_list_text (digests_of self.now.digests.items))
             sink.old result sink.new }
@@ -105,8 +105,8 @@ impl DigestList {
         sink.put(text.as_slice())
     }
 
-    /// The encoding of the list, in a buffer with space for the longest: four bytes, and eight
-    /// digests of 2 + 32 bytes.
+    /// The encoding of the list, in a buffer for the longest list: four bytes, and eight digests of
+    /// 2 + 32 bytes.
     fn text(&self) -> Sink<276>
         ensures { result ≡ digest_list_text (digests_of self.now.digests.items) }
     {
@@ -115,7 +115,7 @@ impl DigestList {
         text
     }
 
-    /// Appends the list. The sink must have room for the longest list, 276 bytes.
+    /// Appends the encoded list. The sink must have room for the longest one, 276 bytes.
     pub fn append_to<const N: usize>(&self, sink: &mut Sink<N>)
         requires { length sink.old + 276 ≤ N }
         ensures written { sink.new

@@ -1,4 +1,4 @@
-//! Reads and writes digests tagged with their hash algorithm, singly (TPMT_HA) and in lists
+//! Reads and writes digests with their hash algorithm, singly (TPMT_HA) and in lists
 //! (TPML_DIGEST_VALUES; TPM 2.0 Library, Part 2, sections 10.3.2 and 10.9.6).
 
 ghost use Rattle.std.specs.Prelude.{◌≡◌, ◌+◌, ◌*◌, ◌≤◌, ℕ, List, ◌++◌, length, replicate, Ok, IfOk};
@@ -14,10 +14,10 @@ use arrayvec::ArrayVec;
 use tpm_bytes::{Cursor, Full, Readable, Sink, read_many};
 use tpm_mac::HashAlg;
 
-/// The most digests that a list may contain: one for each hash algorithm.
+/// The largest number of digests in a list: one for each hash algorithm.
 pub const DIGEST_VALUES_LIMIT: u32 = 2;
 
-/// A digest and its hash algorithm: TPMT_HA of TPM 2.0 Library, Part 2, section 10.3.2.
+/// A digest and its hash algorithm: TPMT_HA (Part 2, section 10.3.2).
 #[derive(Clone, Copy, PartialEq, Eq)]
 pub enum DigestValue {
     Sha1([u8; 20]),
@@ -32,7 +32,7 @@ impl Default for DigestValue {
     }
 }
 
-/// Up to two digests and their hash algorithms: TPML_DIGEST_VALUES (Part 2, section 10.9.6).
+/// Up to two digests, each with its hash algorithm: TPML_DIGEST_VALUES (Part 2, section 10.9.6).
 #[derive(Drop)]
 pub struct DigestValues {
     pub values: ArrayVec<DigestValue, 2>,
@@ -60,8 +60,8 @@ impl DigestValue {
         }
     }
 
-    /// Reads a digest. The fault is INSUFFICIENT if it is truncated, HASH if its algorithm is not
-    /// supported.
+    /// Reads a digest. Fails with INSUFFICIENT if it is truncated, or with HASH if its algorithm is
+    /// not supported.
     #[tactic(auto, unfolding(crate::specs::DigestValues::digest_value_at))]
     pub fn read(text: &mut Cursor) -> Result<DigestValue, Rc>
         ensures { Reads (λ value. value) (digest_value_at text.old) text.old result text.new }
@@ -75,8 +75,8 @@ impl DigestValue {
         Ok(value)
     }
 
-    /// Appends the digest, at most 34 bytes. If it does not fit, writes nothing and returns an
-    /// error.
+    /// Appends the encoded digest, at most 34 bytes. If it does not fit, writes nothing and returns
+    /// an error.
     #[tactic(auto, unfolding(crate::specs::DigestValues::digest_value_text))]
     pub fn write<const N: usize>(&self, sink: &mut Sink<N>) -> Result<(), Full>
         ensures written { Puts N (digest_value_text self.now) sink.old result sink.new }
@@ -87,7 +87,7 @@ impl DigestValue {
         sink.put(text.as_slice())
     }
 
-    /// Appends the digest. The sink must have room for the longest digest, 34 bytes.
+    /// Appends the encoded digest. The sink must have room for the longest one, 34 bytes.
     #[tactic(auto, unfolding(crate::specs::DigestValues::digest_value_text))]
     pub fn append_to<const N: usize>(&self, sink: &mut Sink<N>)
         requires { length sink.old + 34 ≤ N }
@@ -115,7 +115,7 @@ impl<'a> Readable<'a> for DigestValue {
 
 ghost use Rattle.tpm_types.specs.DigestValues.{octets_at};
 
-/// Reads the next `N` bytes. The fault is INSUFFICIENT if fewer are left.
+/// Reads the next `N` bytes. Fails with INSUFFICIENT if fewer are left.
 fn read_octets<const N: usize>(text: &mut Cursor) -> Result<[u8; N], Rc>
     ensures { Reads (λ octets. octets) (octets_at N text.old) text.old result text.new }
 {
@@ -128,8 +128,8 @@ fn read_octets<const N: usize>(text: &mut Cursor) -> Result<[u8; N], Rc>
 }
 
 impl DigestValues {
-    /// Reads a list of digests. The fault is INSUFFICIENT if it is truncated, SIZE if it has more
-    /// than two digests, or else the first fault of a digest.
+    /// Reads a list of digests. Fails with INSUFFICIENT if it is truncated, with SIZE if it has
+    /// more than two digests, or else with the first fault of a digest.
     pub fn read(text: &mut Cursor) -> Result<DigestValues, Rc>
         // The result is the decoded digests, or the first fault.
         ensures exact { Reads (λ digests. digests.values.items) (digest_values_at text.old)
@@ -163,8 +163,8 @@ impl DigestValues {
         Ok(DigestValues { values })
     }
 
-    /// Appends the list, at most 72 bytes. If it does not fit, writes nothing and returns an
-    /// error.
+    /// Appends the encoded list, at most 72 bytes. If it does not fit, writes nothing and returns
+    /// an error.
     pub fn write<const N: usize>(&self, sink: &mut Sink<N>) -> Result<(), Full>
         ensures written { Puts N (digest_values_text self.now.values.items)
             sink.old result sink.new }
@@ -174,8 +174,8 @@ impl DigestValues {
         sink.put(text.as_slice())
     }
 
-    /// The encoding of the list, in a buffer with space for the longest: four bytes, and two
-    /// digests of 2 + 32 bytes.
+    /// The encoding of the list, in a buffer for the longest list: four bytes, and two digests of 2
+    /// + 32 bytes.
     fn text(&self) -> Sink<72>
         ensures { result ≡ digest_values_text self.now.values.items }
     {
@@ -184,7 +184,7 @@ impl DigestValues {
         text
     }
 
-    /// Appends the list. The sink must have room for the longest list, 72 bytes.
+    /// Appends the encoded list. The sink must have room for the longest one, 72 bytes.
     pub fn append_to<const N: usize>(&self, sink: &mut Sink<N>)
         requires { length sink.old + 72 ≤ N }
         ensures written { sink.new ≡ sink.old ++ digest_values_text self.now.values.items }

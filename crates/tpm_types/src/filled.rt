@@ -9,8 +9,7 @@ use crate::buffer::read_buffer;
 use crate::rc::{Rc, ResponseCode};
 use tpm_bytes::{Cursor, Readable};
 
-/// Maps a fault inside a sized buffer: running out of bytes becomes SIZE, and other faults stay
-/// the same.
+/// Maps a fault inside a sized buffer: INSUFFICIENT becomes SIZE, and other faults stay the same.
 fn within_buffer(fault: Rc) -> Rc
     ensures { result ≡ record fault { code = within_buffer fault.code } }
 {
@@ -23,9 +22,9 @@ fn within_buffer(fault: Rc) -> Rc
     }
 }
 
-/// Reads a structure that fills a sized buffer (TPM2B of TPM 2.0 Library, Part 2, section 10.4.1).
-/// The fault is INSUFFICIENT if the buffer is truncated, SIZE if the buffer is shorter or longer
-/// than the structure. A fault in the structure is reported before surplus bytes.
+/// Reads a structure that fills a sized buffer (TPM2B, Part 2, section 10.4.1). Fails with
+/// INSUFFICIENT if the buffer is truncated, or with SIZE if it is shorter or longer than the
+/// structure. A fault in the structure has priority over surplus bytes.
 #[tactic(auto, unfolding(crate::specs::Filled::filled_by))]
 pub fn read_filled<'a, T: Readable<'a, Fault = Rc> + Drop>(text: &mut Cursor<'a>) -> Result<T, Rc>
     ensures exact { Reads T.seen (filled_by T.at text.old) text.old result text.new }

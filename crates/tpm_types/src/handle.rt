@@ -5,14 +5,14 @@ ghost use Rattle.std.specs.Prelude.{◌≡◌};
 
 use crate::pcr::{PCR_COUNT, PcrIndex};
 
-/// The handle of an entity: TPM_HANDLE of TPM 2.0 Library, Part 2, section 7.1. Its highest byte
-/// is the type of the entity (TPM_HT, section 7.2).
+/// The handle of an entity: TPM_HANDLE (Part 2, section 7.1). Its highest byte is the type of the
+/// entity (TPM_HT, section 7.2).
 #[derive(Clone, Copy, PartialEq, Eq, Default)]
 pub struct Handle {
     pub number: u32,
 }
 
-/// The meaning of the handle of an authorization entry.
+/// The meaning of a handle in an authorization entry.
 #[derive(Clone, Copy, PartialEq, Eq)]
 pub enum SessionKind {
     /// TPM_RS_PW: a password instead of a session.
@@ -23,8 +23,8 @@ pub enum SessionKind {
     Other,
 }
 
-/// A hierarchy or lockout, whose authorization value belongs to the device itself:
-/// TPMI_RH_HIERARCHY_AUTH of Part 2.
+/// A hierarchy or lockout, each of which has an authorization value: TPMI_RH_HIERARCHY_AUTH of Part
+/// 2.
 #[derive(Clone, Copy, PartialEq, Eq)]
 pub enum HierarchyAuth {
     /// TPM_RH_OWNER: ownerAuth.

@@ -3,17 +3,17 @@
 //! The structures of TPM 2.0 Library, Part 2, that every part of the device uses: response codes,
 //! handles, algorithms, PCR selections, digests, authorization values, types of sessions, and the
 //! device's [`limits`]. Commands are in `tpm_types_command`, the areas of objects in
-//! `tpm_types_object`, those of NV indices in `tpm_types_nv`. Each structure has a type of its
-//! own, which is read from a [`tpm_bytes::cursor::Cursor`] and written to a
-//! [`tpm_bytes::sink::Sink`]. A refusal by any part of the device is a [`refused::Refused`]: the
-//! response code, the check that refused ([`check`]), and how it counts against dictionary
-//! attacks.
+//! `tpm_types_object`, and those of NV indices in `tpm_types_nv`. Each structure has its own type.
+//! Its values are read from a [`tpm_bytes::cursor::Cursor`] and written to a
+//! [`tpm_bytes::sink::Sink`]. A [`refused::Refused`] is a refusal by any part of the device: the
+//! response code, the check that failed ([`check`]), and how the refusal counts for the protection
+//! against dictionary attacks.
 //!
 //! The crate uses `tpm_bytes` for the bytes and `tpm_mac` for digests and hash algorithms. A read
-//! returns the value, or the first fault as the standard's response code for it; a read or write
-//! that fails changes nothing. Each selection of PCRs, digest with its algorithm, list of digests
-//! and symmetric definition has exactly one encoding, and nothing else decodes to it. No call here
-//! allocates memory.
+//! returns the value, or the standard's response code for the first fault. A read or write that
+//! fails changes nothing. Each selection of PCRs, digest with its algorithm, list of digests and
+//! symmetric definition has exactly one encoding, and no other bytes decode to it. No function of
+//! this crate allocates memory.
 
 pub mod action_check;
 pub mod action_fault;

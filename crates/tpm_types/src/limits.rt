@@ -1,7 +1,7 @@
-//! This device's limits on memory and data, which the standard leaves to the implementer. Sizes
-//! that follow from them, such as that of the longest image, are computed from these constants.
-//! Bounds of a single structure are defined with that structure. `specs/Limits.antt` defines the
-//! same numbers for the specification.
+//! This device's limits on memory and data, which the standard leaves to the implementer. Other
+//! sizes, such as that of the longest image, are computed from these constants. The bounds of a
+//! single structure are defined with that structure. `specs/Limits.antt` defines the same numbers
+//! for the specification.
 
 ghost use Rattle.std.specs.Prelude.{◌≡◌};
 ghost use Rattle.tpm_types.specs.Limits.{answer_limit, buffer_limit, data_limit, nv_data_limit, nv_index_limit, nv_space_limit, object_limit, persistent_limit, sensitive_limit, session_limit};
@@ -9,12 +9,12 @@ ghost use Rattle.tpm_types.specs.Limits.{answer_limit, buffer_limit, data_limit,
 /// The largest size in bytes of a command buffer and of a response.
 pub const BUFFER_LIMIT: usize = 4_096;
 
-/// The most bytes of data that one command takes or returns: MAX_NV_BUFFER_SIZE and
-/// MAX_DIGEST_BUFFER.
+/// The largest size in bytes of the data that one command accepts or returns: MAX_NV_BUFFER_SIZE
+/// and MAX_DIGEST_BUFFER.
 pub const DATA_LIMIT: usize = 1_024;
 
-/// The largest size in bytes of a response's parameters: those of TPM2_NV_Read, a sized buffer
-/// with the longest data.
+/// The largest size in bytes of a response's parameters. TPM2_NV_Read returns the longest ones: a
+/// sized buffer of `DATA_LIMIT` bytes.
 pub const ANSWER_LIMIT: usize = DATA_LIMIT + 2;
 
 /// The largest size in bytes of an object's secret: a key, or sealed data (MAX_SYM_DATA).
@@ -32,13 +32,14 @@ pub const PERSISTENT_LIMIT: usize = 16;
 /// The largest number of NV indices.
 pub const NV_INDEX_LIMIT: usize = 64;
 
-/// The most bytes of data that all NV indices together may contain.
+/// The largest total size in bytes of the data of all NV indices.
 pub const NV_SPACE_LIMIT: usize = 16_384;
 
-/// The most bytes of data that one ordinary NV index may contain.
+/// The largest size in bytes of the data of one ordinary NV index.
 pub const NV_DATA_LIMIT: usize = 2_048;
 
-/// Each constant equals its definition. A proof only: it has no effect at run time.
+/// Each constant equals its definition. This function is only a proof: it has no effect at run
+/// time.
 #[inline(always)]
 pub fn limit_laws()
     ensures buffer { BUFFER_LIMIT ≡ buffer_limit }

@@ -3,8 +3,7 @@
 
 ghost use Rattle.std.specs.Prelude.{◌≡◌, ◌≤◌};
 
-/// The locality that a command comes from, 0 to 4 (TPM 2.0 Library, Part 1, section 3, and Part 2,
-/// section 8.5).
+/// The locality that a command comes from, 0 to 4 (Part 1, section 3, and Part 2, section 8.5).
 #[derive(Clone, Copy, PartialEq, Eq)]
 pub struct Locality {
     number: u8,
@@ -14,7 +13,7 @@ pub struct Locality {
 impl Locality {
     ghost use Rattle.tpm_types.specs.Locality.{locality_number, SomeLocality};
 
-    /// The locality with this number, or None if there is none.
+    /// The locality with this number, or None if the number is over 4.
     pub fn new(number: u8) -> Option<Locality>
         ensures { SomeLocality number result }
     {

@@ -1,7 +1,6 @@
-//! How a command uses the NV index that authorizes it: to read, to write or to administer it.
-//! Whether the index's attributes allow the command depends on this use.
+//! The uses of the NV index that authorizes a command: to read, to write or to administer it.
 
-/// How a command uses the NV index that authorizes it. This determines which attributes of the
+/// How a command uses the NV index that authorizes it. This use determines which attributes of the
 /// index must allow the command (TPM 2.0 Library, Part 2, section 13.4, TPMA_NV).
 #[derive(Clone, Copy, PartialEq, Eq)]
 pub enum NvUse {
@@ -9,6 +8,6 @@ pub enum NvUse {
     Read,
     /// The command writes the index, as TPM2_NV_Write does.
     Write,
-    /// The command authorizes the index in the role ADMIN.
+    /// The index authorizes the command in the role ADMIN.
     Administer,
 }

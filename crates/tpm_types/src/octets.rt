@@ -1,4 +1,4 @@
-//! An owned copy of the bytes of a sized buffer (TPM2B). Its type determines the largest size.
+//! An owned copy of the bytes of a sized buffer (TPM2B). The type's parameter is its largest size.
 
 ghost use Rattle.std.specs.Prelude.{◌≡◌, ◌≤◌, [], length};
 ghost use Rattle.std.specs.Str.{bytes_eq};
@@ -12,7 +12,7 @@ use std::marker::Model;
 use tpm_bytes::{Cursor, copied};
 
 /// The bytes of a sized buffer, at most `N` of them (TPM2B of TPM 2.0 Library, Part 2, section
-/// 10.4). In contracts they are a list.
+/// 10.4). Contracts represent them by a list.
 #[derive(Drop)]
 pub struct Octets<const N: usize> {
     bytes: ArrayVec<u8, N>,
@@ -46,8 +46,8 @@ impl<const N: usize> Octets<N> {
         }
     }
 
-    /// Reads a sized buffer. The fault is SIZE if it is longer than `N` bytes, else INSUFFICIENT
-    /// if it is truncated.
+    /// Reads a sized buffer. Fails with SIZE if it is longer than `N` bytes, or else with
+    /// INSUFFICIENT if it is truncated.
     pub fn read(text: &mut Cursor) -> Result<Octets<N>, Rc>
         ensures { Reads (λ octets. octets) (buffer_at N text.old) text.old result text.new }
     {

@@ -1,5 +1,5 @@
-//! Comparisons of two operands, as a policy on NV data makes them (TPM_EO; TPM 2.0 Library, Part
-//! 2, section 6.8).
+//! The comparisons of two operands that TPM2_PolicyNV can make (TPM_EO; TPM 2.0 Library, Part 2,
+//! section 6.8).
 
 ghost use Rattle.std.specs.Prelude.{◌≡◌};
 ghost use Rattle.tpm_bytes.specs.Reading.{Reads};
@@ -7,7 +7,7 @@ ghost use Rattle.tpm_bytes.specs.Reading.{Reads};
 use crate::rc::{Rc, ResponseCode};
 use tpm_bytes::Cursor;
 
-/// How two operands are compared: TPM_EO of TPM 2.0 Library, Part 2, section 6.8.
+/// How two operands are compared: TPM_EO (Part 2, section 6.8).
 #[derive(Clone, Copy, PartialEq, Eq)]
 pub enum Operation {
     Equal,
@@ -70,8 +70,8 @@ impl Operation {
         })
     }
 
-    /// Reads an operation. The fault is INSUFFICIENT if it is truncated, VALUE if no operation has
-    /// its number.
+    /// Reads an operation. Fails with INSUFFICIENT if it is truncated, or with VALUE if no
+    /// operation has this number.
     #[tactic(auto, unfolding(crate::specs::Operation::operation_at))]
     pub fn read(text: &mut Cursor) -> Result<Operation, Rc>
         ensures { Reads (λ operation. operation) (operation_at text.old) text.old

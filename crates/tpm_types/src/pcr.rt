@@ -11,7 +11,7 @@ pub const PCR_COUNT: u8 = 24;
 /// The number of octets in a selection of PCRs.
 pub const SELECT_SIZE: u8 = 3;
 
-/// The number of a PCR, 0 to 23 (TPM 2.0 Library, Part 1, section 17).
+/// The number of a PCR, 0 to 23 (Part 1, section 17).
 #[derive(Clone, Copy, PartialEq, Eq)]
 pub struct PcrIndex {
     number: u8,
@@ -30,7 +30,7 @@ impl Model for PcrIndex {
 impl PcrIndex {
     ghost use Rattle.tpm_types.specs.Pcr.{SomePcr};
 
-    /// The PCR with this number, or None if there is none.
+    /// The PCR with this number, or None if the number is over 23.
     pub fn new(number: u8) -> Option<PcrIndex>
         ensures { SomePcr number result }
     {
@@ -49,8 +49,8 @@ impl PcrIndex {
     }
 }
 
-/// The selected PCRs of a bank: `pcrSelect` of TPMS_PCR_SELECTION (Part 2, section 10.6.2). In
-/// contracts it is a number whose bit n stands for PCR n.
+/// The selected PCRs of a bank: `pcrSelect` of TPMS_PCR_SELECTION (Part 2, section 10.6.2).
+/// Contracts represent it by a number whose bit n stands for PCR n.
 #[derive(Clone, Copy, PartialEq, Eq)]
 pub struct PcrSelect {
     bits: u32,
@@ -76,7 +76,7 @@ impl PcrSelect {
         PcrSelect { bits: 0 }
     }
 
-    /// The PCRs that three octets select.
+    /// The PCRs that these three octets select.
     pub fn from_octets(octets: [u8; 3]) -> PcrSelect
         ensures { result ≡ select_of octets }
     {

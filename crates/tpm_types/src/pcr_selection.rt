@@ -13,10 +13,10 @@ use arrayvec::ArrayVec;
 use tpm_bytes::{Cursor, Full, Readable, Sink, read_many};
 use tpm_mac::HashAlg;
 
-/// The most banks that a selection may name.
+/// The largest number of banks in a selection.
 pub const BANK_LIMIT: u32 = 16;
 
-/// The selected PCRs of one bank: TPMS_PCR_SELECTION (TPM 2.0 Library, Part 2, section 10.6.2).
+/// The selected PCRs of one bank: TPMS_PCR_SELECTION (Part 2, section 10.6.2).
 #[derive(Clone, Copy, PartialEq, Eq)]
 pub struct BankSelection {
     pub hash: HashAlg,
@@ -37,8 +37,8 @@ impl Default for BankSelection {
 impl BankSelection {
     ghost use Rattle.tpm_types.specs.PcrSelection.{bank_at, bank_text};
 
-    /// Reads the selection of one bank. The fault is INSUFFICIENT if it is truncated, HASH if its
-    /// algorithm is not supported, VALUE if it is not three octets long.
+    /// Reads the selection of one bank. Fails with INSUFFICIENT if it is truncated, with HASH if
+    /// its algorithm is not supported, or with VALUE if it is not three octets long.
     #[tactic(auto, unfolding(crate::specs::PcrSelection::bank_at))]
     pub fn read(text: &mut Cursor) -> Result<BankSelection, Rc>
         ensures { Reads (λ bank. bank) (bank_at text.old) text.old result text.new }
@@ -59,7 +59,8 @@ impl BankSelection {
         Ok(BankSelection { hash, select })
     }
 
-    /// Appends the selection, six bytes. If it does not fit, writes nothing and returns an error.
+    /// Appends the encoded selection, which is six bytes long. If it does not fit, writes nothing
+    /// and returns an error.
     #[tactic(auto, unfolding(crate::specs::PcrSelection::bank_text))]
     pub fn write<const N: usize>(&self, sink: &mut Sink<N>) -> Result<(), Full>
         ensures { Puts N (bank_text self.now) sink.old result sink.new }
@@ -71,7 +72,7 @@ impl BankSelection {
         Ok(())
     }
 
-    /// Appends the selection. The sink must have room for six bytes.
+    /// Appends the encoded selection. The sink must have room for six bytes.
     #[tactic(auto, unfolding(crate::specs::PcrSelection::bank_text))]
     pub fn append_to<const N: usize>(&self, sink: &mut Sink<N>)
         requires { length sink.old + 6 ≤ N }
@@ -110,8 +111,8 @@ impl PcrSelection {
     ghost use Rattle.std.specs.Prelude.{Ok};
     ghost use Rattle.tpm_types.specs.PcrSelection.{IsSelection, selection_at, selection_text};
 
-    /// Reads a selection. The fault is INSUFFICIENT if it is truncated, SIZE if it names more than
-    /// sixteen banks, or else the first fault of a bank.
+    /// Reads a selection. Fails with INSUFFICIENT if it is truncated, with SIZE if it names more
+    /// than sixteen banks, or else with the first fault of a bank.
     pub fn read(text: &mut Cursor) -> Result<PcrSelection, Rc>
         // The result is the decoded value, or the first fault.
         ensures exact { Reads (λ selection. selection.banks.items) (selection_at text.old)
@@ -146,8 +147,8 @@ impl PcrSelection {
         Ok(PcrSelection { banks })
     }
 
-    /// Appends the selection, at most 100 bytes. If it does not fit, writes nothing and returns an
-    /// error.
+    /// Appends the encoded selection, at most 100 bytes. If it does not fit, writes nothing and
+    /// returns an error.
     pub fn write<const N: usize>(&self, sink: &mut Sink<N>) -> Result<(), Full>
         ensures written { Puts N (selection_text self.now.banks.items) sink.old result sink.new }
         ensures small { length (selection_text self.now.banks.items) ≤ 100 }
@@ -160,7 +161,7 @@ impl PcrSelection {
         Ok(())
     }
 
-    /// Appends the selection. The sink must have room for the longest selection, 100 bytes.
+    /// Appends the encoded selection. The sink must have room for the longest one, 100 bytes.
     pub fn append_to<const N: usize>(&self, sink: &mut Sink<N>)
         requires { length sink.old + 100 ≤ N }
         ensures written { sink.new ≡ sink.old ++ selection_text self.now.banks.items }

@@ -1,4 +1,5 @@
-//! Reads a persistent object's handle (TPMI_DH_PERSISTENT; TPM 2.0 Library, Part 2, section 9.5).
+//! Reads the handle of a persistent object (TPMI_DH_PERSISTENT; TPM 2.0 Library, Part 2, section
+//! 9.5).
 
 ghost use Rattle.tpm_bytes.specs.Reading.{Reads};
 ghost use Rattle.tpm_types.specs.PersistentHandle.{persistent_handle_at};
@@ -7,8 +8,8 @@ use crate::handle::Handle;
 use crate::rc::{Rc, ResponseCode};
 use tpm_bytes::Cursor;
 
-/// Reads the handle of a persistent object (TPMI_DH_PERSISTENT of TPM 2.0 Library, Part 2, section
-/// 9.5). The fault is INSUFFICIENT if it is truncated, VALUE if its highest byte is not 81.
+/// Reads the handle of a persistent object (TPMI_DH_PERSISTENT, Part 2, section 9.5). Fails with
+/// INSUFFICIENT if it is truncated, or with VALUE if its highest byte is not 0x81.
 #[tactic(auto, unfolding(crate::specs::PersistentHandle::persistent_handle_at))]
 pub fn read_persistent_handle(text: &mut Cursor) -> Result<Handle, Rc>
     ensures { Reads (λ handle. handle) (persistent_handle_at text.old) text.old result text.new }

@@ -3,8 +3,8 @@
 
 ghost use Rattle.std.specs.Prelude.{◌≡◌, ◌<◌};
 
-/// A response code without the number of a handle, parameter or session: TPM_RC of TPM 2.0
-/// Library, Part 2, section 6.6.3. The names are the standard's, without `TPM_RC_`.
+/// A response code without the number of a handle, parameter or session: TPM_RC (Part 2, section
+/// 6.6.3). The names are the standard's, without `TPM_RC_`.
 #[derive(Clone, Copy, PartialEq, Eq)]
 pub enum ResponseCode {
     BadTag = 0x01e,
@@ -87,7 +87,7 @@ impl ResponseCode {
         self as u32
     }
 
-    /// The code, without the number of a handle, parameter or session.
+    /// The response code, without the number of a handle, parameter or session.
     pub fn anywhere(self) -> Rc
         ensures { result ≡ plain self }
     {
@@ -115,7 +115,7 @@ impl Rc {
         self.code.number() + place
     }
 
-    /// The same code, now for the handle with this number.
+    /// The same response code, but for the handle with this number.
     pub fn at_handle(self, number: u8) -> Rc
         ensures { result ≡ at (place.Handle number) self }
     {
@@ -125,7 +125,7 @@ impl Rc {
         }
     }
 
-    /// The same code, now for the parameter with this number.
+    /// The same response code, but for the parameter with this number.
     pub fn at_parameter(self, number: u8) -> Rc
         ensures { result ≡ at (place.Parameter number) self }
     {
@@ -135,7 +135,7 @@ impl Rc {
         }
     }
 
-    /// The same code, now for the session with this number.
+    /// The same response code, but for the session with this number.
     pub fn at_session(self, number: u8) -> Rc
         ensures { result ≡ at (place.Session number) self }
     {

@@ -1,23 +1,24 @@
-//! A refusal by any part of the device: the response code, the check that refused, and how it
-//! counts against dictionary attacks.
+//! Refusals by any part of the device, and how they count for the protection against dictionary
+//! attacks.
 
 ghost use Rattle.std.specs.Prelude.{◌≡◌};
 
 use crate::check::Check;
 use crate::rc::Rc;
 
-/// How a refusal counts against dictionary attacks (TPM 2.0 Library, Part 1, section 19.8).
+/// How a refusal counts for the protection against dictionary attacks (TPM 2.0 Library, Part 1,
+/// section 19.8).
 #[derive(Clone, Copy, PartialEq, Eq)]
 pub enum Counted {
     None,
-    /// It counts as one failed try at a protected entity.
+    /// The refusal counts as a failed authorization of a protected entity.
     Try,
-    /// It counts as a failed try at lockoutAuth, which disables lockoutAuth.
+    /// The refusal is a failed authorization with lockoutAuth, which becomes disabled.
     Lockout,
 }
 
-/// A refusal: the response code, the check that refused, and how it counts against dictionary
-/// attacks.
+/// A refusal: the response code, the check that failed, and how the refusal counts for the
+/// protection against dictionary attacks.
 #[derive(Clone, Copy, PartialEq, Eq)]
 pub struct Refused {
     pub rc: Rc,
@@ -28,7 +29,7 @@ pub struct Refused {
 impl Refused {
     ghost use Rattle.tpm_types.specs.Refused.{refusal};
 
-    /// A refusal that does not count against dictionary attacks.
+    /// A refusal that neither counts as a failed try nor disables lockoutAuth.
     pub fn by(check: Check, rc: Rc) -> Refused
         ensures { result ≡ refusal check rc }
     {

@@ -4,8 +4,7 @@
 ghost use Rattle.std.specs.Prelude.{◌≡◌};
 ghost use Rattle.tpm_types.specs.SessionAttributes.{audits, continues_session, decrypts, encrypts, has_bits, has_reserved_bits, uses_cipher};
 
-/// The attributes of a session in an authorization entry: TPMA_SESSION of TPM 2.0 Library, Part 2,
-/// section 8.4.
+/// The attributes of a session in an authorization entry: TPMA_SESSION (Part 2, section 8.4).
 #[derive(Clone, Copy, PartialEq, Eq, Default)]
 pub struct SessionAttributes {
     pub octet: u8,
@@ -25,7 +24,7 @@ const DECRYPT: u8 = 0x20;
 const ENCRYPT: u8 = 0x40;
 
 impl SessionAttributes {
-    /// Whether one of these bits is set.
+    /// Whether any of these bits is set.
     fn has_any(self, bits: u8) -> bool
         ensures { result ≡ has_bits bits self }
     {
@@ -39,7 +38,7 @@ impl SessionAttributes {
         self.has_any(CONTINUE_SESSION)
     }
 
-    /// Whether the session is requested to be an audit session.
+    /// Whether the client requests an audit session.
     pub fn audits(self) -> bool
         ensures { result ≡ audits self }
     {

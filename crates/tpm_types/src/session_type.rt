@@ -6,7 +6,7 @@ ghost use Rattle.tpm_bytes.specs.Reading.{Reads};
 use crate::rc::{Rc, ResponseCode};
 use tpm_bytes::Cursor;
 
-/// The type of a session: TPM_SE of TPM 2.0 Library, Part 2, section 6.11.
+/// The type of a session: TPM_SE (Part 2, section 6.11).
 #[derive(Clone, Copy, PartialEq, Eq)]
 pub enum SessionType {
     /// The session authorizes by an HMAC with the entity's authorization value.
@@ -43,7 +43,7 @@ impl SessionType {
         }
     }
 
-    /// The highest byte of the handles of such sessions (TPM_HT, Part 2, section 7.2).
+    /// The highest byte of the handle of a session with this type (TPM_HT, Part 2, section 7.2).
     pub fn handle_byte(self) -> u32
         ensures { result ≡ type_byte self }
     {
@@ -53,7 +53,8 @@ impl SessionType {
         }
     }
 
-    /// Whether it is a trial session, which computes a policy digest and authorizes nothing.
+    /// Whether this is the type of a trial session, which computes a policy digest and authorizes
+    /// nothing.
     pub fn is_trial(self) -> bool
         ensures { result ≡ is_trial self }
     {
@@ -63,8 +64,8 @@ impl SessionType {
         }
     }
 
-    /// Reads a session type. The fault is INSUFFICIENT if it is truncated, VALUE if no type has
-    /// its number.
+    /// Reads a session type. Fails with INSUFFICIENT if it is truncated, or with VALUE if no type
+    /// has this number.
     #[tactic(auto, unfolding(crate::specs::SessionType::session_type_at))]
     pub fn read(text: &mut Cursor) -> Result<SessionType, Rc>
         ensures { Reads (λ kind. kind) (session_type_at text.old) text.old result text.new }

@@ -6,8 +6,7 @@ ghost use Rattle.tpm_bytes.specs.Reading.{Reads};
 use crate::rc::{Rc, ResponseCode};
 use tpm_bytes::Cursor;
 
-/// Whether the device starts from the saved state: TPM_SU of TPM 2.0 Library, Part 2, section
-/// 6.10.
+/// Whether the device starts from the saved state: TPM_SU (Part 2, section 6.10).
 #[derive(Clone, Copy, PartialEq, Eq)]
 pub enum StartupType {
     Clear,
@@ -17,8 +16,8 @@ pub enum StartupType {
 impl StartupType {
     ghost use Rattle.tpm_types.specs.StartupType.{startup_type_at};
 
-    /// Reads a startup type. The fault is INSUFFICIENT if it is truncated, VALUE if it is neither
-    /// CLEAR nor STATE.
+    /// Reads a startup type. Fails with INSUFFICIENT if it is truncated, or with VALUE if it is
+    /// neither CLEAR nor STATE.
     #[tactic(auto, unfolding(crate::specs::StartupType::startup_type_at))]
     pub fn read(text: &mut Cursor) -> Result<StartupType, Rc>
         ensures { Reads (λ kind. kind) (startup_type_at text.old) text.old result text.new }

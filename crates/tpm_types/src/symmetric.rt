@@ -10,7 +10,7 @@ use crate::rc::{Rc, ResponseCode};
 use tpm_bytes::{Cursor, Full, Sink};
 use tpm_mac::HashAlg;
 
-/// How a session encrypts parameters: TPMT_SYM_DEF of TPM 2.0 Library, Part 2, section 11.1.6.
+/// How a session encrypts parameters: TPMT_SYM_DEF (Part 2, section 11.1.6).
 #[derive(Clone, Copy, PartialEq, Eq)]
 pub enum SymmetricDefinition {
     /// Parameters are not encrypted.
@@ -25,9 +25,9 @@ impl SymmetricDefinition {
     ghost use Rattle.tpm_types.specs.Symmetric.{aes_at, cipher_at, symmetric_at, symmetric_text, xor_at};
     ghost use Rattle.tpm_types.specs.declared.symmetric.SymmetricDefinition.{SymmetricDefinition};
 
-    /// Reads a symmetric definition. The fault is INSUFFICIENT if it is truncated; SYMMETRIC if
-    /// the algorithm is not NULL, AES or XOR; VALUE if the key is not 128 bits long; MODE if the
-    /// mode is not CFB; and HASH if the hash is not supported.
+    /// Reads a symmetric definition. Fails with INSUFFICIENT if it is truncated; with SYMMETRIC if
+    /// the algorithm is not NULL, AES or XOR; with VALUE if the key is not 128 bits long; with MODE
+    /// if the mode is not CFB; and with HASH if the hash is not supported.
     pub fn read(text: &mut Cursor) -> Result<SymmetricDefinition, Rc>
         // The result is the decoded definition, or the first fault.
         ensures exact { Reads (λ definition. definition) (symmetric_at text.old) text.old
@@ -63,7 +63,7 @@ impl SymmetricDefinition {
         Ok(definition)
     }
 
-    /// Reads the fields after the algorithm number of AES in a symmetric definition.
+    /// Reads the fields that follow the algorithm number of AES in a symmetric definition.
     #[tactic(auto, unfolding(crate::specs::Symmetric::aes_at))]
     fn read_aes(text: &mut Cursor) -> Result<SymmetricDefinition, Rc>
         ensures { Reads (λ definition. definition) (aes_at text.old) text.old result text.new }
@@ -85,7 +85,7 @@ impl SymmetricDefinition {
         Ok(SymmetricDefinition::Aes128Cfb)
     }
 
-    /// Reads the field after the algorithm number of XOR in a symmetric definition.
+    /// Reads the field that follows the algorithm number of XOR in a symmetric definition.
     #[tactic(auto, unfolding(crate::specs::Symmetric::xor_at))]
     fn read_xor(text: &mut Cursor) -> Result<SymmetricDefinition, Rc>
         ensures { Reads (λ definition. definition) (xor_at text.old) text.old result text.new }
@@ -93,9 +93,9 @@ impl SymmetricDefinition {
         Ok(SymmetricDefinition::Xor(read_hash(text)?))
     }
 
-    /// Reads the definition of a cipher, which must be AES. The fault is INSUFFICIENT if it is
-    /// truncated; SYMMETRIC if the algorithm is not AES; VALUE if the key is not 128 bits long;
-    /// and MODE if the mode is not CFB.
+    /// Reads the definition of a cipher, which must be AES. Fails with INSUFFICIENT if it is
+    /// truncated; with SYMMETRIC if the algorithm is not AES; with VALUE if the key is not 128 bits
+    /// long; and with MODE if the mode is not CFB.
     #[tactic(auto, unfolding(crate::specs::Symmetric::cipher_at))]
     pub fn read_cipher(text: &mut Cursor) -> Result<SymmetricDefinition, Rc>
         ensures { Reads (λ definition. definition) (cipher_at text.old) text.old result text.new }
@@ -112,15 +112,15 @@ impl SymmetricDefinition {
         Ok(cipher)
     }
 
-    /// Appends the definition, which is two, four or six bytes long. If it does not fit, writes
-    /// nothing and returns an error.
+    /// Appends the encoded definition, which is two, four or six bytes long. If it does not fit,
+    /// writes nothing and returns an error.
     pub fn write<const N: usize>(&self, sink: &mut Sink<N>) -> Result<(), Full>
         ensures { Puts N (symmetric_text self.now) sink.old result sink.new }
     {
         sink.put(self.text())
     }
 
-    /// Appends the definition. The sink must have room for the longest definition, six bytes.
+    /// Appends the encoded definition. The sink must have room for the longest one, six bytes.
     pub fn append_to<const N: usize>(&self, sink: &mut Sink<N>)
         requires { length sink.old + 6 ≤ N }
         ensures written { sink.new ≡ sink.old ++ symmetric_text self.now }

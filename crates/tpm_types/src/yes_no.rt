@@ -1,4 +1,4 @@
-//! Reads a yes or a no (TPMI_YES_NO; TPM 2.0 Library, Part 2, section 9.2).
+//! Reads a yes-or-no value (TPMI_YES_NO; TPM 2.0 Library, Part 2, section 9.2).
 
 ghost use Rattle.tpm_bytes.specs.Reading.{Reads};
 ghost use Rattle.tpm_types.specs.YesNo.{yes_no_at};
@@ -6,8 +6,8 @@ ghost use Rattle.tpm_types.specs.YesNo.{yes_no_at};
 use crate::rc::{Rc, ResponseCode};
 use tpm_bytes::Cursor;
 
-/// Reads a yes or a no (TPMI_YES_NO of TPM 2.0 Library, Part 2, section 9.2). The fault is
-/// INSUFFICIENT if it is truncated, VALUE if it is neither 0 nor 1.
+/// Reads a yes-or-no value (TPMI_YES_NO, Part 2, section 9.2). Fails with INSUFFICIENT if it is
+/// truncated, or with VALUE if it is neither 0 nor 1.
 #[tactic(auto, unfolding(crate::specs::YesNo::yes_no_at))]
 pub fn read_yes_no(text: &mut Cursor) -> Result<bool, Rc>
     ensures { Reads (λ is_yes. is_yes) (yes_no_at text.old) text.old result text.new }

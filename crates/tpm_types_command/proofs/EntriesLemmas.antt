@@ -1,4 +1,4 @@
--- One loop reads the entries of an authorization area in order, and another one writes them.
+-- One loop reads the entries of an authorization area in order, and another loop writes them.
 use Rattle.std.proofs.Common.{◌≡◌, ℕ, zero, suc, ◌+◌, ◌*◌, List, [], ◌∷◌, ◌++◌, ◌<◌, ◌≤◌, length, arith, map, take, get_or, append-nil, Result, Ok, Err, refl, ap, sym, subst, ◌∙◌, append_assoc, length-append}
 use Rattle.std.proofs.lemmas.List.{take_more}
 use Rattle.std.proofs.lemmas.List.Folds.{flat_map-map}
@@ -13,7 +13,7 @@ use Rattle.tpm_types.specs.declared.rc.Rc.{Rc}
 use Rattle.tpm_types.specs.declared.rc.ResponseCode.TheVariants as code
 use Rattle.tpm_types.specs.Rc.{plain}
 
--- the result of a read, prefixed with the entries read before it
+-- the result of a read, with the previously read entries prepended
 abbrev pub behind : List Entry → Result (List Entry) Rc → Result (List Entry) Rc
 behind front read = do
   entries ← read
@@ -23,8 +23,8 @@ moved : (front : List Entry) (x : Entry) (read : Result (List Entry) Rc) → beh
 moved front x (Err e) = refl
 moved front x (Ok y) = ap Ok (append_assoc front (x ∷ []) y)
 
--- If one more entry is read, the entries so far, followed by the remaining ones, are still all the
--- entries.
+-- After one more entry is read, the entries read so far, followed by those in the remaining bytes,
+-- are still the same.
 pub entry_more : (front : List Entry) (m n : ℕ) (x : Entry) (left rest : List ℕ) → m ≡ suc n → 0 < length left → entry_at left ≡ Ok (x, rest) → behind (front ++ x ∷ []) (entries_in n rest) ≡ behind front (entries_in m left)
 entry_more front m n x [] rest e some is = absurd (omega arith)
 entry_more front m n x (byte ∷ bytes) rest e some is =
@@ -32,37 +32,37 @@ entry_more front m n x (byte ∷ bytes) rest e some is =
     ∙ ap (λ (r : Result (Entry × List ℕ) Rc). behind front (r >>= λ first. entries_in n first.1 >>= λ others. Ok (first.0 ∷ others))) (sym is)
     ∙ ap (λ k. behind front (entries_in k (byte ∷ bytes))) (sym e)
 
--- If an entry cannot be read, the whole read fails with that entry's fault.
+-- If an entry cannot be read, the read of all entries fails with the fault of that entry.
 pub entry_refused : (front : List Entry) (m n : ℕ) (fault : Rc) (left : List ℕ) → m ≡ suc n → 0 < length left → entry_at left ≡ Err fault → behind front (entries_in m left) ≡ Err fault
 entry_refused front m n fault [] e some is = absurd (omega arith)
 entry_refused front m n fault (byte ∷ bytes) e some is =
     ap (λ k. behind front (entries_in k (byte ∷ bytes))) e
     ∙ ap (λ (r : Result (Entry × List ℕ) Rc). behind front (r >>= λ first. entries_in n first.1 >>= λ others. Ok (first.0 ∷ others))) is
 
--- if no bytes are left, there are no more entries, no matter how many would be allowed
+-- if no bytes are left, there are no more entries, even if more would be allowed
 pub no_entry_left : (front : List Entry) (most : ℕ) (left : List ℕ) → length left ≡ 0 → behind front (entries_in most left) ≡ Ok front
 no_entry_left front zero [] none = ap Ok (append-nil front)
 no_entry_left front (suc most) [] none = ap Ok (append-nil front)
 no_entry_left front most (byte ∷ bytes) none = absurd (omega arith)
 
--- a fourth entry is refused
+-- if no more entries are allowed but bytes are left, the read fails with AUTHSIZE
 pub entry_too_many : (front : List Entry) (most : ℕ) (left : List ℕ) → most ≡ 0 → 0 < length left → behind front (entries_in most left) ≡ Err (plain code.Authsize)
 entry_too_many front most [] e some = absurd (omega arith)
 entry_too_many front most (byte ∷ bytes) e some = ap (λ k. behind front (entries_in k (byte ∷ bytes))) e
 
--- ---- entries, written one after another
+-- ---- writing entries one after another
 
 abbrev pub text_in : AuthEntry → List ℕ
 text_in entry = auth_entry_text (entry_of entry)
 
--- the default entry for an index past the last one
+-- the entry that a lookup returns for an index past the last entry
 abbrev pub no_entry : AuthEntry
 no_entry = record { session = record { number = 0 }; nonce = record { ref_ptr = (0, 0); now = [] }; attributes = record { octet = 0 }; hmac = record { ref_ptr = (0, 0); now = [] } }
 
 pub entries_text-is : (entries : List AuthEntry) → entries_text (map entry_of entries) ≡ flat_map text_in entries
 entries_text-is entries = flat_map-map auth_entry_text entry_of entries
 
--- if the sizes of all entries fit, those of each entry fit
+-- if the sizes of all entries fit in their fields, so do those of the entry at each index
 pub sizes_at : (entries : List AuthEntry) (i : ℕ) (d : AuthEntry) → AllByRecursion HasSizes (map entry_of entries) → i < length entries → HasSizes (entry_of (get_or entries i d))
 sizes_at [] i d all below = absurd (omega arith)
 sizes_at (entry ∷ entries) zero d all below = all.0
@@ -72,7 +72,8 @@ sizes_push : (entries : List AuthEntry) (entry : AuthEntry) → AllByRecursion H
 sizes_push [] entry all one = (one, tt)
 sizes_push (first ∷ entries) entry all one = (all.0, sizes_push entries entry all.1 one)
 
--- If the sizes of one more entry fit, its length is added to the total.
+-- If the sizes of the previous entries and of the next one fit in their fields, so do the sizes of
+-- all these entries.
 pub sizes_more : (entries : List AuthEntry) (i : ℕ) (d : AuthEntry) → i < length entries → AllByRecursion HasSizes (map entry_of (take i entries)) → HasSizes (entry_of (get_or entries i d)) → AllByRecursion HasSizes (map entry_of (take (i + 1) entries))
 sizes_more entries i d below all one = subst (λ (l : List AuthEntry). AllByRecursion HasSizes (map entry_of l)) (sym (take_more entries i d below)) (sizes_push (take i entries) (get_or entries i d) all one)
 

@@ -1,4 +1,4 @@
--- A read returns an authorization entry or area exactly if the text starts with its encoding.
+-- A read returns an authorization entry or area exactly when the text starts with its encoding.
 use Rattle.std.proofs.Common.{◌≡◌, ℕ, zero, suc, ◌+◌, ◌^◌, ◌<◌, ◌≤◌, false, ltb, List, [], ◌∷◌, ◌++◌, length, Ok, refl, sym, ap, subst, ◌∙◌, append_assoc, arith}
 use Rattle.std.specs.List.{AllByRecursion}
 use Rattle.std.specs.Int.{w8, w32, to_be_bytes}
@@ -17,7 +17,7 @@ use Rattle.tpm_types_command.specs.AuthArea.{area_at, area_text, entries_in, ent
 
 -- ---- an entry
 
--- A read returns a sized buffer of any length exactly if the text starts with its encoding.
+-- A read returns a sized buffer of any length exactly when the text starts with its encoding.
 sized_spelled : Spelled sized_text (λ bytes. length bytes < 2 ^ 16) (λ text. or_fault (sized_at 0xffff text) (plain code.Authsize))
 sized_spelled = record {
   taken = λ bytes x fits e. let t = sized_takes 0xffff (plain code.Authsize) bytes x fits e in (t.0, t.1);
@@ -58,7 +58,7 @@ pub ruleset entry_sizes = (length-auth_entry_text)
 
 -- ---- the entries of an authorization area
 
--- If bytes are left, they start with an entry, after which there may be more entries.
+-- If bytes are left, the read of all entries reads one entry and then the others.
 pub entries_in_some : (most : ℕ) (left : List ℕ) → 0 < length left → entries_in (suc most) left ≡ (entry_at left >>= λ first. entries_in most first.1 >>= λ others. Ok (first.0 ∷ others))
 entries_in_some most [] some = absurd (omega arith)
 entries_in_some most (byte ∷ bytes) some = refl
@@ -92,7 +92,7 @@ entries_again (suc most) (entry ∷ entries) few are =
     entries_in_some most (auth_entry_text entry ++ entries_text entries) some
     ∙ rw (entry_again entry (entries_text entries) are.0, entries_again most entries (omega arith) are.1) refl
 
--- ---- an area
+-- ---- an authorization area
 
 pub area_takes : (bytes : List ℕ) (x : List Entry × List ℕ) → AreBytes bytes → area_at bytes ≡ Ok x → Takes bytes (area_text x.0) x.1 × (length x.0 ≤ 3) × AllByRecursion IsEntry x.0 × (9 ≤ length (entries_text x.0))
 unfolding area_at

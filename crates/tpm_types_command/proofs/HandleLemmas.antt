@@ -20,15 +20,15 @@ behind_first number count first = handles_at (number + 1) count first.1 >>= λ o
 
 -- ---- reading handles
 
--- If one more handle is read, the handles so far, followed by the remaining ones, are still all
--- the handles.
+-- After one more handle is read, the handles read so far, followed by those in the remaining bytes,
+-- are still the same.
 pub handle_more : (front : List Handle) (place m n x : ℕ) (text rest : List ℕ) → m ≡ suc n → or_fault (number_at w32 text) (cut_at place) ≡ Ok (x, rest) → behind (front ++ record { number = x } ∷ []) (handles_at (place + 1) n rest) ≡ behind front (handles_at place m text)
 handle_more front place m n x text rest e is =
     moved front (record { number = x }) (handles_at (place + 1) n rest)
     ∙ ap (λ (r : Result (ℕ × List ℕ) Rc). behind front (r >>= behind_first place n)) (sym is)
     ∙ ap (λ k. behind front (handles_at place k text)) (sym e)
 
--- If a handle is truncated, the whole read fails with that handle's fault.
+-- If a handle is truncated, the read of all handles fails with the fault of that handle.
 pub handle_cut : (front : List Handle) (place m n : ℕ) (fault : Rc) (text : List ℕ) → m ≡ suc n → or_fault (number_at w32 text) (cut_at place) ≡ Err fault → behind front (handles_at place m text) ≡ Err fault
 handle_cut front place m n fault text e is =
     ap (λ k. behind front (handles_at place k text)) e

@@ -1,4 +1,4 @@
--- A read returns the header of a command exactly if the text starts with its encoding.
+-- A read returns the header of a command exactly when the text starts with its encoding.
 use Rattle.tpm_types.specs.Limits.{buffer_limit}
 use Rattle.std.proofs.Common.{◌≡◌, ℕ, ◌+◌, ◌^◌, ◌≤◌, Bool, true, false, ltb, List, ◌++◌, length, take, drop, Option, Some, Result, Ok, refl, sym, ap, subst, ◌∙◌, arith}
 use Rattle.std.specs.Prelude.{◌==◌, ◌||◌, not, ok_or}
@@ -24,7 +24,8 @@ neither : (a b : Bool) → (a || b) ≡ false → (a ≡ false) × (b ≡ false)
 neither true b e = absurd cc
 neither false b e = (refl, e)
 
--- If a number at the start of the bytes is not truncated, the bytes start with its encoding.
+-- If a text is long enough for a number, it starts with the encoding of the number that it decodes
+-- to.
 field_takes : (w : Width) (limit : ℕ) (wide : IsWide w limit) (bytes : List ℕ) → AreBytes bytes → byte_len w ≤ length bytes → Takes bytes (to_be_bytes w (from_be_bytes w (take (byte_len w) bytes))) (drop (byte_len w) bytes)
 field_takes w limit wide bytes fits long =
     let there : ltb (length bytes) (byte_len w) ≡ false = le-ltb _ _ long in
@@ -43,7 +44,8 @@ fields_take bytes fits long =
     let t01 = Takes-then bytes (to_be_bytes w16 (tag_field bytes)) (drop 2 bytes) (to_be_bytes w32 (size_field bytes)) (drop 6 bytes) t0 t1' in
     Takes-then bytes (to_be_bytes w16 (tag_field bytes) ++ to_be_bytes w32 (size_field bytes)) (drop 6 bytes) (to_be_bytes w32 (code_field bytes)) (drop 10 bytes) t01 t2'
 
--- The bytes start with this header, whose commandSize is their length, and fit in a command buffer.
+-- The bytes start with this header, whose commandSize is their length, and they fit in a command
+-- buffer.
 pub record IsHeader (bytes : List ℕ) (x : Header × List ℕ) : Type 0 where
   pub text : Takes bytes (header_text x.0.tag (length bytes) x.0.code) x.1
   pub least : 10 ≤ length bytes
@@ -71,7 +73,7 @@ header_takes bytes x fits e =
     let made : Header × List ℕ = (record { tag = b.0; code = d.0 }, drop 10 bytes) in
     subst (IsHeader bytes) (ok_is made x d.2) (record { text = t3; least = least; most = most })
 
--- If all steps of reading a header succeed, the header is read.
+-- If every step of reading a header succeeds, the read returns the header.
 steps_again : (outside other_size : Bool) (named : Option Tag) (served : Option CommandCode) (tag : Tag) (code : CommandCode) (rest : List ℕ) → outside ≡ false → named ≡ Some tag → other_size ≡ false → served ≡ Some code → (refused_if outside fault.Length >>= λ length_fits. ok_or named fault.Tag >>= λ tag. refused_if other_size fault.Size >>= λ size_is_length. ok_or served fault.Code >>= λ code. Ok (record { tag = tag; code = code }, rest)) ≡ (let done : Result (Header × List ℕ) HeaderFault = Ok (record { tag = tag; code = code }, rest) in done)
 steps_again outside other_size named served tag code rest e0 e1 e2 e3 = rw (e0, e1, e2, e3) refl
 

@@ -1,4 +1,4 @@
--- The tag found for a number has that number, and each tag is found by its number.
+-- Looking up a number finds a tag with that number, and each tag is found by its number.
 use Rattle.std.proofs.Common.{◌≡◌, ℕ, ◌<◌, ◌^◌, Some, None, refl, arith}
 use Rattle.tpm_types.proofs.Named.{link, none}
 use Rattle.tpm_types_command.specs.declared.tag.Tag.{Tag}

@@ -20,7 +20,7 @@ area_text entries = to_be_bytes w32 (length (entries_text entries)) ++ entries_t
 
 -- ---- reading an authorization area: every fault is AUTHSIZE
 
--- all entries in a text, at most this many
+-- all entries in a text, which may contain at most this many
 abbrev pub entries_in : ℕ → List ℕ → Result (List Entry) Rc
 entries_in most [] = Ok []
 entries_in zero (byte ∷ bytes) = Err (plain code.Authsize)
@@ -37,7 +37,7 @@ area_at text = do
   entries ← entries_in 3 bytes.0
   Ok (entries, bytes.1)
 
--- A read of these bytes returned all their entries, or their fault.
+-- The result of reading these bytes is all entries in them, or the fault of reading them.
 abbrev pub AreEntries : List ℕ → Result (ArrayVec AuthEntry) Rc → Type 0
 AreEntries bytes (Ok entries) = entries_in 3 bytes ≡ Ok (map entry_of entries.items)
 AreEntries bytes (Err fault) = entries_in 3 bytes ≡ Err fault

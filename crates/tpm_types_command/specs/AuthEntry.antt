@@ -33,7 +33,7 @@ auth_entry_text e =
     to_be_bytes w32 e.session.number ++ sized_text e.nonce
     ++ to_be_bytes w8 e.attributes.octet ++ sized_text e.hmac
 
--- An entry that can be encoded: each number fits its field.
+-- An entry can be encoded if each number fits its field.
 pub record IsEntry (e : Entry) : Type 0 where
   pub session : e.session.number < 2 ^ 32
   pub nonce : length e.nonce < 2 ^ 16
@@ -44,8 +44,8 @@ pub record IsEntry (e : Entry) : Type 0 where
 abbrev pub HasSizes : Entry → Type 0
 HasSizes e = (length e.nonce < 2 ^ 16) × (length e.hmac < 2 ^ 16)
 
--- the entry at the start of a text, and the rest of the text. If any part of the entry is
--- truncated, the fault is AUTHSIZE
+-- the entry at the start of a text, and the rest of the text. Fails with AUTHSIZE if any part of
+-- the entry is truncated
 unfoldable pub entry_at : List ℕ → Result (Entry × List ℕ) Rc
 entry_at text = do
   session ← or_fault (number_at w32 text) (plain code.Authsize)
@@ -62,8 +62,8 @@ entry_at text = do
     hmac.1,
   )
 
--- A write of an entry appended its whole encoding if the entry can be encoded and fits, and
--- nothing otherwise.
+-- A write appends the whole encoding of an entry if the entry can be encoded and fits. Otherwise it
+-- appends nothing.
 abbrev pub PutsEntry : {E : Type 0} → ℕ → Entry → List ℕ → Result (Unit {0}) E → List ℕ → Type 0
 PutsEntry capacity e old result new =
     (IsOk result

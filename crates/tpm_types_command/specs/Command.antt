@@ -1,5 +1,5 @@
 -- Whole commands. TPM 2.0 Library, Part 1, sections 18.2 to 18.6: the header, the handles, the
--- authorization area if there are sessions, and the parameters.
+-- authorization area (if there are sessions), and the parameters.
 use Rattle.tpm_types.specs.Limits.{buffer_limit}
 use Rattle.std.specs.Prelude.{◌≡◌, ℕ, zero, suc, ◌+◌, ◌<◌, ◌≤◌, ◌^◌, ◌↔◌}
 use Rattle.std.specs.Prelude.{List, [], ◌∷◌, ◌++◌, length, map}
@@ -37,8 +37,8 @@ whole_of c = record {
   parameters = c.parameters.now;
 }
 
--- the tag of a command with these entries: TPM_ST_SESSIONS if there are entries,
--- TPM_ST_NO_SESSIONS if not
+-- the tag of a command with these entries: TPM_ST_SESSIONS if there are any, TPM_ST_NO_SESSIONS if
+-- there are none
 abbrev pub tag_for : List Entry → Tag
 tag_for [] = NoSessions
 tag_for (entry ∷ entries) = Sessions
@@ -65,7 +65,7 @@ command_size c = 10 + length (command_body_text c)
 unfoldable pub command_text : Whole → List ℕ
 command_text c = header_text (tag_for c.entries) (command_size c) c.code ++ command_body_text c
 
--- A command that can be encoded: its lengths fit their size fields.
+-- A command can be encoded if its lengths fit their size fields.
 pub record HasText (c : Whole) : Type 0 where
   pub entries : AllByRecursion HasSizes c.entries
   pub whole : command_size c < 2 ^ 32
@@ -73,8 +73,8 @@ pub record HasText (c : Whole) : Type 0 where
 abbrev pub IsHandle : Handle → Type 0
 IsHandle handle = handle.number < 2 ^ 32
 
--- A command whose encoding can be read: it has as many handles as its code requires and at most
--- three entries, and it fits in a buffer.
+-- The encoding of a command can be read if the command has as many handles as its code requires and
+-- at most three entries, and fits in a command buffer.
 pub record IsCommand (c : Whole) : Type 0 where
   pub handle_count : length c.handles ≡ handle_count c.code
   pub handles : AllByRecursion IsHandle c.handles
@@ -82,10 +82,10 @@ pub record IsCommand (c : Whole) : Type 0 where
   pub entries : AllByRecursion IsEntry c.entries
   pub size : command_size c ≤ buffer_limit
 
--- ---- reading a command, with the first fault
+-- ---- reading a command, up to the first fault
 
--- several handles at the start of a text, and the rest of the text. The first of them is the
--- command's handle with this number
+-- this many handles at the start of a text, and the rest of the text. The first handle has the
+-- number `number`. A fault contains the number of the truncated handle
 abbrev pub handles_at : ℕ → ℕ → List ℕ → Result (List Handle × List ℕ) Rc
 handles_at number zero text = Ok ([], text)
 handles_at number (suc count) text = do
@@ -97,13 +97,13 @@ abbrev pub sessions_at : Tag → List ℕ → Result (List Entry × List ℕ) Rc
 sessions_at NoSessions text = Ok ([], text)
 sessions_at Sessions text = area_at text
 
--- the header of a command, or its fault as a response code
+-- the header of a command, or the response code for the header's fault
 abbrev pub header_or_rc : {A : Type 0} → Result A HeaderFault → Result A Rc
 header_or_rc (Ok x) = Ok x
 header_or_rc (Err fault) = Err (header_fault_rc fault)
 
--- the command that this whole text encodes. The bytes after its header, handles and authorization
--- area are its parameters, so no rest is left
+-- the command that this whole text encodes. All bytes after its header, handles and authorization
+-- area are its parameters, so that no bytes are left
 unfoldable pub command_at : List ℕ → Result (Whole × List ℕ) Rc
 command_at text = do
   header ← header_or_rc (header_at text)
@@ -119,8 +119,8 @@ command_at text = do
     [],
   )
 
--- A write of a command appended its whole encoding if the command can be encoded and fits, and
--- nothing otherwise.
+-- A write appends the whole encoding of a command if the command can be encoded and fits. Otherwise
+-- it appends nothing.
 abbrev pub PutsCommand : {E : Type 0} → ℕ → Whole → List ℕ → Result (Unit {0}) E → List ℕ → Type 0
 PutsCommand capacity c old result new =
     (IsOk result ↔ (HasText c × (length old + command_size c ≤ capacity)))

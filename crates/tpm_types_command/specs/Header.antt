@@ -1,4 +1,4 @@
--- A command's header: tag, commandSize, commandCode. TPM 2.0 Library, Part 1, section 18.2.
+-- The header of a command: tag, commandSize and commandCode. TPM 2.0 Library, Part 1, section 18.2.
 use Rattle.tpm_types.specs.Limits.{buffer_limit}
 use Rattle.std.specs.Prelude.{ℕ, ◌==◌, ◌||◌, not, nat_lt}
 use Rattle.std.specs.Prelude.{List, ◌++◌, length, drop, take, Result, Ok, ok_or}
@@ -26,7 +26,7 @@ unfoldable pub header_text : Tag → ℕ → CommandCode → List ℕ
 header_text tag size code =
     to_be_bytes w16 (tag_number tag) ++ to_be_bytes w32 size ++ to_be_bytes w32 (code_number code)
 
--- the header fields of a buffer of ten bytes or more: tag, commandSize, commandCode
+-- the header fields of a buffer of ten bytes or more: tag, commandSize and commandCode
 abbrev pub tag_field : List ℕ → ℕ
 tag_field buffer = from_be_bytes w16 (take 2 buffer)
 
@@ -36,7 +36,8 @@ size_field buffer = from_be_bytes w32 (take 4 (drop 2 buffer))
 abbrev pub code_field : List ℕ → ℕ
 code_field buffer = from_be_bytes w32 (take 4 (drop 6 buffer))
 
--- the header of a whole buffer and the bytes after it, or the first fault of the header
+-- the header at the start of a buffer that contains a whole command, and the bytes after it; or the
+-- first fault of the header
 unfoldable pub header_at : List ℕ → Result (Header × List ℕ) HeaderFault
 header_at buffer = do
   length_fits ← refused_if (nat_lt (length buffer) 10 || nat_lt buffer_limit (length buffer)) fault.Length

@@ -9,14 +9,14 @@ use arrayvec::ArrayVec;
 use tpm_bytes::Cursor;
 use tpm_types::{Rc, ResponseCode};
 
-/// The largest number of entries in an authorization area, and the size of the smallest entry in
-/// bytes.
+/// The largest number of entries in an authorization area. `LEAST_AREA` is the smallest size of an
+/// area in bytes: one entry with an empty nonce and HMAC.
 pub const ENTRY_LIMIT: usize = 3;
 
 pub const LEAST_AREA: usize = 9;
 
 /// The authorization area of a command with sessions: authorizationSize, then one to three entries
-/// (TPM 2.0 Library, Part 1, section 18.6).
+/// (Part 1, section 18.6).
 #[derive(Drop)]
 pub struct AuthArea<'a> {
     pub entries: ArrayVec<AuthEntry<'a>, 3>,
@@ -26,9 +26,9 @@ impl<'a> AuthArea<'a> {
     ghost use Rattle.tpm_types_command.specs.AuthEntry.{entry_of};
     ghost use Rattle.tpm_types_command.specs.AuthArea.{area_at};
 
-    /// Reads an authorization area. The fault is AUTHSIZE if its size is truncated, less than nine
-    /// or more than the bytes that follow, if an entry is truncated, or if there is a fourth
-    /// entry.
+    /// Reads an authorization area. Fails with AUTHSIZE if its size is truncated, is less than
+    /// nine, or exceeds the number of bytes that follow; if an entry is truncated; or if there is a
+    /// fourth entry.
     #[tactic(auto, unfolding(crate::specs::AuthArea::area_at))]
     pub fn read(text: &mut Cursor<'a>) -> Result<AuthArea<'a>, Rc>
         ensures { Reads (λ area. map entry_of area.entries.items) (area_at text.old)

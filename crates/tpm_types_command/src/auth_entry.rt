@@ -22,7 +22,7 @@ impl<'a> AuthEntry<'a> {
     ghost use Rattle.tpm_types_command.specs.AuthEntry.{Entry, HasSizes, IsEntry, PutsEntry};
     ghost use Rattle.tpm_types_command.specs.AuthEntry.{entry_at, entry_of, auth_entry_text};
 
-    /// Reads an entry. The fault is AUTHSIZE if it is truncated.
+    /// Reads an entry. Fails with AUTHSIZE if it is truncated.
     pub fn read(text: &mut Cursor<'a>) -> Result<AuthEntry<'a>, Rc>
         // The result is the decoded value, or the fault.
         ensures exact { Reads entry_of (entry_at text.old) text.old result text.new }
@@ -77,8 +77,8 @@ impl<'a> AuthEntry<'a> {
         Some(9 + nonce + hmac)
     }
 
-    /// Appends the entry. If it does not fit, or a size does not fit in two bytes, writes nothing
-    /// and returns an error.
+    /// Appends the encoded entry. If it does not fit, or if one of its sizes does not fit in two
+    /// bytes, writes nothing and returns an error.
     pub fn write<const N: usize>(&self, sink: &mut Sink<N>) -> Result<(), Full>
         ensures { PutsEntry N (entry_of self.now) sink.old result sink.new }
     {
@@ -93,7 +93,8 @@ impl<'a> AuthEntry<'a> {
         Ok(())
     }
 
-    /// Appends the entry. Its sizes must fit in two bytes each, and there must be room for it.
+    /// Appends the encoded entry. Its sizes must fit in two bytes each, and the sink must have room
+    /// for the entry.
     #[tactic(auto, using(crate::proofs::EntryLaws::entry_sizes))]
     pub fn append_to<const N: usize>(&self, sink: &mut Sink<N>)
         requires sizes { HasSizes (entry_of self.now) }

@@ -12,9 +12,9 @@ use tpm_types::Handle;
 pub mod reading;
 mod writing;
 
-/// A whole command (TPM 2.0 Library, Part 1, section 18). Its code determines the number of its
-/// handles, and its tag is TPM_ST_SESSIONS exactly if it has entries. All bytes after these are
-/// parameters.
+/// A whole command (Part 1, section 18). Its code determines the number of its handles. Its tag is
+/// TPM_ST_SESSIONS if it has entries, and TPM_ST_NO_SESSIONS if not. All bytes after the entries
+/// are parameters.
 #[derive(Drop)]
 pub struct Command<'a> {
     pub code: CommandCode,

@@ -14,7 +14,7 @@ use tpm_types::{BUFFER_LIMIT, Handle, Rc, ResponseCode};
 /// The size of a command's header in bytes.
 pub const HEADER_SIZE: usize = 10;
 
-/// The header of a command, except commandSize (TPM 2.0 Library, Part 1, section 18.2).
+/// The header of a command, except commandSize (Part 1, section 18.2).
 #[derive(Clone, Copy, PartialEq, Eq)]
 pub struct Header {
     pub tag: Tag,
@@ -24,7 +24,7 @@ pub struct Header {
 /// The first fault of a command's header, in the order of the checks.
 #[derive(Clone, Copy, PartialEq, Eq)]
 pub enum HeaderFault {
-    /// The buffer is shorter than a header, or longer than a buffer may be.
+    /// The buffer is shorter than a header, or longer than `BUFFER_LIMIT`.
     Length,
     /// The tag is neither TPM_ST_SESSIONS nor TPM_ST_NO_SESSIONS.
     Tag,
@@ -52,7 +52,7 @@ impl HeaderFault {
 impl Header {
     ghost use Rattle.tpm_types_command.specs.Header.{header_at};
 
-    /// Reads the header of a command. The command must be the whole rest of the text.
+    /// Reads the header of a command. The text must contain exactly the whole command.
     #[tactic(auto, unfolding(crate::specs::Header::header_at))]
     pub fn read(text: &mut Cursor) -> Result<Header, HeaderFault>
         ensures { Reads (λ header. header) (header_at text.old) text.old result text.new }

@@ -4,9 +4,9 @@
 //! areas and entries.
 //!
 //! The crate uses `tpm_commands` for the supported commands, and `tpm_types` for handles and
-//! response codes. A read returns the value, or the first fault as the standard's response code
-//! for it; a read or write that fails changes nothing. Each entry and each command has exactly one
-//! encoding, and nothing else decodes to it. No call here allocates memory.
+//! response codes. A read returns the value, or the standard's response code for the first fault. A
+//! read or write that fails changes nothing. Each entry and each command has exactly one encoding,
+//! and no other bytes decode to it. No function of this crate allocates memory.
 
 pub mod auth_area;
 pub mod auth_entry;

@@ -1,10 +1,10 @@
-//! The tag of a command or a response, which says whether it has sessions (TPM_ST; TPM 2.0
+//! The tag of a command or a response, which shows whether it has sessions (TPM_ST; TPM 2.0
 //! Library, Part 2, section 6.9).
 
 ghost use Rattle.std.specs.Prelude.{◌≡◌};
 
-/// The tag of a command, which says whether it has authorization sessions: TPM_ST of TPM 2.0
-/// Library, Part 2, section 6.9.
+/// The tag of a command, which shows whether it has authorization sessions: TPM_ST (Part 2, section
+/// 6.9).
 #[derive(Clone, Copy, PartialEq, Eq)]
 pub enum Tag {
     NoSessions,

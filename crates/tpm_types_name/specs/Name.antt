@@ -12,11 +12,11 @@ abbrev pub handle_name : Handle → List ℕ
 handle_name handle = to_be_bytes w32 handle.number
 
 -- the Name of an entity whose public area is encoded as this text: a hash algorithm, followed by
--- the text's digest by that algorithm
+-- the digest of the text
 abbrev pub hashed_name : HashAlg → List ℕ → List ℕ
 hashed_name alg text = to_be_bytes w16 (hash_number alg) ++ hash_of alg text
 
--- the qualified Name of an object: the digest of its parent's qualified Name followed by its own
--- Name. The qualified Name of a hierarchy is its handle
+-- the qualified Name of an object: its nameAlg, followed by the digest of its parent's qualified
+-- Name and its own Name. The qualified Name of a hierarchy is its handle
 unfoldable pub qualified_name : HashAlg → (parent name : List ℕ) → List ℕ
 qualified_name alg parent name = hashed_name alg (parent ++ name)

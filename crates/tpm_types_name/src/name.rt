@@ -1,5 +1,5 @@
-//! The Name of an entity, at most 34 bytes long: its handle, or a hash algorithm and a digest by
-//! it (TPM 2.0 Library, Part 1, section 16).
+//! The Name of an entity, at most 34 bytes long: its handle, or a hash algorithm followed by a
+//! digest (TPM 2.0 Library, Part 1, section 16).
 
 ghost use Rattle.std.specs.Prelude.{◌≡◌, ◌≤◌, [], length};
 ghost use Rattle.std.specs.Str.{bytes_eq};
@@ -12,7 +12,7 @@ use tpm_bytes::{append, copied};
 use tpm_mac::{HashAlg, digest_parts};
 use tpm_types::{Handle, hash_number};
 
-/// The Name of an entity: at most 34 bytes. In contracts it is its list of bytes.
+/// The Name of an entity: at most 34 bytes. Contracts represent it by its list of bytes.
 #[derive(Drop)]
 pub struct Name {
     bytes: ArrayVec<u8, 34>,
@@ -27,7 +27,7 @@ impl Model for Name {
 }
 
 impl Default for Name {
-    /// The empty Name, which names nothing (TPM 2.0 Library, Part 1, section 16).
+    /// The empty Name, which names nothing (Part 1, section 16).
     fn default() -> Name
         ensures { result ≡ [] }
     {
@@ -58,7 +58,7 @@ impl Name {
     }
 
     /// The Name of an entity whose public area is encoded as the concatenation of these parts: a
-    /// hash algorithm, followed by the digest by that algorithm.
+    /// hash algorithm, followed by the digest of the parts.
     pub fn hashed(alg: HashAlg, parts: &[&[u8]]) -> Name
         ensures { result ≡ hashed_name alg (joined_text parts.now) }
     {
@@ -68,7 +68,7 @@ impl Name {
         Name { bytes }
     }
 
-    /// The qualified Name of an object with this Name, under a parent with this qualified Name.
+    /// The qualified Name of an object with this Name, whose parent has this qualified Name.
     #[tactic(auto, unfolding(crate::specs::Name::qualified_name))]
     pub fn qualified(alg: HashAlg, parent: &[u8], name: &[u8]) -> Name
         ensures { result ≡ qualified_name alg parent.now name.now }

@@ -1,5 +1,5 @@
--- Setting or clearing an attribute of an index does not change its type: changing a bit outside a
--- mask changes no bit inside it.
+-- Setting or clearing an attribute of an index does not change its type, because changing a bit
+-- outside a mask changes no bit inside it.
 use Rattle.std.proofs.Common.{◌≡◌, ◌≢◌, ℕ, ◌-◌, ◌*◌, ◌/◌, ◌%◌, ◌^◌, ◌<◌, refl, ap, ◌∙◌, arith, inl, inr}
 use Rattle.std.specs.Prelude.{bit_and, bit_or}
 use Rattle.std.specs.Int.{w32, bit_at, bit_not}
@@ -20,7 +20,7 @@ set_same n k = omega (arith, bit_at_or n (2 ^ k) k, bit_at-pow_same k, bit_at-lt
 pub set_other : (n k i : ℕ) → i ≢ k → bit_at (bit_or n (2 ^ k)) i ≡ bit_at n i
 set_other n k i apart = omega (arith, bit_at_or n (2 ^ k) i, bit_at-pow_other k i apart)
 
--- The 32-bit complement of bit k has every bit but k.
+-- The 32-bit complement of 2^k contains every bit except bit k.
 not_at : (k i : ℕ) → 2 ^ k < 2 ^ 32 → i < 32 → bit_at (bit_not w32 (2 ^ k)) i ≡ 1 - bit_at (2 ^ k) i
 not_at k i small within = bit_at_not w32 (2 ^ k) i small within
 
@@ -85,7 +85,7 @@ not_typed : (one : NvAttribute) → bit_at (2 ^ 8 - 2 ^ 4) (attribute_bit one) �
 not_typed attribute.PpWrite = refl
 not_typed _ = refl
 
--- If two numbers have equal type bits, they encode the same type.
+-- Two numbers with equal type bits encode the same type.
 type_bits : (a b : ℕ) → bit_and a (2 ^ 8 - 2 ^ 4) ≡ bit_and b (2 ^ 8 - 2 ^ 4) → a / 2 ^ 4 % 2 ^ 4 ≡ b / 2 ^ 4 % 2 ^ 4
 type_bits a b same =
     let first : bit_and a (2 ^ 8 - 2 ^ 4) ≡ a / 2 ^ 4 % 2 ^ 4 * 2 ^ 4 = and_high a 4 4 in

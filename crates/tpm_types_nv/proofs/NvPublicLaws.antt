@@ -1,4 +1,4 @@
--- A read returns the public area of an NV index exactly if the text starts with its encoding.
+-- A read returns the public area of an NV index exactly when the text starts with its encoding.
 use Rattle.std.proofs.Common.{◌≡◌, ℕ, ◌^◌, ◌<◌, Bool, true, false, List, [], ◌++◌, length, Ok, refl, subst, append_assoc, append-nil, arith, length-append}
 use Rattle.std.specs.Prelude.{not}
 use Rattle.std.specs.Int.{w16, w32, to_be_bytes}
@@ -85,7 +85,7 @@ nv_public_spelled =
     (λ p is. record { nv_index = is.0; attributes = is.1.1.0; auth_policy = is.1.1.1.0; data_size = is.1.1.1.1.0 })
     (λ p is. (is.nv_index, (tt, (is.attributes, (is.auth_policy, (is.data_size, tt))))))
 
--- ---- the length of the text
+-- ---- the length of an encoded public area
 
 pub nv_public_small : (p : NvPublic) → IsNvPublic p → length (nv_public_text p) < 2 ^ 16
 unfolding nv_public_text

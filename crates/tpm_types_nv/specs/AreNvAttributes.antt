@@ -5,8 +5,8 @@ use Rattle.tpm_types_nv.specs.declared.nv_attributes.NvAttributes.{NvAttributes}
 use Rattle.tpm_types_nv.specs.NvAttributes.{IsNvAttributes, attribute_bit, has, index_type, with_attribute, without_attribute}
 
 pub record AreNvAttributes : Type 0 where
-  -- an attribute is present after it was set and absent after it was cleared, and all others are
-  -- unchanged
+  -- an attribute is present after it is set and absent after it is cleared; all other attributes
+  -- are unchanged
   pub set_there : (attributes : NvAttributes) (one : NvAttribute)
       → has (with_attribute attributes one) one ≡ true
   pub set_others : (attributes : NvAttributes) (one other : NvAttribute)
@@ -22,7 +22,7 @@ pub record AreNvAttributes : Type 0 where
       → index_type (with_attribute attributes one) ≡ index_type attributes
   pub cleared_type : (attributes : NvAttributes) (one : NvAttribute)
       → index_type (without_attribute attributes one) ≡ index_type attributes
-  -- if attributes can be encoded, they still can be after one was set or cleared
+  -- if attributes can be encoded, they still can be encoded after one of them is set or cleared
   pub set_named : (attributes : NvAttributes) (one : NvAttribute) → IsNvAttributes attributes
       → IsNvAttributes (with_attribute attributes one)
   pub cleared_named : (attributes : NvAttributes) (one : NvAttribute) → IsNvAttributes attributes

@@ -12,7 +12,7 @@ use Rattle.tpm_types_nv.specs.NvType.{nv_type_named, nv_type_number}
 use Rattle.tpm_types.specs.AttributeBits.{AreAttributeBits, attribute_bits_at}
 use Rattle.tpm_types.specs.declared.rc.Rc.{Rc}
 
--- the bit of an attribute, counted from 0
+-- the number of an attribute's bit, counted from 0
 abbrev pub attribute_bit : NvAttribute → ℕ
 attribute_bit attribute.PpWrite = 0
 attribute_bit attribute.OwnerWrite = 1
@@ -40,7 +40,7 @@ attribute_bit attribute.ReadStClear = 31
 abbrev pub has : NvAttributes → NvAttribute → Bool
 has attributes attribute = bit_at attributes.bits (attribute_bit attribute) == 1
 
--- the attributes after this one was set, and after it was cleared; all other bits are unchanged
+-- the attributes with this one set, and with this one cleared; all other bits are unchanged
 abbrev pub with_attribute : NvAttributes → NvAttribute → NvAttributes
 with_attribute attributes attribute =
     record { bits = bit_or attributes.bits (2 ^ attribute_bit attribute) }
@@ -60,7 +60,7 @@ index_type attributes = nv_type_named (type_number attributes)
 abbrev pub is_of : NvAttributes → NvType → Bool
 is_of attributes type = type_number attributes == nv_type_number type
 
--- all attributes
+-- all attributes of an index
 abbrev pub all_attributes : List NvAttribute
 all_attributes =
     attribute.PpWrite
@@ -86,7 +86,7 @@ all_attributes =
     ∷ attribute.ReadStClear
     ∷ []
 
--- the bits, of 32, that are used neither for an attribute nor for the type
+-- the bits of the 32-bit field that are used neither for an attribute nor for the type
 abbrev pub reserved_bits : ℕ
 reserved_bits =
     2 ^ 32 - 1 - 0xf * 2 ^ 4 - sum_by (λ one. 2 ^ attribute_bit one) all_attributes
@@ -94,7 +94,7 @@ reserved_bits =
 abbrev pub nv_attributes_text : NvAttributes → List ℕ
 nv_attributes_text attributes = to_be_bytes w32 attributes.bits
 
--- The attributes of an index that can be encoded: no reserved bit is set.
+-- The attributes of an index can be encoded if no reserved bit is set.
 abbrev pub IsNvAttributes : NvAttributes → Type 0
 IsNvAttributes attributes = AreAttributeBits reserved_bits attributes.bits
 

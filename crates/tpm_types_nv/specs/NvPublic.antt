@@ -32,12 +32,12 @@ nv_public_text p =
     nv_index_text p.nv_index ++ to_be_bytes w16 (hash_number p.name_alg)
     ++ nv_attributes_text p.attributes ++ sized_text p.auth_policy ++ to_be_bytes w16 p.data_size
 
--- The handle of an index: its number fits in four bytes, and the highest byte is 01.
+-- The handle of an index fits in four bytes, and its highest byte is 01.
 pub record IsNvIndex (handle : Handle) : Type 0 where
   pub fits : handle.number < 2 ^ 32
   pub named : is_nv_index handle ≡ true
 
--- A public area of an index that can be encoded.
+-- A public area of an index can be encoded if each of its fields is valid.
 pub record IsNvPublic (p : NvPublic) : Type 0 where
   pub nv_index : IsNvIndex p.nv_index
   pub attributes : IsNvAttributes p.attributes

@@ -10,7 +10,7 @@ nv_type_number Counter = 1
 nv_type_number Bits = 2
 nv_type_number Extend = 4
 
--- the type with this number, or None
+-- the index type with this number, or None
 abbrev pub nv_type_named : ℕ → Option NvType
 nv_type_named number =
     if number == 0 then Some Ordinary

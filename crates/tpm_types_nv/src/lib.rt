@@ -1,11 +1,11 @@
 #![tactic(auto)]
 
-//! The public areas of NV indices (TPM 2.0 Library, Part 2, section 13): their attributes and
-//! types, and the area itself.
+//! The public areas of NV indices, with their attributes and types (TPM 2.0 Library, Part 2,
+//! section 13).
 //!
 //! The crate uses `tpm_types` for the structures in these areas. A read returns the value, or the
-//! first fault as the standard's response code for it; a read or write that fails changes nothing.
-//! Each public area has exactly one encoding, and nothing else decodes to it. No call here
+//! standard's response code for the first fault. A read or write that fails changes nothing. Each
+//! public area has exactly one encoding, and no other bytes decode to it. No function of this crate
 //! allocates memory.
 
 pub mod laws;

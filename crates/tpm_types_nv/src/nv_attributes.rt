@@ -11,8 +11,7 @@ use tpm_types::{Rc, read_attribute_bits};
 /// The bits that are used neither for an attribute nor for the type: 8, 9 and 20 to 24.
 const RESERVED_BITS: u32 = 0x01f0_0300;
 
-/// An attribute of an NV index; its value is its bit: TPMA_NV of TPM 2.0 Library, Part 2, section
-/// 13.4.
+/// An attribute of an NV index (TPMA_NV, Part 2, section 13.4). Its value is the number of its bit.
 #[derive(Clone, Copy, PartialEq, Eq)]
 pub enum NvAttribute {
     PpWrite = 0,
@@ -41,7 +40,7 @@ pub enum NvAttribute {
 impl NvAttribute {
     ghost use Rattle.tpm_types_nv.specs.NvAttributes.{attribute_bit};
 
-    /// The bit of the attribute.
+    /// The number of the attribute's bit.
     pub fn bit(self) -> u32
         ensures value { result ≡ attribute_bit self }
         ensures small { result < 32 }
@@ -67,7 +66,7 @@ impl NvAttributes {
         (self.bits >> attribute.bit()) & 1 == 1
     }
 
-    /// The attributes after this one was set.
+    /// The attributes with this one set.
     pub fn with(self, attribute: NvAttribute) -> NvAttributes
         ensures { result ≡ with_attribute self attribute }
     {
@@ -76,7 +75,7 @@ impl NvAttributes {
         }
     }
 
-    /// The attributes after this one was cleared.
+    /// The attributes with this one cleared.
     pub fn without(self, attribute: NvAttribute) -> NvAttributes
         ensures { result ≡ without_attribute self attribute }
     {
@@ -99,8 +98,8 @@ impl NvAttributes {
         (self.bits >> 4) % 16 == kind.number()
     }
 
-    /// Reads attributes. The fault is INSUFFICIENT if they are truncated, RESERVED_BITS if a bit
-    /// is set that is used neither for an attribute nor for the type.
+    /// Reads attributes. Fails with INSUFFICIENT if they are truncated, or with RESERVED_BITS if a
+    /// bit is set that is used neither for an attribute nor for the type.
     #[tactic(auto, unfolding(crate::specs::NvAttributes::nv_attributes_at))]
     pub fn read(text: &mut Cursor) -> Result<NvAttributes, Rc>
         ensures { Reads (λ attributes. attributes) (nv_attributes_at text.old) text.old

@@ -9,7 +9,7 @@ use tpm_bytes::{Cursor, Full, Readable, Sink};
 use tpm_mac::HashAlg;
 use tpm_types::{Handle, Octets, Rc, ResponseCode, hash_number, read_filled, read_hash};
 
-/// The public area of an NV index: TPMS_NV_PUBLIC of TPM 2.0 Library, Part 2, section 13.5.
+/// The public area of an NV index: TPMS_NV_PUBLIC (Part 2, section 13.5).
 #[derive(Drop)]
 pub struct NvPublic {
     /// The handle of the index.
@@ -27,8 +27,8 @@ impl NvPublic {
     ghost use Rattle.tpm_types_nv.specs.declared.nv_public.NvPublic.{NvPublic};
     ghost use Rattle.tpm_types.specs.Filled.{filled_by};
 
-    /// Reads a public area. The fault is INSUFFICIENT if it is truncated, else the first fault of
-    /// a field.
+    /// Reads a public area. Fails with INSUFFICIENT if it is truncated, or else with the first
+    /// fault of a field.
     pub fn read(text: &mut Cursor) -> Result<NvPublic, Rc>
         // The result is the decoded value, or the first fault.
         ensures exact { Reads (λ public. public) (nv_public_at text.old) text.old result text.new }
@@ -43,7 +43,7 @@ impl NvPublic {
         NvPublic::read_fields(text)
     }
 
-    /// Reads a public area that fills a sized buffer (TPM2B_NV_PUBLIC). The faults are those of
+    /// Reads a public area that fills a sized buffer (TPM2B_NV_PUBLIC). Fails like
     /// [`tpm_types::read_filled`].
     pub fn read_sized(text: &mut Cursor) -> Result<NvPublic, Rc>
         ensures exact { Reads (λ public. public) (filled_by nv_public_at text.old) text.old
@@ -57,8 +57,8 @@ impl NvPublic {
         read_filled(text)
     }
 
-    /// Reads the handle of an index. The fault is INSUFFICIENT if it is truncated, VALUE if its
-    /// highest byte is not 01.
+    /// Reads the handle of an index. Fails with INSUFFICIENT if it is truncated, or with VALUE if
+    /// its highest byte is not 0x01.
     #[tactic(auto, unfolding(crate::specs::NvPublic::nv_index_at))]
     fn read_index(text: &mut Cursor) -> Result<Handle, Rc>
         ensures { Reads (λ handle. handle) (nv_index_at text.old) text.old result text.new }
@@ -111,7 +111,7 @@ impl NvPublic {
         }
     }
 
-    /// The encoding of the public area, in a buffer with space for the longest.
+    /// The encoding of the public area, in a buffer that fits the longest encoding.
     #[tactic(auto, unfolding(crate::specs::NvPublic::nv_public_text))]
     pub fn text(&self) -> Sink<46>
         ensures { result ≡ nv_public_text self.now }
@@ -125,8 +125,8 @@ impl NvPublic {
         text
     }
 
-    /// Appends the public area, at most 46 bytes. If it does not fit, writes nothing and returns
-    /// an error.
+    /// Appends the encoded public area, at most 46 bytes. If it does not fit, writes nothing and
+    /// returns an error.
     pub fn write<const N: usize>(&self, sink: &mut Sink<N>) -> Result<(), Full>
         ensures written { Puts N (nv_public_text self.now) sink.old result sink.new }
         ensures small { length (nv_public_text self.now) ≤ 46 }

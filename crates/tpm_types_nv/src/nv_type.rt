@@ -4,7 +4,7 @@
 ghost use Rattle.std.specs.Prelude.{◌≡◌};
 ghost use Rattle.tpm_types_nv.specs.NvType.{nv_type_named, nv_type_number};
 
-/// The type of an NV index: TPM_NT of TPM 2.0 Library, Part 2, section 13.2.
+/// The type of an NV index: TPM_NT (Part 2, section 13.2).
 #[derive(Clone, Copy, PartialEq, Eq)]
 pub enum NvType {
     /// Bytes that are written and read.
@@ -18,7 +18,7 @@ pub enum NvType {
 }
 
 impl NvType {
-    /// The number of the type.
+    /// The number of the type in the attributes.
     pub fn number(self) -> u32
         ensures { result ≡ nv_type_number self }
     {

@@ -1,4 +1,4 @@
--- A read returns a public area exactly if the text starts with its encoding.
+-- A read returns a public area exactly when the text starts with its encoding.
 use Rattle.std.proofs.Common.{◌≡◌, ℕ, ◌^◌, ◌<◌, ◌≤◌, cond, List, [], ◌++◌, length, Result, Ok, Err, refl, sym, ap, subst, ◌∙◌, append_assoc, arith, inl, inr, length-append}
 use Rattle.std.specs.Prelude.{◌==◌}
 use Rattle.std.specs.Int.{w16, to_be_bytes}
@@ -74,7 +74,7 @@ scheme_spelled = record { taken = taken; again = again }
         ap scheme_at (append_assoc (to_be_bytes w16 0x0005) (to_be_bytes w16 (hash_number hash)) rest)
         ∙ rw (number_or_again w16 (2 ^ 16) wide16 (plain code.Insufficient) 0x0005 (to_be_bytes w16 (hash_number hash) ++ rest) (omega arith), hash_spelled.again hash rest tt) refl
 
--- ---- the parameters of a type
+-- ---- the parameters of objects of each type
 
 abbrev AreOf : ObjectType → PublicParameters → Type 0
 AreOf type parameters = Unit {0} × (type_of_parameters parameters ≡ type)
@@ -141,7 +141,7 @@ public_spelled =
     (λ p. six_texts (object_type_text (object_type p)) (to_be_bytes w16 (hash_number p.name_alg)) (attributes_text p.attributes) (sized_text p.auth_policy) (parameters_text p.parameters) (sized_text p.unique))
     (λ p is. is.1) (λ p is. (tt, is))
 
--- ---- the length of the text
+-- ---- the length of an encoded public area
 
 length-symmetric_text : length (symmetric_text symmetric.Aes128Cfb) ≡ 6
 unfolding symmetric_text

@@ -1,4 +1,5 @@
--- How a new object was created. TPM 2.0 Library, Part 2, section 15.1 (TPMS_CREATION_DATA).
+-- Creation data, which record how an object was created. TPM 2.0 Library, Part 2, section 15.1
+-- (TPMS_CREATION_DATA).
 use Rattle.std.specs.Prelude.{ℕ, ◌≤◌, ◌<◌, ◌^◌, List, ◌++◌, length, Result, Ok}
 use Rattle.std.specs.Int.{w8, w16, to_be_bytes}
 use Rattle.tpm_bytes.specs.Reading.{◌>>=◌, number_at, or_fault}

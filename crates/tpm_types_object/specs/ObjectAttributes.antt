@@ -7,7 +7,7 @@ use Rattle.tpm_types_object.specs.declared.object_attributes.ObjectAttribute.The
 use Rattle.tpm_types.specs.AttributeBits.{AreAttributeBits, attribute_bits_at}
 use Rattle.tpm_types.specs.declared.rc.Rc.{Rc}
 
--- the bit of an attribute, counted from 0
+-- the number of an attribute's bit, counted from 0
 abbrev pub attribute_bit : ObjectAttribute → ℕ
 attribute_bit attribute.FixedTpm = 1
 attribute_bit attribute.StClear = 2
@@ -21,7 +21,7 @@ attribute_bit attribute.Restricted = 16
 attribute_bit attribute.Decrypt = 17
 attribute_bit attribute.Sign = 18
 
--- whether an object has an attribute, given the number that its attributes' bits form
+-- whether a bit field of attributes contains this attribute
 abbrev pub has : ℕ → ObjectAttribute → Bool
 has attributes attribute = bit_at attributes (attribute_bit attribute) == 1
 
@@ -41,14 +41,14 @@ all_attributes =
     ∷ attribute.Sign
     ∷ []
 
--- the bits, of 32, that are not used for attributes
+-- the bits of the 32-bit field that are not used for attributes
 abbrev pub reserved_bits : ℕ
 reserved_bits = 2 ^ 32 - 1 - sum_by (λ one. 2 ^ attribute_bit one) all_attributes
 
 abbrev pub attributes_text : ℕ → List ℕ
 attributes_text attributes = to_be_bytes w32 attributes
 
--- The attributes of an object that can be encoded: no reserved bit is set.
+-- The attributes of an object can be encoded if no reserved bit is set.
 abbrev pub IsAttributes : ℕ → Type 0
 IsAttributes attributes = AreAttributeBits reserved_bits attributes
 

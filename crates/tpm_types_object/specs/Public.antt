@@ -1,8 +1,7 @@
--- The public areas of objects. TPM 2.0 Library, Part 2, section 12.2.4 (TPMT_PUBLIC), and for
--- their parameters section 12.2.3.7 (TPMU_PUBLIC_PARMS), with sections 11.1.9
--- (TPMS_SYMCIPHER_PARMS) and 11.1.23 (TPMT_KEYEDHASH_SCHEME); section 6.3 (TPM_ALG_ID: KEYEDHASH
--- 0008, SYMCIPHER 0025, NULL 0010, HMAC 0005). Using the response code SCHEME for any other scheme
--- is this device's own choice.
+-- The public areas of objects. TPM 2.0 Library, Part 2, section 12.2.4 (TPMT_PUBLIC). For their
+-- parameters: sections 12.2.3.7 (TPMU_PUBLIC_PARMS), 11.1.9 (TPMS_SYMCIPHER_PARMS), 11.1.23
+-- (TPMT_KEYEDHASH_SCHEME) and 6.3 (TPM_ALG_ID: KEYEDHASH 0008, SYMCIPHER 0025, NULL 0010, HMAC
+-- 0005). Using the response code SCHEME for any other scheme is this device's own choice.
 use Rattle.std.specs.Prelude.{ℕ, ◌==◌, ◌≤◌, List, ◌++◌, length, if◌then◌else◌}
 use Rattle.std.specs.Prelude.{Option, Some, None, Result, Ok, Err, ok_or}
 use Rattle.std.specs.Int.{w16, to_be_bytes}
@@ -58,7 +57,8 @@ hmac_at text = do
   hash ← hash_at text
   Ok (Hmac hash.0, hash.1)
 
--- the scheme of a KEYEDHASH object after this scheme number, and the rest of the text
+-- the scheme of a KEYEDHASH object with this scheme number, whose other fields are at the start of
+-- a text, and the rest of the text
 abbrev pub behind_scheme_at : ℕ → List ℕ → Result (KeyedHashScheme × List ℕ) Rc
 behind_scheme_at number text =
     if number == 0x0010 then Ok (Null, text)
@@ -70,8 +70,8 @@ scheme_at text = do
   scheme ← or_fault (number_at w16 text) (plain code.Insufficient)
   behind_scheme_at scheme.0 scheme.1
 
--- the parameters of a SYMCIPHER object, which are its cipher, at the start of a text, and the rest
--- of the text
+-- the parameters of a SYMCIPHER object at the start of a text, and the rest of the text. The
+-- parameters are a cipher
 unfoldable pub sym_cipher_at : List ℕ → Result (PublicParameters × List ℕ) Rc
 sym_cipher_at text = do
   cipher ← cipher_at text
@@ -87,8 +87,8 @@ abbrev pub parameters_at : ObjectType → List ℕ → Result (PublicParameters 
 parameters_at object.KeyedHash text = keyed_hash_at text
 parameters_at object.SymCipher text = sym_cipher_at text
 
--- the encoding of an object's parameters: the scheme of a KEYEDHASH object; or AES, its key size
--- in bits and its mode
+-- the encoding of an object's parameters: the scheme of a KEYEDHASH object; or AES, its key size in
+-- bits and its mode for a SYMCIPHER object
 abbrev pub parameters_text : PublicParameters → List ℕ
 parameters_text (parameters_of.KeyedHash scheme) = scheme_text scheme
 parameters_text parameters_of.SymCipher = symmetric_text symmetric.Aes128Cfb
@@ -102,16 +102,15 @@ type_of_parameters parameters_of.SymCipher = object.SymCipher
 abbrev pub object_type : Public → ObjectType
 object_type p = type_of_parameters p.parameters
 
--- the encoding of a public area: the type, nameAlg, the attributes, the policy, the type's
--- parameters, and the unique field
+-- the encoding of a public area: the type, nameAlg, the attributes, the policy, the parameters of
+-- the type, and the unique field
 unfoldable pub public_text : Public → List ℕ
 public_text p =
     object_type_text (object_type p) ++ to_be_bytes w16 (hash_number p.name_alg)
     ++ attributes_text p.attributes ++ sized_text p.auth_policy
     ++ parameters_text p.parameters ++ sized_text p.unique
 
--- A public area that can be encoded: its buffers are at most 32 bytes long, and no reserved bit is
--- set.
+-- A public area can be encoded if its buffers are at most 32 bytes long and no reserved bit is set.
 pub record IsPublic (p : Public) : Type 0 where
   pub attributes : IsAttributes p.attributes
   pub auth_policy : length p.auth_policy ≤ 32

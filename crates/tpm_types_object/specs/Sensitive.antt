@@ -8,14 +8,14 @@ use Rattle.tpm_types_object.specs.declared.sensitive.Sensitive.{Sensitive}
 use Rattle.tpm_types.specs.Buffer.{buffer_at}
 use Rattle.tpm_types_object.specs.Public.{object_type_at, object_type_text}
 
--- the encoding of a sensitive area: the type of the object, its authorization value with trailing
--- zeros, its seed or obfuscation value, and its key or data
+-- the encoding of a sensitive area: the type of the object, its authorization value including
+-- trailing zeros, its seed or obfuscation value, and its key or data
 unfoldable pub sensitive_text : Sensitive → List ℕ
 sensitive_text s =
     object_type_text s.object_type ++ sized_text s.auth_value ++ sized_text s.seed_value
     ++ sized_text s.sensitive
 
--- A sensitive area that can be encoded.
+-- A sensitive area can be encoded if its buffers are within these limits.
 pub record IsSensitive (s : Sensitive) : Type 0 where
   pub auth_value : length s.auth_value ≤ 32
   pub seed_value : length s.seed_value ≤ 32

@@ -8,8 +8,8 @@ use Rattle.tpm_types.specs.declared.rc.Rc.{Rc}
 use Rattle.tpm_types_object.specs.declared.sensitive_create.SensitiveCreate.{SensitiveCreate}
 use Rattle.tpm_types.specs.Buffer.{buffer_at}
 
--- the values that a caller provides, regardless of where they are in memory (`data` of the
--- standard is a keyword of this language)
+-- the values that a caller provides, regardless of where they are in memory. The field `data` is
+-- quoted because this word is a keyword
 pub record SensitiveValues : Type 0 where
   pub user_auth : List ℕ
   pub «data» : List ℕ
@@ -22,12 +22,12 @@ sensitive_values_of s = record { user_auth = s.user_auth.now; «data» = s.«dat
 abbrev pub sensitive_create_text : SensitiveValues → List ℕ
 sensitive_create_text s = sized_text s.user_auth ++ sized_text s.«data»
 
--- A caller's values that can be encoded.
+-- The values that a caller provides can be encoded if they are within these limits.
 pub record IsSensitiveCreate (s : SensitiveValues) : Type 0 where
   pub user_auth : length s.user_auth ≤ 32
   pub «data» : length s.«data» ≤ sensitive_limit
 
--- a caller's values at the start of a text, and the rest of the text
+-- the values that a caller provides at the start of a text, and the rest of the text
 unfoldable pub sensitive_create_at : List ℕ → Result (SensitiveValues × List ℕ) Rc
 sensitive_create_at text = do
   user_auth ← buffer_at 32 text

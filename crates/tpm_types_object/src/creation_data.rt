@@ -11,8 +11,8 @@ use tpm_types::{
     Octets, PcrSelection, Rc, ResponseCode, hash_or_null_number, read_filled, read_hash_or_null,
 };
 
-/// Creation data, which record how an object was created: TPMS_CREATION_DATA of TPM 2.0 Library,
-/// Part 2, section 15.1.
+/// Creation data, which record how an object was created: TPMS_CREATION_DATA (Part 2, section
+/// 15.1).
 #[derive(Drop)]
 pub struct CreationData {
     pub pcr_select: PcrSelection,
@@ -33,8 +33,8 @@ impl CreationData {
     ghost use Rattle.tpm_types.specs.Filled.{filled_by};
     ghost use Rattle.tpm_types_object.specs.declared.creation_data.CreationData.{CreationData};
 
-    /// Reads creation data. The fault is INSUFFICIENT if they are truncated, else the first fault
-    /// of a field.
+    /// Reads creation data. Fails with INSUFFICIENT if they are truncated, or else with the first
+    /// fault of a field.
     pub fn read(text: &mut Cursor) -> Result<CreationData, Rc>
         // The result is the decoded value, or the first fault.
         ensures exact { Reads (λ creation. creation) (creation_data_at text.old)
@@ -50,8 +50,7 @@ impl CreationData {
         CreationData::read_fields(text)
     }
 
-    /// Reads creation data that fill a sized buffer (TPM2B). The faults are those of
-    /// [`read_filled`].
+    /// Reads creation data that fill a sized buffer (TPM2B). Fails like [`read_filled`].
     pub fn read_sized(text: &mut Cursor) -> Result<CreationData, Rc>
         ensures exact { Reads (λ creation. creation) (filled_by creation_data_at text.old) text.old
             result text.new }
@@ -92,7 +91,7 @@ impl CreationData {
         })
     }
 
-    /// The encoding of the creation data, in a buffer with space for the longest.
+    /// The encoding of the creation data, in a buffer that fits the longest encoding.
     #[tactic(auto, unfolding(crate::specs::CreationData::creation_data_text))]
     pub fn text(&self) -> Sink<245>
         ensures { result ≡ creation_data_text self.now }
@@ -108,7 +107,7 @@ impl CreationData {
         text
     }
 
-    /// Appends the creation data, at most 245 bytes. If they do not fit, writes nothing and
+    /// Appends the encoded creation data, at most 245 bytes. If they do not fit, writes nothing and
     /// returns an error.
     pub fn write<const N: usize>(&self, sink: &mut Sink<N>) -> Result<(), Full>
         ensures written { Puts N (creation_data_text self.now) sink.old result sink.new }

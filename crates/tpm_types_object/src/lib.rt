@@ -4,9 +4,9 @@
 //! attributes of objects, the values that a caller provides for a new object, and creation data.
 //!
 //! The crate uses `tpm_types` for the structures in these areas. A read returns the value, or the
-//! first fault as the standard's response code for it; a read or write that fails changes nothing.
-//! Each value of a structure has exactly one encoding, and nothing else decodes to it. No call
-//! here allocates memory.
+//! standard's response code for the first fault. A read or write that fails changes nothing. Each
+//! value of a structure has exactly one encoding, and no other bytes decode to it. No function of
+//! this crate allocates memory.
 
 pub mod creation_data;
 pub mod object_attributes;

@@ -7,11 +7,11 @@ use std::marker::Model;
 use tpm_bytes::Cursor;
 use tpm_types::{Rc, read_attribute_bits};
 
-/// The bits, of 32, that are not used for attributes.
+/// The bits of the 32-bit field that are not used for attributes.
 const RESERVED_BITS: u32 = 0xfff8_f309;
 
-/// An attribute of an object; its value is its bit: TPMA_OBJECT of TPM 2.0 Library, Part 2,
-/// section 8.3.
+/// An attribute of an object (TPMA_OBJECT, Part 2, section 8.3). Its value is the number of its
+/// bit.
 #[derive(Clone, Copy, PartialEq, Eq)]
 pub enum ObjectAttribute {
     FixedTpm = 1,
@@ -30,7 +30,7 @@ pub enum ObjectAttribute {
 impl ObjectAttribute {
     ghost use Rattle.tpm_types_object.specs.ObjectAttributes.{attribute_bit};
 
-    /// The bit of the attribute.
+    /// The number of the attribute's bit.
     pub fn bit(self) -> u32
         ensures value { result ≡ attribute_bit self }
         ensures small { result < 32 }
@@ -39,7 +39,7 @@ impl ObjectAttribute {
     }
 }
 
-/// The attributes of an object, one bit each; no other bit is set. In contracts they are the
+/// The attributes of an object, one bit each. No other bit is set. Contracts represent them by the
 /// number that these bits form.
 #[derive(Clone, Copy, PartialEq, Eq)]
 pub struct ObjectAttributes {
@@ -85,8 +85,8 @@ impl ObjectAttributes {
         (self.bits >> attribute.bit()) & 1 == 1
     }
 
-    /// Reads attributes. The fault is INSUFFICIENT if they are truncated, RESERVED_BITS if a bit
-    /// is set that is not used for an attribute.
+    /// Reads attributes. Fails with INSUFFICIENT if they are truncated, or with RESERVED_BITS if a
+    /// bit is set that is not used for an attribute.
     pub fn read(text: &mut Cursor) -> Result<ObjectAttributes, Rc>
         ensures { Reads (λ attributes. attributes) (attributes_at text.old) text.old
             result text.new }

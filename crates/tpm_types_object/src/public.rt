@@ -12,7 +12,7 @@ use tpm_types::{
     Octets, Rc, ResponseCode, SymmetricDefinition, hash_number, read_filled, read_hash,
 };
 
-/// The type of an object: TPMI_ALG_PUBLIC of TPM 2.0 Library, Part 2, section 12.2.2.
+/// The type of an object: TPMI_ALG_PUBLIC (Part 2, section 12.2.2).
 #[derive(Clone, Copy, PartialEq, Eq)]
 pub enum ObjectType {
     /// TPM_ALG_KEYEDHASH: an HMAC key or sealed data.
@@ -45,7 +45,7 @@ impl ObjectType {
         }
     }
 
-    /// Reads an object type. The fault is INSUFFICIENT if it is truncated, TYPE if it is not
+    /// Reads an object type. Fails with INSUFFICIENT if it is truncated, or with TYPE if it is not
     /// supported.
     #[tactic(auto, unfolding(crate::specs::Public::object_type_at))]
     pub fn read(text: &mut Cursor) -> Result<ObjectType, Rc>
@@ -63,7 +63,7 @@ impl ObjectType {
     }
 }
 
-/// The scheme of a KEYEDHASH object, which restricts how it may be used: TPMT_KEYEDHASH_SCHEME
+/// The scheme of a KEYEDHASH object, which restricts the use of the object: TPMT_KEYEDHASH_SCHEME
 /// (Part 2, section 11.1).
 #[derive(Clone, Copy, PartialEq, Eq)]
 pub enum KeyedHashScheme {
@@ -76,8 +76,8 @@ pub enum KeyedHashScheme {
 impl KeyedHashScheme {
     ghost use Rattle.tpm_types_object.specs.Public.{scheme_at, scheme_text};
 
-    /// Reads a scheme. The fault is INSUFFICIENT if it is truncated, SCHEME if it is neither NULL
-    /// nor HMAC, HASH if the hash algorithm of HMAC is not supported.
+    /// Reads a scheme. Fails with INSUFFICIENT if it is truncated, with SCHEME if it is neither
+    /// NULL nor HMAC, or with HASH if the hash algorithm of HMAC is not supported.
     #[tactic(auto, unfolding(crate::specs::Public::scheme_at))]
     pub fn read(text: &mut Cursor) -> Result<KeyedHashScheme, Rc>
         ensures { Reads (λ scheme. scheme) (scheme_at text.old) text.old result text.new }
@@ -95,8 +95,8 @@ impl KeyedHashScheme {
         Ok(scheme)
     }
 
-    /// Appends the scheme, at most four bytes. If it does not fit, writes nothing and returns an
-    /// error.
+    /// Appends the encoded scheme, at most four bytes. If it does not fit, writes nothing and
+    /// returns an error.
     #[tactic(auto, unfolding(crate::specs::Public::scheme_text))]
     pub fn write<const N: usize>(self, sink: &mut Sink<N>) -> Result<(), Full>
         ensures written { Puts N (scheme_text self) sink.old result sink.new }
@@ -107,7 +107,7 @@ impl KeyedHashScheme {
         sink.put(text.as_slice())
     }
 
-    /// Appends the scheme. The sink must have room for the longest scheme, four bytes.
+    /// Appends the encoded scheme. The sink must have room for the longest one, four bytes.
     #[tactic(auto, unfolding(crate::specs::Public::scheme_text))]
     pub fn append_to<const N: usize>(self, sink: &mut Sink<N>)
         requires { length sink.old + 4 ≤ N }
@@ -146,8 +146,8 @@ impl PublicParameters {
         }
     }
 
-    /// Reads the parameters of an object of this type. The fault is the first fault of its scheme
-    /// or cipher.
+    /// Reads the parameters of an object of this type. Fails with the first fault of the scheme or
+    /// cipher.
     pub fn read(kind: ObjectType, text: &mut Cursor) -> Result<PublicParameters, Rc>
         ensures { Reads (λ parameters. parameters) (parameters_at kind text.old) text.old
             result text.new }
@@ -158,7 +158,7 @@ impl PublicParameters {
         }
     }
 
-    /// Reads the cipher of a storage key.
+    /// Reads the cipher of a SYMCIPHER object.
     #[tactic(auto, unfolding(crate::specs::Public::sym_cipher_at))]
     fn read_cipher(text: &mut Cursor) -> Result<PublicParameters, Rc>
         ensures { Reads (λ parameters. parameters) (sym_cipher_at text.old) text.old
@@ -168,8 +168,8 @@ impl PublicParameters {
         Ok(PublicParameters::SymCipher)
     }
 
-    /// Appends the parameters, at most six bytes. If they do not fit, writes nothing and returns
-    /// an error.
+    /// Appends the encoded parameters, at most six bytes. If they do not fit, writes nothing and
+    /// returns an error.
     #[tactic(auto, unfolding(tpm_types::specs::Symmetric::symmetric_text))]
     pub fn write<const N: usize>(self, sink: &mut Sink<N>) -> Result<(), Full>
         ensures written { Puts N (parameters_text self) sink.old result sink.new }
@@ -181,7 +181,7 @@ impl PublicParameters {
         }
     }
 
-    /// Appends the parameters. The sink must have room for the longest parameters, six bytes.
+    /// Appends the encoded parameters. The sink must have room for the longest ones, six bytes.
     #[tactic(auto, unfolding(tpm_types::specs::Symmetric::symmetric_text))]
     pub fn append_to<const N: usize>(self, sink: &mut Sink<N>)
         requires { length sink.old + 6 ≤ N }
@@ -211,8 +211,8 @@ impl Public {
     ghost use Rattle.tpm_types.specs.Filled.{filled_by};
     ghost use Rattle.tpm_types_object.specs.declared.public.Public.{Public};
 
-    /// Reads a public area. The fault is INSUFFICIENT if it is truncated, else the first fault of
-    /// a field.
+    /// Reads a public area. Fails with INSUFFICIENT if it is truncated, or else with the first
+    /// fault of a field.
     pub fn read(text: &mut Cursor) -> Result<Public, Rc>
         // The result is the decoded value, or the first fault.
         ensures exact { Reads (λ public. public) (public_at text.old) text.old result text.new }
@@ -227,8 +227,7 @@ impl Public {
         Public::read_fields(text)
     }
 
-    /// Reads a public area that fills a sized buffer (TPM2B). The faults are those of
-    /// [`read_filled`].
+    /// Reads a public area that fills a sized buffer (TPM2B). Fails like [`read_filled`].
     pub fn read_sized(text: &mut Cursor) -> Result<Public, Rc>
         ensures exact { Reads (λ public. public) (filled_by public_at text.old) text.old
             result text.new }
@@ -283,7 +282,7 @@ impl Public {
         }
     }
 
-    /// The encoding of the public area, in a buffer with space for the longest.
+    /// The encoding of the public area, in a buffer that fits the longest encoding.
     #[tactic(auto, unfolding(crate::specs::Public::public_text))]
     pub fn text(&self) -> Sink<82>
         ensures { result ≡ public_text self.now }
@@ -298,8 +297,8 @@ impl Public {
         text
     }
 
-    /// Appends the public area, at most 82 bytes. If it does not fit, writes nothing and returns
-    /// an error.
+    /// Appends the encoded public area, at most 82 bytes. If it does not fit, writes nothing and
+    /// returns an error.
     pub fn write<const N: usize>(&self, sink: &mut Sink<N>) -> Result<(), Full>
         ensures written { Puts N (public_text self.now) sink.old result sink.new }
         ensures small { length (public_text self.now) ≤ 82 }

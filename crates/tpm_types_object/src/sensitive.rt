@@ -9,13 +9,13 @@ use crate::public::ObjectType;
 use tpm_bytes::{Cursor, Full, Readable, Sink};
 use tpm_types::{Octets, Rc, SENSITIVE_LIMIT, read_filled};
 
-/// The sensitive area of an object: TPMT_SENSITIVE of TPM 2.0 Library, Part 2, section 12.3.2.4.
+/// The sensitive area of an object: TPMT_SENSITIVE (Part 2, section 12.3.2.4).
 #[derive(Drop)]
 pub struct Sensitive {
     pub object_type: ObjectType,
     /// The authorization value as it is encoded, including its trailing zeros.
     pub auth_value: Octets<32>,
-    /// The seed of a storage key; in any other object, the value that hides `sensitive` in the
+    /// In a storage key, its seed. In any other object, the value that hides `sensitive` in the
     /// public area.
     pub seed_value: Octets<32>,
     /// The key or the sealed data.
@@ -27,8 +27,8 @@ impl Sensitive {
     ghost use Rattle.tpm_types.specs.Filled.{filled_by};
     ghost use Rattle.tpm_types_object.specs.declared.sensitive.Sensitive.{Sensitive};
 
-    /// Reads a sensitive area. The fault is INSUFFICIENT if it is truncated, TYPE if its type is
-    /// not supported, SIZE if a buffer is too long.
+    /// Reads a sensitive area. Fails with INSUFFICIENT if it is truncated, with TYPE if its type is
+    /// not supported, or with SIZE if a buffer is too long.
     pub fn read(text: &mut Cursor) -> Result<Sensitive, Rc>
         // The result is the decoded value, or the first fault.
         ensures exact { Reads (λ area. area) (sensitive_at text.old) text.old result text.new }
@@ -43,8 +43,7 @@ impl Sensitive {
         Sensitive::read_fields(text)
     }
 
-    /// Reads a sensitive area that fills a sized buffer (TPM2B). The faults are those of
-    /// [`read_filled`].
+    /// Reads a sensitive area that fills a sized buffer (TPM2B). Fails like [`read_filled`].
     pub fn read_sized(text: &mut Cursor) -> Result<Sensitive, Rc>
         ensures exact { Reads (λ area. area) (filled_by sensitive_at text.old) text.old
             result text.new }
@@ -88,7 +87,7 @@ impl Sensitive {
         }
     }
 
-    /// The encoding of the sensitive area, in a buffer with space for the longest.
+    /// The encoding of the sensitive area, in a buffer that fits the longest encoding.
     #[inline(never)]
     #[tactic(auto, unfolding(crate::specs::Sensitive::sensitive_text))]
     pub fn text(&self) -> Sink<200>
@@ -104,8 +103,8 @@ impl Sensitive {
         text
     }
 
-    /// Appends the sensitive area, at most 200 bytes. If it does not fit, writes nothing and
-    /// returns an error.
+    /// Appends the encoded sensitive area, at most 200 bytes. If it does not fit, writes nothing
+    /// and returns an error.
     pub fn write<const N: usize>(&self, sink: &mut Sink<N>) -> Result<(), Full>
         ensures written { Puts N (sensitive_text self.now) sink.old result sink.new }
         ensures small { length (sensitive_text self.now) ≤ 200 }

@@ -10,8 +10,8 @@ ghost use Rattle.tpm_types.specs.Filled.{filled_by};
 use tpm_bytes::{Cursor, Readable, Sink};
 use tpm_types::{Rc, SENSITIVE_LIMIT, read_buffer, read_filled};
 
-/// The values that a caller provides for a new object's sensitive area: TPMS_SENSITIVE_CREATE of
-/// TPM 2.0 Library, Part 2, section 11.1.15.
+/// The values that a caller provides for a new object's sensitive area: TPMS_SENSITIVE_CREATE (Part
+/// 2, section 11.1.15).
 #[derive(Clone, Copy)]
 pub struct SensitiveCreate<'a> {
     pub user_auth: &'a [u8],
@@ -24,7 +24,8 @@ impl<'a> SensitiveCreate<'a> {
     ghost use Rattle.tpm_types_object.specs.SensitiveCreate.{IsSensitiveCreate, SensitiveValues, sensitive_create_at};
     ghost use Rattle.tpm_types_object.specs.SensitiveCreate.{sensitive_create_text, sensitive_values_of};
 
-    /// Reads the values. The fault is INSUFFICIENT if they are truncated, SIZE if one is too long.
+    /// Reads the values. Fails with INSUFFICIENT if they are truncated, or with SIZE if one is too
+    /// long.
     pub fn read(text: &mut Cursor<'a>) -> Result<SensitiveCreate<'a>, Rc>
         // The result is the decoded values, or the first fault.
         ensures exact { Reads sensitive_values_of (sensitive_create_at text.old) text.old
@@ -41,7 +42,7 @@ impl<'a> SensitiveCreate<'a> {
         SensitiveCreate::read_fields(text)
     }
 
-    /// Reads values that fill a sized buffer (TPM2B). The faults are those of [`read_filled`].
+    /// Reads values that fill a sized buffer (TPM2B). Fails like [`read_filled`].
     pub fn read_sized(text: &mut Cursor<'a>) -> Result<SensitiveCreate<'a>, Rc>
         ensures exact { Reads sensitive_values_of (filled_by sensitive_create_at text.old) text.old
             result text.new }
@@ -68,7 +69,7 @@ impl<'a> SensitiveCreate<'a> {
         Ok(SensitiveCreate { user_auth, data })
     }
 
-    /// The encoding of the values, in a buffer with space for the longest.
+    /// The encoding of the values, in a buffer that fits the longest encoding.
     pub fn text(&self) -> Sink<164>
         ensures { result ≡ sensitive_create_text (sensitive_values_of self.now) }
     {

@@ -1,5 +1,5 @@
-//! Writes a whole command. Computes commandSize, and refuses a command that cannot be encoded or
-//! does not fit.
+//! Writes a whole command. Computes commandSize, and reports an error for a command that cannot be
+//! encoded or does not fit.
 
 ghost use Rattle.std.specs.Prelude.{◌≡◌, ◌+◌, ◌*◌, ◌≤◌, ◌++◌, length, map, IfSome};
 ghost use Rattle.std.specs.List.{AllByRecursion};
@@ -19,8 +19,7 @@ use tpm_commands::CommandCode;
 use tpm_types::Handle;
 
 impl Command<'_> {
-    /// The tag of the command: TPM_ST_SESSIONS if the command has entries, TPM_ST_NO_SESSIONS if
-    /// not.
+    /// The tag of the command: TPM_ST_SESSIONS if it has entries, and TPM_ST_NO_SESSIONS if not.
     pub fn tag(&self) -> Tag
         ensures { result ≡ tag_for (map entry_of self.now.entries.items) }
     {
@@ -44,8 +43,9 @@ impl Command<'_> {
         Some(size)
     }
 
-    /// Appends the command. If it does not fit, if a size does not fit in two bytes, or if the
-    /// total length does not fit in four bytes, writes nothing and returns an error.
+    /// Appends the encoded command. If it does not fit, if one of its sizes does not fit in two
+    /// bytes, or if its total length does not fit in four bytes, writes nothing and returns an
+    /// error.
     pub fn write<const N: usize>(&self, sink: &mut Sink<N>) -> Result<(), Full>
         ensures { PutsCommand N (whole_of self.now) sink.old result sink.new }
     {

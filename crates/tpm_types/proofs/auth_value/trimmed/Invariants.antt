@@ -2,8 +2,8 @@ use Rattle.std.proofs.Common.{◌≡◌, ◌≤◌, length, take}
 use Rattle.tpm_types.specs.AuthValue.{trimmed}
 use Rattle.tpm_types.proofs.auth_value.trimmed.Given as goal
 
--- The bytes after the prefix are zeros, so trimming the prefix has the same result as trimming all
--- bytes.
+-- All bytes after the prefix are zeros. Therefore trimming the prefix has the same result as
+-- trimming all bytes.
 abbrev pub invariant-loop-size : goal.invariant-loop-size
 invariant-loop-size l = (l.size ≤ length l.bytes) × (trimmed (take l.size l.bytes) ≡ trimmed l.bytes)
 

@@ -2,7 +2,7 @@ use Rattle.std.proofs.Common.{◌≡◌, ◌+◌, ◌*◌, ◌≤◌, ◌++◌, 
 use Rattle.tpm_types.specs.DigestList.{digests_of, digests_text}
 use Rattle.tpm_types.proofs.digest_list.append_digests.Given as goal
 
--- The digests so far have been written, each in at most 34 bytes.
+-- The loop has written the digests before this index, each in at most 34 bytes.
 abbrev pub invariant-loop-digest : goal.invariant-loop-digest
 invariant-loop-digest g l = record {
   so_far : l.sink ≡ l.fn.sink ++ digests_text (digests_of (take l.digest-index l.digests));

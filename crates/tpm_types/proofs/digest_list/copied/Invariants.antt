@@ -2,7 +2,7 @@ use Rattle.std.proofs.Common.{◌≡◌, ◌≤◌, length, map, take}
 use Rattle.tpm_types.specs.DigestList.{digests_of}
 use Rattle.tpm_types.proofs.digest_list.copied.Given as goal
 
--- The digests so far have been copied.
+-- The loop has copied the digests before this index.
 abbrev pub invariant-loop-one : goal.invariant-loop-one
 invariant-loop-one l = record {
   so_far : digests_of l.digests.items ≡ map (λ one. one.bytes.now) (take l.one-index l.listed);

@@ -2,7 +2,7 @@ use Rattle.std.proofs.Common.{◌≡◌, ◌+◌, ◌*◌, ◌≤◌, ◌++◌, 
 use Rattle.tpm_types.specs.DigestValues.{values_text}
 use Rattle.tpm_types.proofs.digest_values.append_values.Given as goal
 
--- The digests so far have been written, each in at most 34 bytes.
+-- The loop has written the digests before this index, each in at most 34 bytes.
 abbrev pub invariant-loop-value : goal.invariant-loop-value
 invariant-loop-value g l = record {
   so_far : l.sink ≡ l.fn.sink ++ values_text (take l.value-index l.values);

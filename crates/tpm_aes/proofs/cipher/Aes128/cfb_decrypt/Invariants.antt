@@ -3,7 +3,7 @@ use Rattle.tpm_aes.proofs.TextBlocks.{IsDoneTo}
 use Rattle.tpm_aes.proofs.cipher.Aes128.cfb_decrypt.Given as goal
 use Rattle.tpm_aes.specs.Cfb.{block_before, plain_block}
 
--- the blocks so far are decrypted; the last of them, if it was full, is fed back
+-- the blocks before this index are decrypted; the last of them, if it was full, is fed back
 abbrev pub invariant-loop-index : goal.invariant-loop-index
 invariant-loop-index l =
     IsDoneTo (plain_block l.self l.iv l.initial.text) l.initial.text l.text l.index

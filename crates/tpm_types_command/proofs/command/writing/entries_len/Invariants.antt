@@ -4,7 +4,7 @@ use Rattle.tpm_types_command.specs.AuthEntry.{HasSizes, entry_of}
 use Rattle.tpm_types_command.proofs.EntriesLemmas.{text_in}
 use Rattle.tpm_types_command.proofs.command.writing.entries_len.Given as goal
 
--- The encodings of the entries so far have this total size.
+-- `bytes` is the total size of the encoded entries before this index.
 abbrev pub invariant-loop-entry : goal.invariant-loop-entry
 invariant-loop-entry l = record {
   so_far : l.bytes ≡ length (flat_map text_in (take l.entry-index l.entries));

@@ -4,7 +4,7 @@ use Rattle.tpm_types_command.specs.AuthEntry.{HasSizes, entry_of}
 use Rattle.tpm_types_command.proofs.EntriesLemmas.{text_in}
 use Rattle.tpm_types_command.proofs.command.writing.write_entries.Given as goal
 
--- The entries so far have been written, and there is room for all of them.
+-- The loop has written the entries before this index, and the sink has room for all entries.
 abbrev pub invariant-loop-entry : goal.invariant-loop-entry
 invariant-loop-entry g l = record {
   so_far : l.sink ≡ l.fn.sink ++ flat_map text_in (take l.entry-index l.entries);
