@@ -1,4 +1,4 @@
-//! A device and its completing layer execute the entries of a text again.
+//! Executes the entries of a text again, on a device with its completing layer.
 
 ghost use Rattle.std.specs.Prelude.{◌≡◌, ◌≤◌, length};
 ghost use Rattle.tpm_completion.specs.Execution.{seen_of};
@@ -24,15 +24,15 @@ pub enum FollowFault {
     Otherwise,
 }
 
-/// How much of a text was followed.
+/// The result of executing the entries of a text.
 #[derive(Clone, Copy, PartialEq, Eq)]
 pub struct Followed {
-    /// The size of the entries that were executed.
+    /// The total size of the executed entries, in bytes.
     pub taken: usize,
     pub fault: Option<FollowFault>,
 }
 
-/// What was done with the beginning of a text.
+/// The result of processing the beginning of a text.
 #[derive(Clone, Copy)]
 pub(crate) enum Deed<'a> {
     /// The entry, whose text is `size` bytes long, was executed, and the answer matches the
@@ -41,7 +41,7 @@ pub(crate) enum Deed<'a> {
     /// The entry, whose text is `size` bytes long, was executed, and the answer differs from the
     /// entry.
     Otherwise { entry: Entry<'a>, size: usize },
-    /// The text is torn: it is less than an entry, possibly followed by zeros.
+    /// The text is torn: it is only a part of an entry, possibly followed by zeros.
     Torn,
     /// The text is damaged.
     Damaged,
@@ -79,8 +79,8 @@ fn padded(drawn: &[u8]) -> [u8; 256]
 }
 
 impl Journal {
-    /// Executes the entry at the beginning of a text. Stores the entry's bytes in the first
-    /// buffer, and writes its text to the second for comparison.
+    /// Executes the entry at the beginning of a text. `bytes` stores the entry's bytes; `room` is a
+    /// buffer for the text that the entry should have, which is compared with `text`.
     pub(crate) fn follow_one<'a, K: Keep>(
         &mut self,
         machine: &mut Machine<K>,

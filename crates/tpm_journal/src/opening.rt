@@ -1,4 +1,4 @@
-//! How a device is opened from a journal.
+//! Opens a device from a journal.
 
 ghost use Rattle.std.specs.Prelude.{◌≡◌, false, option_copied, replicate};
 ghost use Rattle.tpm_image_text.specs.Image.{image_of};
@@ -64,7 +64,7 @@ fn open_image<K: Keep>(machine: &mut Machine<K>, head: &Head) -> Result<Journal,
 }
 
 /// Restores the device from the state text in a head, in a machine just manufactured with zeros. A
-/// text of version 1 is refused: its entries were answered by another completing layer.
+/// text of version 1 is refused, because its entries were answered by another completing layer.
 fn open_state<K: Keep>(machine: &mut Machine<K>, head: &Head) -> Result<Journal, OpenFault>
     requires new { state_of K.record_of machine.old ≡ manufactured (replicate 256 0) }
     requires never_refused { K.can_refuse ≡ false }
