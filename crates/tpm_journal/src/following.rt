@@ -41,7 +41,7 @@ pub(crate) enum Deed<'a> {
     /// The entry, whose text is `size` bytes long, was executed, and the answer differs from the
     /// entry.
     Otherwise { entry: Entry<'a>, size: usize },
-    /// The text is torn: it is only a part of an entry, possibly followed by zeros.
+    /// The text is torn: it is shorter than an entry, not counting zeros at its end.
     Torn,
     /// The text is damaged.
     Damaged,
