@@ -32,7 +32,7 @@ abbrev pub EntryMeansIt : Type 0
 EntryMeansIt = (sum : ℕ) (e : PlainEntry) (rest : List ℕ) → IsEntry e
     → meanings_of (entry_text sum e ++ rest) ≡ entry_meanings e (meanings_of rest)
 
--- The two lines of a head have no effect, whatever follows.
+-- The two lines of a head have no effect in a script, whatever follows.
 abbrev pub HeadMeansNothing : Type 0
 HeadMeansNothing = (kind : HeadKind) (clock : ℕ) (content rest : List ℕ)
     → meanings_of (head_text kind clock content ++ rest)

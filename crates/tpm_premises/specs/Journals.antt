@@ -18,7 +18,7 @@ given_command = record {
   random = zeros;
 }
 
--- the step of this command on a device on which the index exists, and its effect
+-- the step of this command on a device on which the index exists; below, the command's effect
 abbrev pub refusal_step : Stepped
 refusal_step = step (tried 0 0 0) (wrong_after 0)
 
