@@ -7,7 +7,7 @@ use Rattle.tpm_completion.specs.Listing.{text_of, told_text}
 use Rattle.tpm_actions_capability.specs.declared.element.Element.{Element}
 use Rattle.tpm_completion.specs.declared.listing.Form.{Form}
 
--- after an element is written, one element less may be written
+-- after an element is written, one element fewer may be written
 pub told_one : (form : Form) (from left : ℕ) (text new : List ℕ) (e : Element) (es : List Element) → left ≢ 0 → is_from from e ≡ true → new ≡ text ++ told_text form e → new ++ text_of form from (left - 1) es ≡ text ++ text_of form from left (e ∷ es)
 told_one form from zero text new e es some is told = absurd (some refl)
 told_one form from (suc left) text new e es some is told =

@@ -30,8 +30,9 @@ asked_at text = do
   ended ← refused_if (not (length count.1 == 0)) too_short
   Ok (record { capability = capability.0; property = property.0; count = count.0 })
 
--- ---- algorithms, with their attributes: symmetric is 2, hash 4, object 8, signing 100, encrypting
--- 200 and method 400
+-- ---- algorithms
+-- an algorithm's attributes: symmetric is 2, hash 4, object 8, signing 100, encrypting 200, and
+-- method 400
 
 abbrev pub algorithm_elements : List Element
 algorithm_elements =

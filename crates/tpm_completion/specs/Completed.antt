@@ -25,7 +25,7 @@ abbrev pub loaded_behind : Seen → Result Object ContextFault → Seen
 loaded_behind first (Ok object) = placed_behind first (step first.step.after (Placed object))
 loaded_behind first (Err fault) = unopened_behind first fault
 
--- the effect after the device's execution of a command: the context of an object is loaded, or the
+-- the effect after the device has executed a command: the context of an object is loaded, or the
 -- layer may answer
 abbrev pub done_behind : Seen → (buffer : List ℕ) → Option (List ℕ) → Seen
 done_behind first buffer (Some context) = loaded_behind first (opened_behind first context)

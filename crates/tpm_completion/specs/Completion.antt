@@ -1,4 +1,4 @@
--- The state of the completing layer about the sessions of a device. TPM 2.0 Library, Part 1,
+-- What the completing layer remembers about the sessions of a device. TPM 2.0 Library, Part 1,
 -- section 30 (context management).
 use Rattle.std.specs.Prelude.{ℕ, get_or, is_some, map, replicate, if◌then◌else◌}
 use Rattle.tpm_bytes.specs.Numbers.{numbers_below}

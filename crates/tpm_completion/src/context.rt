@@ -6,7 +6,7 @@ ghost use Rattle.tpm_completion.specs.Context.{context_text, mark, names_session
 use tpm_bytes::{Cursor, Short, Sink, is_equal};
 use tpm_types::Handle;
 
-/// The size of a token's contextBlob; and of its whole context, in bytes.
+/// The size of a token's contextBlob in bytes; below, of its whole context.
 const TOKEN_SIZE: usize = 20;
 
 pub const SESSION_CONTEXT_SIZE: usize = 38;

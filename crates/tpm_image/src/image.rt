@@ -67,7 +67,7 @@ pub fn open<K: Keep>(alloc: Global, text: &[u8]) -> Result<Machine<K>, ImageFaul
     ensures found { IfOk result (λ machine. (version : Version) × (kept : NonVolatile)
         × IsNonVolatile kept × IsImage version kept text.now
         × (state_of K.record_of machine ≡ powered_on kept)) }
-    // The image of a device, in either version, opens.
+    // The image of a device, in either version, can be opened.
     ensures only { (version : Version) (r : Record) → IsRecord r
         → IsImage version (kept_of r) text.now
         → OpensAgain (state_of K.record_of) (K.empty_can_refuse || K.can_refuse) r result }

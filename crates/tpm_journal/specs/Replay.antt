@@ -1,4 +1,4 @@
--- The execution of a text's entries again.
+-- Executing the entries of a text again.
 use Rattle.std.specs.Prelude.{◌≡◌, ◌≢◌, ℕ, ◌≤◌, Bool, List, [], ◌∷◌, ◌++◌, drop, length, map, take, Option, Some, None}
 use Rattle.std.specs.List.{AllByRecursion}
 use Rattle.tpm_completion.specs.Execution.{Seen}

@@ -18,7 +18,7 @@ use tpm_types::Locality;
 /// The reasons why the execution of a text's entries stopped early.
 #[derive(Clone, Copy, PartialEq, Eq)]
 pub enum FollowFault {
-    /// The text continues neither with an entry nor with the remains of one after a crash.
+    /// The text continues neither with an entry nor with a part of one that a crash left.
     Damaged,
     /// The device's answer to the last entry differs from the one recorded in the entry.
     Otherwise,

@@ -168,7 +168,7 @@ impl Journal {
             take result room.new ≡ entry_text self.old.sum (entry_of c seen) }
         ensures fits { result ≤ length room.new }
 
-        // The written text is that of an entry, which can be read again.
+        // The written text is the text of an entry, which can be read again.
         ensures entry { let c = command_at buffer.now (locality_number locality)
             (elapsed_of now_ms self.old.time) completes random.now in
             let seen = seen_of K.record_of machine.new self.new.layer outcome.new in

@@ -30,9 +30,9 @@ ghost use Rattle.tpm_record.specs.Record.{Record};
 ghost use Rattle.tpm_state_text.specs.Body.{IsWholeState, WholeState};
 ghost use Rattle.tpm_state_text.specs.State.{state_text};
 
-/// Executing the entries of a live device and its layer again gives the same answers, and leads to
-/// the same layer and record. Random bytes that a command did not draw have no effect. This
-/// function only states the law, and does nothing at run time.
+/// Executing the entries of a live device and its layer again yields the same answers, layer and
+/// record. Random bytes that a command did not draw have no effect. This function only states the
+/// law, and does nothing at run time.
 #[inline(always)]
 #[tactic(auto, using(crate::proofs::Ignoring::lives_alike))]
 pub fn living_laws()
@@ -53,10 +53,10 @@ pub fn following_laws()
         → IsFollowedWhole before entries layer final followed after new }
 {}
 
-/// The journal that starts with a head. The image of a device starts a new journal, with a power
-/// cycle of the device. A state text starts a journal in which the device and the layer continue
+/// The journal that a head starts. The image of a device starts a new journal, with a power cycle
+/// of the device. A state text starts a journal in which the device and the layer continue
 /// unchanged. A checkpoint starts the journal that was checkpointed, with its layer and its device.
-/// This function only states the law, and does nothing at run time.
+/// This function only states the laws, and does nothing at run time.
 #[inline(always)]
 #[tactic(auto, using(crate::proofs::Starts::image_starts, crate::proofs::Starts::state_starts, crate::proofs::Starts::checkpoint_starts))]
 pub fn starting_laws()
@@ -76,8 +76,8 @@ pub fn starting_laws()
 {}
 
 /// A text consists of a head that starts a journal, entries, and perhaps an incomplete entry after
-/// a crash. If the device and its layer give the recorded answers, the text opens as the device and
-/// the layer after all complete entries.
+/// a crash. If the device and its layer give the recorded answers, opening the text yields the
+/// device and the layer after all complete entries.
 #[inline(always)]
 #[tactic(auto, using(crate::proofs::Again::opened_again))]
 pub fn opening_laws()
@@ -93,8 +93,8 @@ pub fn opening_laws()
         new }
 {}
 
-/// A checkpoint of a live device, followed by the entries of the commands that the device and its
-/// layer executed since, opens as this device and this layer.
+/// A text consists of a checkpoint of a live device, followed by the entries of the commands that
+/// the device and its layer executed since. Opening it yields this device and this layer.
 #[inline(always)]
 #[tactic(auto, using(crate::proofs::Starts::checkpoint_opened))]
 pub fn checkpoint_laws()

@@ -8,7 +8,7 @@ use Rattle.tpm_state_text.specs.declared.layer.Layer.{Layer}
 abbrev pub layer_of : Completion → Layer
 layer_of c = record { start = c.start; count = c.count; sessions = c.sessions }
 
--- the layer in a text; if the text contains no layer, a new layer with start 0
+-- the layer in a text; if the text contains no layer, a new layer with start number 0
 abbrev pub completion_of : Option Layer → Completion
 completion_of None = new_completion 0
 completion_of (Some layer) =

@@ -42,7 +42,7 @@ pub fn layer_of(completion: &Completion) -> Layer
     }
 }
 
-/// Returns the layer in a text; if the text contains none, a new layer with start 0.
+/// Returns the layer in a text; if the text contains none, a new layer with start number 0.
 pub fn completion_of(layer: Option<&Layer>) -> Completion
     ensures { result ≡ completion_of (option_copied layer.entry) }
 {

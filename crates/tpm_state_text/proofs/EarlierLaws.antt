@@ -1,5 +1,5 @@
 -- Version 1 of a state text: decoding returns a state exactly if the bytes are its body. Without
--- the objects that wait for their contexts, the state is possible for a device.
+-- the flushed objects that stayed in their slots, the state is possible for a device.
 use Rattle.std.proofs.Common.{◌≡◌, ℕ, zero, suc, ◌+◌, ◌<◌, ◌≤◌, Bool, true, false, List, [], ◌∷◌, length, slice_set, Option, Some, None, IfSome, Ok, refl, sym, ap, ◌∙◌, arith, length-append}
 use Rattle.std.specs.Prelude.{◌==◌, cond, is_some, option_map}
 use Rattle.std.specs.Int.{w64, to_be_bytes}
@@ -99,7 +99,7 @@ body_small s is =
 
 -- ---- the objects that wait
 
--- removing the waiting objects from one more slot
+-- removing the flushed object that stayed in one more slot
 pub without_more : (held : List Held) (objects so new : List (Option Object)) (n : ℕ) → so ≡ fold (without_one held) objects (numbers_below n) → new ≡ without_one held so n → new ≡ fold (without_one held) objects (numbers_below (n + 1))
 without_more held objects so new n is more =
     let next : n + 1 ≡ suc n = omega arith in

@@ -96,17 +96,18 @@ earlier_state_of_body text = filling earlier_body_in text
 abbrev pub not_held : Held
 not_held = record { context = 0; waits = 0 }
 
--- the slots after the object in one of them is removed, if it waits for its context
+-- the slots after the object in slot `place` is removed, if it was flushed and stayed there
 unfoldable pub without_one : List Held → List (Option Object) → (place : ℕ) → List (Option Object)
 without_one held objects place =
     if (get_or held place not_held).waits == 0 then objects
     else without_object objects (object_handle place)
 
--- the slots after all objects that wait for their contexts are removed
+-- the slots after all flushed objects that stayed in them are removed
 unfoldable pub without_waiting : List Held → List (Option Object) → List (Option Object)
 without_waiting held objects = fold (without_one held) objects (numbers_below object_limit)
 
--- the device without the objects that wait for their contexts; without a layer, no object waits
+-- the device without the flushed objects that stayed in their slots; without a layer, there are
+-- none
 abbrev pub device_of : Record → Option EarlierLayer → Record
 device_of device (Some layer) =
     record device { objects = without_waiting layer.objects device.objects }

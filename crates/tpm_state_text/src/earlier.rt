@@ -33,7 +33,7 @@ pub struct Held {
 /// The state of the completing layer in version 1.
 #[derive(Clone, Copy, PartialEq, Eq)]
 pub struct EarlierLayer {
-    /// The number of the layer's start.
+    /// The layer's start number.
     pub start: u64,
     /// The number of contexts and flushes that the layer counted.
     pub count: u64,
@@ -104,7 +104,7 @@ fn read_optional_layer(text: &mut Cursor) -> Result<Option<EarlierLayer>, Malfor
     Ok(layer)
 }
 
-/// Removes the object in a slot, if it was flushed and waits for its context.
+/// Removes the object in a slot, if it was flushed but stays there until its context is loaded.
 #[tactic(auto, unfolding(crate::specs::Earlier::without_one))]
 fn remove_one<O: Slots<Object, OBJECT_LIMIT>>(
     objects: &mut Objects<O>,
@@ -121,7 +121,7 @@ fn remove_one<O: Slots<Object, OBJECT_LIMIT>>(
     }
 }
 
-/// Removes the objects that were flushed and wait for their contexts.
+/// Removes the objects that were flushed but stay in their slots until their contexts are loaded.
 #[tactic(auto, unfolding(crate::specs::Earlier::without_waiting), using(crate::proofs::EarlierLaws::without_more))]
 fn remove_waiting<O: Slots<Object, OBJECT_LIMIT>>(objects: &mut Objects<O>, held: &[Held; 8])
     ensures { objects_of O.places objects.new
@@ -144,8 +144,8 @@ fn layer_of(layer: &EarlierLayer) -> Layer
     }
 }
 
-/// Reads a whole body of version 1 into a new `Keep`, and returns its layer. Leaves out flushed
-/// objects that wait for their contexts.
+/// Reads a whole body of version 1 into a new `Keep`, and returns its layer. Leaves out the objects
+/// that were flushed but stayed in their slots until their contexts were loaded.
 #[tactic(auto, unfolding(crate::specs::State::state_in_body, crate::specs::Earlier::earlier_state_of_body, crate::specs::Earlier::earlier_body_in))]
 pub fn read_earlier_body<K: Keep>(keep: &mut K, body: &[u8]) -> Result<Option<Layer>, FillFault>
     requires { K.record_of keep.old ≡ manufactured (replicate 256 0) }

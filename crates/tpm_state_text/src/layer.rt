@@ -18,7 +18,7 @@ use tpm_types::SESSION_LIMIT;
 /// The state of the completing layer.
 #[derive(Clone, Copy, PartialEq, Eq)]
 pub struct Layer {
-    /// The number of the layer's start.
+    /// The layer's start number.
     pub start: u64,
     /// The sequence number of the latest context.
     pub count: u64,

@@ -13,8 +13,8 @@
 //! [`resume_new`] reads only version 2. They allocate memory only for the state itself.
 //!
 //! Decoding the state text of a device returns exactly that device. Decoding succeeds only on the
-//! text of a possible device; from version 1, it leaves out flushed objects that wait for their
-//! contexts. No proper prefix of a state text is a state text ([`laws`]).
+//! text of a possible device; from version 1, it leaves out flushed objects that stayed in their
+//! slots. No proper prefix of a state text is a state text ([`laws`]).
 
 mod banks;
 mod bindings;

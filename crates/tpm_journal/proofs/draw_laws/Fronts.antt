@@ -22,7 +22,7 @@ module _ {X : Type 0} (n : ℕ) (xs ys : List X) (same : take n ys ≡ take n xs
   pub shorter : (d : ℕ) → d ≤ n → take d ys ≡ take d xs
   shorter d le = sym (take_twice d n ys le) ∙ ap (λ l. take d l) same ∙ take_twice d n xs le
 
-  -- equal parts of a common prefix are equal
+  -- the lists agree on each part of the common prefix
   pub part : (skipped count : ℕ) → skipped + count ≤ n → take count (drop skipped ys) ≡ take count (drop skipped xs)
   part skipped count le =
       sym (drop-take skipped count ys) ∙ ap (λ l. drop skipped l) (shorter (skipped + count) le) ∙ drop-take skipped count xs

@@ -80,7 +80,7 @@ acts_same : (random other : List ℕ) (acts : Result Success Refused) → ActsAl
 acts_same random other (Ok s) = λ same. refl
 acts_same random other (Err e) = refl
 
--- results still act alike after a step that reads no random bytes
+-- results are still alike after a step that reads no random bytes
 after : {A : Type 0} (random other : List ℕ) (x : Result A Refused) (f g : A → Result Success Refused)
     → ((a : A) → ActsAlike random other (f a) (g a)) → ActsAlike random other (x >>= f) (x >>= g)
 after random other x f g alike = alike_after random other (λ s. s.answer.drawn) (λ s. s) x f g alike
