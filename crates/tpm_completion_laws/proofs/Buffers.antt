@@ -1,4 +1,5 @@
--- The device refuses a command that it does not support with COMMAND_CODE, and the layer parses it.
+-- If the device does not support a command, it refuses the command with COMMAND_CODE, and the layer
+-- parses it.
 use Rattle.std.proofs.Common.{arith, ◌≡◌, ℕ, ◌+◌, ◌^◌, ◌<◌, ◌≤◌, ◌&&◌, Bool, true, false, ltb, List, ◌++◌, length, Option, Some, None, Result, Ok, Err, refl, sym, ap, ◌∙◌}
 use Rattle.std.specs.Prelude.{◌==◌, ◌||◌, not, ok_or, if◌then◌else◌}
 use Rattle.std.specs.Int.{w16, w32, to_be_bytes}

@@ -40,7 +40,7 @@ effect_of c r buffer locality elapsed random =
 
 -- ---- saving
 
--- An object was saved in a context with the next number, and the device is otherwise unchanged.
+-- An object was saved in a context with the next number, and the device's record is unchanged.
 pub record IsSaved (r : Record) (c : Completion) (object : Object) (seen : Seen) : Type 0 where
   pub response : seen.step.response ≡ success (saved_context r c (c.count + 1) object)
   pub device : seen.step.after ≡ r
@@ -91,7 +91,8 @@ LoadsObjects =
 -- ---- what ends the validity of a context
 
 -- Every command leaves each context valid, with or without the layer, unless the device executes a
--- TPM2_Startup or a TPM2_Clear. Even TPM2_FlushContext of the object itself does so.
+-- TPM2_Startup or a TPM2_Clear. Even TPM2_FlushContext of the object itself leaves its contexts
+-- valid.
 abbrev pub StaysValidThrough : Type 0
 StaysValidThrough =
     (completes : Bool) (r : Record) (c : Completion) (object : Object) (buffer : List ℕ)

@@ -57,7 +57,7 @@ module _ (indices : ℕ → Bool) (objects : Public → Bool) where
     layer = replies.after;
   }
 
-  -- devices that differ only in these secrets agree on which authorization values are empty
+  -- devices that differ only in secret data agree on which authorization values are empty
   sets_alike : (r t : Record) → DifferInSecrets s r t → SetAlike r t
   sets_alike r t differ = ap (λ (x : Record). values_set x.fixed.hierarchies) differ
 

@@ -24,8 +24,8 @@ journal_history text opened new is history =
 -- A text was opened as a journal, and the device that its head starts follows a history. That
 -- device comes from an image and a power cycle, or from a state text. Whatever was executed on the
 -- opened device since, an execution reveals nothing about sealed data, or is recorded as an
--- accepted command that reads them. The history before it consists of that of the head's device,
--- the journal's executions and those since.
+-- accepted command that reads them. Its history consists of the history of the head's device, the
+-- journal's executions and the executions since.
 abbrev pub OpenedDataNeedPolicy : Type 0
 OpenedDataNeedPolicy =
     (objects : Public → Bool) (text : List ℕ) (opened : Opened) (new : Record)

@@ -24,7 +24,7 @@ pub fn meaning_laws()
     ensures journal { JournalMeansIt }
 {}
 
-/// A journal can be played as a script to its end, and prints the device's responses to its
+/// A journal can be played as a script to its end, which prints the device's responses to its
 /// entries. If an entry contains the bytes that its command drew, its lines execute the command as
 /// it was originally executed.
 #[inline(always)]
@@ -55,8 +55,8 @@ pub fn buffer_laws()
     ensures longer { LongerAreRefusedAlike }
 {}
 
-/// If a damaged journal is truncated at the damage, it is executed to its end, with the same
-/// resulting device. The answers before the damage match the entries there.
+/// A damaged journal that is truncated at the damage can be executed to its end, and yields the
+/// same device. All answers before the damage match their entries.
 #[inline(always)]
 #[tactic(auto, using(crate::proofs::Damage::front_is_followed))]
 pub fn damage_laws()

@@ -33,7 +33,8 @@ fewer text end size some long e all = record {
   fewer = omega (arith, some, long, length-take-le (size - 1) text (omega (arith, long)));
 }
 
--- If zeros follow a prefix of a text, all bytes from any offset after the prefix on are zeros.
+-- If a text consists of a prefix and zeros, all bytes from any offset after the prefix on are
+-- zeros.
 zeros_after : (front : List ℕ) (zeros place : ℕ) → length front ≤ place
     → (count : ℕ) × (drop place (front ++ replicate zeros 0) ≡ replicate count 0)
 zeros_after [] zeros place le = (zeros - place, drop-replicate {X = ℕ} place zeros 0)
