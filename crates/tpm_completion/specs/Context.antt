@@ -23,8 +23,8 @@ mark = 0x74 ∷ 0x70 ∷ 0x6d ∷ 0x73 ∷ 0x69 ∷ 0x6d ∷ 0x20 ∷ 0x31 ∷ [
 abbrev pub token_text : (start : ℕ) → Handle → List ℕ
 token_text start handle = mark ++ to_be_bytes w64 start ++ to_be_bytes w32 handle.number
 
--- the context that contains a token: the sequence is the token's number, the savedHandle is the
--- token's handle, and the hierarchy is TPM_RH_NULL
+-- the context of a token: the sequence is the token's number, the savedHandle its handle, and the
+-- hierarchy TPM_RH_NULL
 unfoldable pub context_text : (start : ℕ) → Token → List ℕ
 context_text start token =
     to_be_bytes w64 token.context ++ to_be_bytes w32 token.handle.number

@@ -57,8 +57,8 @@ pub record Passes (can : Bool) (c : Completion) (old : Record) (event : PlainEve
 
 -- ---- a command that loads the context of an object
 
--- the object in the context that a command is to load, or the reason why it cannot be loaded;
--- `first` is the effect of the command on the device
+-- the object in the context that a command is to load, or why it cannot be loaded; `first` is the
+-- command's effect on the device
 abbrev pub opened_behind : Seen → (context : List ℕ) → Result Object ContextFault
 opened_behind first context = object_opened first.step.after first.layer context
 
@@ -82,7 +82,7 @@ placed_behind first placing =
 abbrev pub unplaced_behind : Seen → Seen
 unplaced_behind first = record (answered first (refused first.layer 0x904)) { drawn = 0 }
 
--- After the effect `first` of a command, the device executes the event that places an object.
+-- After a command's effect `first`, the device executes the event that places an object.
 pub record ExecutesPlacing (can : Bool) (first : Seen) (object : Object) (placing : Stepped) : Type 0
   where
     pub executes : Executes can first.step.after (Placed object) placing
@@ -104,12 +104,12 @@ Loads can first (Err fault) seen = seen ≡ unopened_behind first fault
 
 -- ---- any command
 
--- the context of the object that a command is to load, if any; `first` is the effect of the command
--- on the device
+-- the context of the object that a command is to load, if any; `first` is the command's effect on
+-- the device
 abbrev pub asked_behind : Seen → (buffer : List ℕ) → Option (List ℕ)
 asked_behind first buffer = context_asked first.step.after buffer first.step.response
 
--- the layer's answer to a command that loads no object; `first` is the effect of the command on the
+-- the layer's answer to a command that loads no object; `first` is the command's effect on the
 -- device
 abbrev pub reply_behind : Seen → (buffer : List ℕ) → Reply
 reply_behind first buffer =

@@ -22,7 +22,7 @@ told_text form.Algorithm e = to_be_bytes w16 (e.number % 2 ^ 16) ++ to_be_bytes 
 told_text form.Selection e =
     to_be_bytes w32 e.number ++ to_be_bytes w8 3 ++ take 3 (to_le_bytes w32 e.told)
 
--- the text of the elements with a number of at least `from`, but at most `count` elements
+-- the text of at most `count` of the elements whose number is at least `from`
 abbrev pub text_of : Form → (from count : ℕ) → List Element → List ℕ
 text_of form from count elements =
     flat_map (told_text form) (take count (filter (is_from from) elements))

@@ -27,7 +27,7 @@ context_asked r buffer response =
     if r.fixed.started && is_refusal 0x143 response then object_context_in (plain_command buffer)
     else None
 
--- the object in a context, or the reason why it cannot be loaded
+-- the object in a context, or why it cannot be loaded
 abbrev pub object_opened : Record → Completion → (context : List ℕ) → Result Object ContextFault
 object_opened r c context = opened r.fixed.hierarchies (binding_of r c) context
 

@@ -31,8 +31,8 @@ own_count = 7
 abbrev pub command_count : ℕ
 command_count = length all_codes + own_count
 
--- who made the device, and which specification it follows: family "2.0", level 0, revision 1.38 of
--- 29 September 2016, manufacturer "TSIM", vendor "tpmsim", model 1, firmware 1.0
+-- the device's manufacturer and specification: family "2.0", level 0, revision 1.38 of 29 September
+-- 2016, manufacturer "TSIM", vendor "tpmsim", model 1, firmware 1.0
 unfoldable pub identity_elements : List Element
 identity_elements =
     element 0x100 0x322e_3000  -- FAMILY_INDICATOR

@@ -106,7 +106,7 @@ abbrev pub handle_given : Completion → Handle → Reply
 handle_given c handle =
     record { response = success (to_be_bytes w32 handle.number); after = c }
 
--- the reply that loads the session of a context; a context can be loaded only once
+-- the reply that loads the session of a context, which works only once
 abbrev pub session_loaded : Record → Completion → Token → Reply
 session_loaded r c token =
     if is_some (session_at r.sessions token.handle)

@@ -113,8 +113,7 @@ fn complete<K: Keep>(
     answer_after(machine, layer, buffer, outcome);
 }
 
-/// Loads the object if the command is to load an object's context. Otherwise, lets the layer answer
-/// after the device.
+/// Loads an object if the command is to load an object's context. Otherwise, the layer may answer.
 fn answer_after<K: Keep>(
     machine: &mut Machine<K>,
     layer: &mut Completion,

@@ -1,14 +1,14 @@
 #![tactic(auto)]
 
-//! The completing layer answers commands that firmware and tools need, but that the device by
-//! design does not support. Its answer depends on a small state of its own, the device and one
-//! command. The caller turns the layer on or off for each command.
+//! The completing layer answers commands that firmware and tools need, but the device by design
+//! does not support. Its answer depends on a small state of its own, the device and the command.
+//! The caller turns it on or off for each command.
 //!
 //! The device executes the command first. If it refuses a command that the layer knows, or lists
 //! less than the layer does, the client gets the layer's [`reply`]. Otherwise it gets the device's
 //! response, byte for byte. The lists are in [`capability`], [`handles`] and [`properties`], the
 //! contexts in [`context`], [`saving`] and [`loading`], and four more commands in [`testing`] and
-//! [`hashing`]. [`execution`] contains the function that callers use.
+//! [`hashing`]. Callers use [`execution`].
 //!
 //! The context of a session is a token, and the session stays in its slot. The context of an object
 //! contains the whole object, encrypted and authenticated (tpm_context). The layer changes the

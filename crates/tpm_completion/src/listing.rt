@@ -104,7 +104,7 @@ fn tell_if(
     left - 1
 }
 
-/// Writes the elements with a number of at least `from`, but at most `count` elements.
+/// Writes at most `count` of the elements whose number is at least `from`.
 fn tell_elements(
     elements: &[Element],
     form: Form,
@@ -121,8 +121,8 @@ fn tell_elements(
     }
 }
 
-/// Writes the answer for a capability: the elements with a number of at least `from`, but at most
-/// `count` elements.
+/// Writes the answer for a capability: at most `count` of the elements whose number is at least
+/// `from`.
 pub fn list(
     elements: &[Element],
     form: Form,

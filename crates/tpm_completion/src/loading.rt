@@ -43,7 +43,7 @@ pub fn context_asked<'a, K: Keep>(keep: &K, buffer: &'a [u8], response: &[u8]) -
 }
 
 impl Completion {
-    /// The object in a context, or the reason why it cannot be loaded.
+    /// The object in a context, or why it cannot be loaded.
     pub(crate) fn open_object<K: Keep>(
         &self,
         keep: &K,

@@ -31,7 +31,7 @@ fn command_count() -> u32
     CommandCode::ALL.len() as u32 + OWN_COUNT
 }
 
-/// The properties that state who made the device, and which specification it follows.
+/// The properties that state the device's manufacturer and specification.
 #[tactic(auto, unfolding(crate::specs::Properties::identity_elements))]
 fn identity() -> [Element; 13]
     ensures { result ≡ identity_elements }

@@ -73,8 +73,8 @@ of_locality locality =
     ∷ element (2 * locality + 2) (pcrs_with (λ pcr. may_reset (use_of pcr) locality))
     ∷ []
 
--- The listed properties of PCRs match the device: PCRs 0 to 15 are saved, and each PCR can be
--- extended and reset from the localities that the device allows.
+-- The listed properties of PCRs match the device: PCRs 0 to 15 are saved, and the localities are
+-- those that may extend or reset each PCR.
 abbrev pub PcrPropertiesHold : Type 0
 PcrPropertiesHold =
     pcr_property_elements

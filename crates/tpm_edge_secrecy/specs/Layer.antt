@@ -85,8 +85,8 @@ LayerAnswersAlike =
     → RepliesAlike (saves_secret s one c buffer response)
     (reply one c buffer response was_told) (reply other c buffer response was_told)
 
--- If two devices differ only in secrets, the layer's answer is the context of an object that has a
--- secret on both of them, or on neither.
+-- If two devices differ only in secrets, the layer answers with the context of an object that has a
+-- secret on both, or on neither.
 abbrev pub LayerSavesAlike : Type 0
 LayerSavesAlike =
     (s : Secrecy) (one other : Record) (c : Completion) (buffer response : List ℕ)
@@ -174,8 +174,8 @@ CompletionsAlike s (e ∷ es) (f ∷ fs) =
 CompletionsAlike s [] (f ∷ fs) = ⊥
 CompletionsAlike s (e ∷ es) [] = ⊥
 
--- Two devices differ only in secret data, and have the same layer. They answer in the same way as
--- long as no event reads these data, except with contexts of objects that have secret data.
+-- Two devices differ only in secret data, and have the same layer. They answer alike until an event
+-- reads these data, except with contexts of objects that have secret data.
 abbrev pub CompletedRunTellsNothing : Type 0
 CompletedRunTellsNothing =
     (indices : ℕ → Bool) (objects : Public → Bool) (one other : Record) (c : Completion)

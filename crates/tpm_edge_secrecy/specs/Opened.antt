@@ -21,11 +21,11 @@ journal_history text opened new is history =
     (run_of_all false is.reads.start.journal is.reads.start.device
     is.reads.replays.repeats.performances opened.journal new is.reads.replays.repeats.leads)
 
--- A text was opened as a journal, and the device that its head starts follows a history. That
--- device comes from an image and a power cycle, or from a state text. Whatever was executed on the
--- opened device since, an execution reveals nothing about sealed data, or is recorded as an
--- accepted command that reads them. Its history consists of the history of the head's device, the
--- journal's executions and the executions since.
+-- A text was opened as a journal, and the device in its head follows a history: the device of an
+-- image after a power cycle, or of a state text. Whatever was executed on the opened device since,
+-- an execution reveals nothing about sealed data, or is recorded as an accepted command that reads
+-- them and met the object's policy (`ReadsSealed`). The history before it starts with that of the
+-- head's device.
 abbrev pub OpenedDataNeedPolicy : Type 0
 OpenedDataNeedPolicy =
     (objects : Public → Bool) (text : List ℕ) (opened : Opened) (new : Record)

@@ -20,8 +20,8 @@ ghost use Rattle.tpm_edge_secrecy.specs.Opened.{OpenedDataNeedPolicy};
 /// same state on both; only contexts of objects that have secrets may differ. A loaded context
 /// contains the same object on both devices. Therefore, if two devices differ only in secret data,
 /// an event that does not read these data reveals nothing about them with the layer either, except
-/// the context of an object that has secrets. The same holds for a list of events, even if such a
-/// context was returned before.
+/// the context of an object that has secrets. The same holds for a list of events, even after such
+/// a context.
 #[inline(always)]
 pub fn layer_laws()
     ensures answers { LayerAnswersAlike }

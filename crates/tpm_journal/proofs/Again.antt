@@ -153,8 +153,7 @@ module _ (kind : HeadKind) (clock : ℕ) (content : List ℕ) (start : Start) (e
     (begins : BeginsWith text kind clock content (entries_text start.journal.sum entries ++ rest))
     (are : AllByRecursion IsEntry entries) (cut : IsTorn (sum_after_all start.journal.sum entries) rest)
     (answers : Answers start.journal.layer start.device entries layer final) where
-  -- a function of a head has the same value for the head that was read from the text and for this
-  -- head
+  -- a function of a head has the same value for two heads at the beginning of one text
   same_of : {X : Type 0} (f : HeadKind → ℕ → List ℕ → X) (other : HeadKind) (time : ℕ) (bytes behind : List ℕ) → BeginsWith text other time bytes behind
       → f kind clock content ≡ f other time bytes
   same_of f other time bytes behind others =

@@ -7,8 +7,8 @@ use Rattle.tpm_journal_text.specs.Entry.{IsEntry, PlainEntry}
 use Rattle.tpm_journal_text.specs.Sum.{sum_of}
 use Rattle.tpm_journal.specs.Command.{Command, Executed, IsPerformed, entry_of}
 
--- The device and its layer executed commands one after another, and these are the commands'
--- entries. This changed the layer from `layer` to `after`, and the record from `old` to `new`.
+-- The device and its layer executed the commands of these entries one after another. This changed
+-- the layer from `layer` to `after`, and the record from `old` to `new`.
 abbrev pub Lives : Completion → Record → List PlainEntry → Completion → Record → Type 0
 Lives layer old [] after new = (after ≡ layer) × (new ≡ old)
 Lives layer old (e ∷ entries) after new =

@@ -61,8 +61,8 @@ AnswersAre (Some Otherwise) sums said =
     (front : List ℕ) × (sum : ℕ) × (other : ℕ) × (sums ≡ front ++ sum ∷ [])
     × (said ≡ front ++ other ∷ []) × (sum ≢ other)
 
--- What follows the executed entries: a torn text if there was no fault, and a damaged text if the
--- fault is damage. If the device answered differently, it can be anything.
+-- What follows the executed entries: a torn text if there was no fault, a damaged text if the fault
+-- is damage, and any text if the device answered differently.
 abbrev pub EndsIn : Option FollowFault → (sum : ℕ) → (left : List ℕ) → Type 0
 EndsIn None sum left = IsTorn sum left
 EndsIn (Some Damaged) sum left = IsDamaged sum left

@@ -82,7 +82,7 @@ pub record RetellsEntries (form : Telling) (can : Bool) (before : Journal) (old 
     pub told : Appends held holds (flat_map (retold form) replays.repeats.performances)
 
 -- The text begins with a head that starts a journal. The output for the head and for each executed
--- entry was written. `fault` says why the execution stopped early, if it did.
+-- entry was written. `fault` is the reason if execution stopped early.
 pub record RetellsText (form : Telling) (text : List ℕ) (held : Option (List ℕ)) (holds : Option (List ℕ))
     (fault : Option FollowFault) : Type 0
   where

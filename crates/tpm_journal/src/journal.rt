@@ -39,7 +39,7 @@ use tpm_types::Locality;
 /// The state of a journal in addition to its device.
 #[derive(Clone, Copy, PartialEq, Eq)]
 pub struct Journal {
-    /// The checksum of the marks of the head and of all entries so far.
+    /// The checksum of the marks of the head and all entries.
     pub sum: u64,
     /// The time of the journal in milliseconds: the clock in its head, plus the elapsed times of
     /// its commands.

@@ -1,4 +1,5 @@
 //! The laws of journals: opening a journal yields the device that executed the answered commands.
+//! Each function only states laws, and does nothing at run time.
 
 ghost use Rattle.std.specs.Prelude.{◌≡◌, ◌++◌, ℕ, Bool, List, Ok, Option, Result, false};
 ghost use Rattle.std.specs.List.{AllByRecursion};
@@ -31,8 +32,7 @@ ghost use Rattle.tpm_state_text.specs.Body.{IsWholeState, WholeState};
 ghost use Rattle.tpm_state_text.specs.State.{state_text};
 
 /// Executing the entries of a live device and its layer again yields the same answers, layer and
-/// record. Random bytes that a command did not draw have no effect. This function only states the
-/// law, and does nothing at run time.
+/// record. Random bytes that a command did not draw have no effect.
 #[inline(always)]
 #[tactic(auto, using(crate::proofs::Ignoring::lives_alike))]
 pub fn living_laws()
@@ -56,7 +56,6 @@ pub fn following_laws()
 /// The journal that a head starts. The image of a device starts a new journal, with a power cycle
 /// of the device. A state text starts a journal in which the device and the layer continue
 /// unchanged. A checkpoint starts the journal that was checkpointed, with its layer and its device.
-/// This function only states the laws, and does nothing at run time.
 #[inline(always)]
 #[tactic(auto, using(crate::proofs::Starts::image_starts, crate::proofs::Starts::state_starts, crate::proofs::Starts::checkpoint_starts))]
 pub fn starting_laws()
@@ -93,8 +92,8 @@ pub fn opening_laws()
         new }
 {}
 
-/// A text consists of a checkpoint of a live device, followed by the entries of the commands that
-/// the device and its layer executed since. Opening it yields this device and this layer.
+/// A text consists of a checkpoint of a live device and the entries of the commands that the device
+/// and its layer executed since. Opening it yields this device and layer.
 #[inline(always)]
 #[tactic(auto, using(crate::proofs::Starts::checkpoint_opened))]
 pub fn checkpoint_laws()
@@ -111,8 +110,8 @@ pub fn checkpoint_laws()
 {}
 
 /// If a device follows a history and executes entries again, it then follows that history extended
-/// by everything that it accepted while executing them. The law also states the other properties of
-/// such a sequence of executions, such as the limits on failed tries.
+/// by everything that it accepted while executing them. The law also states other properties of
+/// these executions, such as the limits on failed tries.
 #[inline(always)]
 pub fn repeating_laws()
     ensures { (can : Bool) (before : Journal) (old : Record) (text : List ℕ) (taken : ℕ)

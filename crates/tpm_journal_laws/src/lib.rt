@@ -35,9 +35,9 @@ pub fn playing_laws()
 {}
 
 /// The time of a new journal is the clock in its head. After a command, it equals the host's clock
-/// at the arrival of that command, unless the clock has gone back or 2^32 milliseconds or more
-/// passed. No millisecond counts twice: over all commands together, at most the milliseconds from
-/// the journal's time to the latest clock elapse, even if the clock goes back.
+/// at the arrival of that command, unless the clock went back or at least 2^32 milliseconds passed.
+/// No millisecond counts twice: over all commands together, at most the milliseconds from the
+/// journal's time to the latest clock elapse, even if the clock goes back.
 #[inline(always)]
 #[tactic(auto, using(crate::proofs::Times::begins_at_clock, crate::proofs::Times::goes_with_clock, crate::proofs::Times::tells_no_time_twice))]
 pub fn time_laws()

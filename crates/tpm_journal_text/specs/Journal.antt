@@ -43,8 +43,8 @@ IsCutOff sum text =
     ⊎ ((mark : List ℕ) × BeginsWithMark sum mark text × (length text < entry_size mark)
     × LinesEnd mark text)
 
--- A torn text is too short for an entry, not counting zeros at its end. Killing a process leaves
--- only a part of an entry, and a crash of the host may leave zeros instead of the rest.
+-- A torn text is too short for an entry, not counting zeros at its end. Killing a process leaves a
+-- part of an entry, and a crash of the host may leave zeros instead of the rest.
 pub record IsTorn (sum : ℕ) (text : List ℕ) : Type 0 where
   pub front : List ℕ
   pub zeros : ℕ

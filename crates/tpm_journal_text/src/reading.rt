@@ -25,7 +25,7 @@ pub const BYTES_ROOM: usize = 256 + ENTRY_LIMIT;
 /// The offset of the random bytes in the text of an entry.
 const DRAWN_PLACE: usize = 102;
 
-/// The beginning of a text: an entry, a text that is too short for an entry, or neither.
+/// The beginning of a text: an entry, a text too short for an entry, or neither.
 pub enum Next<'a> {
     /// An entry, the size of its text, and the checksum after it.
     Whole {
@@ -33,8 +33,8 @@ pub enum Next<'a> {
         size: usize,
         sum: u64,
     },
-    /// A text that is too short for an entry. Its lines end where an entry's lines end, and only
-    /// zeros may follow it.
+    /// A text too short for an entry. Its lines end where an entry's lines end, and only zeros may
+    /// follow it.
     Torn,
     /// Neither an entry nor a part of one that a crash left.
     Damaged,
@@ -153,7 +153,7 @@ fn less_than_entry<'a>(text: &[u8], mark: &[u8; MARK_SIZE]) -> Next<'a>
 }
 
 /// Reads the entry at the beginning of a text. `sum` is the checksum of all earlier marks. Stores
-/// the entry's bytes in `bytes`, and writes its text to `room`, to compare it with `text`.
+/// the entry's bytes in `bytes`, and the text that they should have in `room`, for comparison.
 pub fn read_entry<'a>(
     sum: u64,
     text: &[u8],

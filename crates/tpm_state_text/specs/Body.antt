@@ -1,6 +1,6 @@
 -- The body of a state text: the body of the device's image, followed by the state that a power
 -- cycle would clear (TPM 2.0 Library, Part 1, section 12.2.2, _TPM_Init, and docs/table/README.md,
--- "Events"), and by the state of the completing layer, if the device has the layer.
+-- "Events"), and by the state of the completing layer, if there is one.
 use Rattle.std.specs.Prelude.{ℕ, nat_lt, ◌^◌, Bool, List, ◌++◌, IfSome, Option, Result, Ok}
 use Rattle.std.specs.Int.{w64, to_be_bytes}
 use Rattle.tpm_bytes.specs.Reading.{◌>>=◌}
@@ -48,8 +48,8 @@ volatile_text r =
     ++ to_be_bytes w64 r.fixed.lockout.closed_time
     ++ sessions_text r.sessions ++ transients_text r.objects
 
--- reads the state that a power cycle clears, and returns the whole device; `kept` is the state that
--- the device keeps without power
+-- reads the state that a power cycle clears, and returns the whole device; `kept` is the rest of
+-- the device's state
 unfoldable pub resumed_in : NonVolatile → List ℕ → Result (Record × List ℕ) Malformed
 resumed_in kept text = do
   started ← yes_no_in text

@@ -96,13 +96,13 @@ earlier_state_of_body text = filling earlier_body_in text
 abbrev pub not_held : Held
 not_held = record { context = 0; waits = 0 }
 
--- the slots after the object in slot `place` is removed, if it was flushed and stayed there
+-- the slots without the object in slot `place`, if it was flushed but stayed there
 unfoldable pub without_one : List Held → List (Option Object) → (place : ℕ) → List (Option Object)
 without_one held objects place =
     if (get_or held place not_held).waits == 0 then objects
     else without_object objects (object_handle place)
 
--- the slots after all flushed objects that stayed in them are removed
+-- the slots without the flushed objects that stayed in them
 unfoldable pub without_waiting : List Held → List (Option Object) → List (Option Object)
 without_waiting held objects = fold (without_one held) objects (numbers_below object_limit)
 

@@ -23,8 +23,8 @@ state_text state = framed_state Two (body_text state)
 unfoldable pub earlier_text : EarlierState → List ℕ
 earlier_text state = framed_state One (earlier_body_text state)
 
--- the state in a body of this version; flushed objects that stayed in their slots in version 1 are
--- left out
+-- the state in a body of this version; in version 1, without flushed objects that stayed in their
+-- slots
 unfoldable pub state_in_body : StateVersion → List ℕ → Result WholeState Malformed
 state_in_body One body = do
   state ← earlier_state_of_body body
@@ -38,9 +38,9 @@ state_of_text text = do
   framed ← within_frame state_format text
   or_fault (state_in_body framed.0 framed.1) fault.Body
 
--- the state that a text of version 2 encodes, or the first fault of the text; a text of version 1
--- with a correct frame has the fault Earlier. The head of a journal must contain version 2, because
--- the commands after it were executed with the layer of that version.
+-- the state that a text of version 2 encodes, or the first fault of the text; for version 1 with a
+-- correct frame, this is Earlier. A journal's head contains version 2, because the commands after
+-- it were executed with the layer of that version.
 abbrev pub current_state_of_text : List ℕ → Result WholeState StateFault
 current_state_of_text text = do
   framed ← within_frame state_format text

@@ -104,7 +104,7 @@ fn read_optional_layer(text: &mut Cursor) -> Result<Option<EarlierLayer>, Malfor
     Ok(layer)
 }
 
-/// Removes the object in a slot, if it was flushed but stays there until its context is loaded.
+/// Removes the object in a slot, if it was flushed but stayed there.
 #[tactic(auto, unfolding(crate::specs::Earlier::without_one))]
 fn remove_one<O: Slots<Object, OBJECT_LIMIT>>(
     objects: &mut Objects<O>,
@@ -121,7 +121,7 @@ fn remove_one<O: Slots<Object, OBJECT_LIMIT>>(
     }
 }
 
-/// Removes the objects that were flushed but stay in their slots until their contexts are loaded.
+/// Removes the flushed objects that stayed in their slots.
 #[tactic(auto, unfolding(crate::specs::Earlier::without_waiting), using(crate::proofs::EarlierLaws::without_more))]
 fn remove_waiting<O: Slots<Object, OBJECT_LIMIT>>(objects: &mut Objects<O>, held: &[Held; 8])
     ensures { objects_of O.places objects.new
@@ -144,8 +144,8 @@ fn layer_of(layer: &EarlierLayer) -> Layer
     }
 }
 
-/// Reads a whole body of version 1 into a new `Keep`, and returns its layer. Leaves out the objects
-/// that were flushed but stayed in their slots until their contexts were loaded.
+/// Reads a whole body of version 1 into a new `Keep`, without flushed objects that stayed in their
+/// slots, and returns its layer.
 #[tactic(auto, unfolding(crate::specs::State::state_in_body, crate::specs::Earlier::earlier_state_of_body, crate::specs::Earlier::earlier_body_in))]
 pub fn read_earlier_body<K: Keep>(keep: &mut K, body: &[u8]) -> Result<Option<Layer>, FillFault>
     requires { K.record_of keep.old ≡ manufactured (replicate 256 0) }

@@ -6,7 +6,7 @@
 //! `specs/State` defines how the text is encoded and decoded, with one file for each part of the
 //! text; the code has the same files. The state that a device keeps without power is encoded as in
 //! the body of an image, which tpm_image_text writes. This crate adds the state that a power cycle
-//! would clear, and the state of the completing layer.
+//! clears, and the completing layer's state.
 //!
 //! [`snapshot_into`] writes the text of a device, in version 2. [`restored`], [`restore_new`] and
 //! [`restore_into`] read a text of version 1 or 2, into any type that keeps a device's state.

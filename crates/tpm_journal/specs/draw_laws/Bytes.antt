@@ -11,9 +11,8 @@ use Rattle.tpm_types.specs.declared.refused.Refused.{Refused}
 abbrev pub with_random : Request → List ℕ → Request
 with_random q other = record q { random = other }
 
--- A row has the same result with other random bytes. A success is the same if the other bytes agree
--- with the original ones on all bytes that the row draws. A refusal is always the same, since it
--- draws none.
+-- A row has the same result with other random bytes: the same success, if these agree on all bytes
+-- that the row draws, and always the same refusal, since it draws none.
 abbrev pub ActsAlike : (random other : List ℕ) → (acts acts_other : Result Success Refused) → Type 0
 ActsAlike random other (Ok s) acts_other =
     take s.answer.drawn other ≡ take s.answer.drawn random → acts_other ≡ Ok s
