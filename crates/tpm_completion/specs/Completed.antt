@@ -1,5 +1,5 @@
 -- The effect of one event, with or without the completing layer, as a function of the layer, the
--- record and the event. No allocation fails.
+-- record and the event, if no allocation fails.
 use Rattle.std.specs.Prelude.{ℕ, Bool, true, false, List, Option, Some, None, Result, Ok, Err}
 use Rattle.tpm_machine.specs.Drawn.{drawn_by}
 use Rattle.tpm_object.specs.declared.object.Object.{Object}

@@ -85,8 +85,8 @@ LayerAnswersAlike =
     → RepliesAlike (saves_secret s one c buffer response)
     (reply one c buffer response was_told) (reply other c buffer response was_told)
 
--- If two devices differ only in secrets, the layer answers with the context of an object that has a
--- secret on both, or on neither.
+-- If two devices differ only in secrets, the layer answers on both with the context of an object
+-- that has a secret, or on neither.
 abbrev pub LayerSavesAlike : Type 0
 LayerSavesAlike =
     (s : Secrecy) (one other : Record) (c : Completion) (buffer response : List ℕ)
@@ -129,11 +129,11 @@ pub record CompletesAlike (s : Secrecy) (saved : Bool) (x y : Seen) : Type 0 whe
   pub after : DifferInSecrets s x.step.after y.step.after
   pub layer : x.layer ≡ y.layer
 
--- Two devices differ only in secret data. An event that does not read these data reveals nothing
--- about them, with or without the layer, even if it loads an object from its context. The only
--- exception is the context of an object that has secret data, which is the response to
--- TPM2_ContextSave. If the event places an object, the other device may place an object that
--- differs in secret data. No allocation fails.
+-- If two devices differ only in secret data, and no allocation fails, an event that does not read
+-- these data reveals nothing about them, with or without the layer, even if it loads an object from
+-- its context. The only exception is the context of an object that has secret data, which is the
+-- response to TPM2_ContextSave. If the event places an object, the other device may place an object
+-- that differs in secret data.
 abbrev pub CompletedTellsNothing : Type 0
 CompletedTellsNothing =
     (indices : ℕ → Bool) (objects : Public → Bool) (one other : Record) (completes : Bool)
@@ -174,8 +174,8 @@ CompletionsAlike s (e ∷ es) (f ∷ fs) =
 CompletionsAlike s [] (f ∷ fs) = ⊥
 CompletionsAlike s (e ∷ es) [] = ⊥
 
--- Two devices differ only in secret data, and have the same layer. They answer alike until an event
--- reads these data, except with contexts of objects that have secret data.
+-- If two devices differ only in secret data, and have the same layer, they answer alike until an
+-- event reads these data, except with contexts of objects that have secret data.
 abbrev pub CompletedRunTellsNothing : Type 0
 CompletedRunTellsNothing =
     (indices : ℕ → Bool) (objects : Public → Bool) (one other : Record) (c : Completion)

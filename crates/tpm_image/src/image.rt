@@ -62,8 +62,8 @@ pub fn open<K: Keep>(alloc: Global, text: &[u8]) -> Result<Machine<K>, ImageFaul
     // The result is the opened device, or the first fault.
     ensures exact { Opens (state_of K.record_of) (K.empty_can_refuse || K.can_refuse) text.now
         result }
-    // A text that opens is an image of the device in a version, within the limits of that
-    // version.
+    // A text that can be opened is an image of the device in some version, within that version's
+    // limits.
     ensures found { IfOk result (λ machine. (version : Version) × (kept : NonVolatile)
         × IsNonVolatile kept × IsImage version kept text.now
         × (state_of K.record_of machine ≡ powered_on kept)) }
@@ -101,9 +101,9 @@ fn open_device<K: Keep>(alloc: Global, text: &[u8]) -> Result<Machine<K>, ImageF
     }
 }
 
-/// Opens a device from its image, in either version, in a machine just manufactured from zero
-/// bytes, which never runs out of memory. The device is the same as with [`open`], and is not
-/// moved. On error, the machine is unspecified.
+/// Opens a device from its image, in either version, in a machine just manufactured with all-zero
+/// random bytes, which never runs out of memory. The device is the same as with [`open`], and is
+/// not moved. On error, the machine is unspecified.
 pub fn open_into<K: Keep>(machine: &mut Machine<K>, text: &[u8]) -> Result<(), ImageFault>
     requires new { state_of K.record_of machine.old ≡ manufactured (replicate 256 0) }
     requires never_refused { K.can_refuse ≡ false }
@@ -119,8 +119,8 @@ pub fn open_into<K: Keep>(machine: &mut Machine<K>, text: &[u8]) -> Result<(), I
     fill_machine(machine, text)
 }
 
-/// Opens a device from its image in a machine just manufactured from zero bytes. The contract does
-/// not mention histories.
+/// Opens a device from its image in a machine just manufactured with all-zero random bytes. The
+/// contract does not mention histories.
 fn fill_machine<K: Keep>(machine: &mut Machine<K>, text: &[u8]) -> Result<(), ImageFault>
     requires new { state_of K.record_of machine.old ≡ manufactured (replicate 256 0) }
     requires never_refused { K.can_refuse ≡ false }

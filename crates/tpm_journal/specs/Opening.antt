@@ -13,8 +13,8 @@ use Rattle.tpm_journal.specs.declared.opening.OpenFault.{OpenFault}
 use Rattle.tpm_journal.specs.declared.opening.OpenFault.TheVariants as fault
 use Rattle.tpm_journal.specs.declared.opening.Opened.{Opened}
 
--- The text begins with a head that starts a journal. The device and the layer of this start
--- executed the entries after the head, with this result.
+-- The text begins with a head that starts a journal. The device and the layer in that head executed
+-- the entries after it, with this result.
 pub record Reads (text : List ℕ) (followed : Followed) (journal : Journal) (new : Record) : Type 0 where
   pub start : Start
   pub rest : List ℕ

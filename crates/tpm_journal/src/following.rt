@@ -79,8 +79,8 @@ fn padded(drawn: &[u8]) -> [u8; 256]
 }
 
 impl Journal {
-    /// Executes the entry at the beginning of a text. Stores the entry's bytes in `bytes`, and the
-    /// text that they should have in `room`, for comparison.
+    /// Executes the entry at the beginning of a text. Decodes it into `bytes`, and encodes it again
+    /// in `room` for comparison.
     pub(crate) fn follow_one<'a, K: Keep>(
         &mut self,
         machine: &mut Machine<K>,

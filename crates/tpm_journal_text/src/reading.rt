@@ -152,8 +152,8 @@ fn less_than_entry<'a>(text: &[u8], mark: &[u8; MARK_SIZE]) -> Next<'a>
     }
 }
 
-/// Reads the entry at the beginning of a text. `sum` is the checksum of all earlier marks. Stores
-/// the entry's bytes in `bytes`, and the text that they should have in `room`, for comparison.
+/// Reads the entry at the beginning of a text. `sum` is the checksum of all earlier marks. Decodes
+/// the entry into `bytes`, and encodes it again in `room` for comparison.
 pub fn read_entry<'a>(
     sum: u64,
     text: &[u8],

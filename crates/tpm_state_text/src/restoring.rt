@@ -16,8 +16,8 @@ use std::alloc::Global;
 use tpm_image_text::FillFault;
 use tpm_record::Keep;
 
-/// Reads the body of a text of this version into a device just manufactured from zero bytes.
-/// Returns the completing layer.
+/// Reads the body of a text of this version into a device just manufactured with all-zero random
+/// bytes. Returns the completing layer.
 #[tactic(auto, unfolding(crate::specs::State::state_in_body))]
 fn read_version<K: Keep>(
     keep: &mut K,
@@ -34,9 +34,9 @@ fn read_version<K: Keep>(
     }
 }
 
-/// Restores the device of a state text into a device just manufactured from zero bytes, without
-/// moving it. Returns the completing layer, or the first fault of the text. On error, the device's
-/// state is unspecified.
+/// Restores the device of a state text into a device just manufactured with all-zero random bytes,
+/// without moving it. Returns the completing layer, or the first fault of the text. On error, the
+/// device's state is unspecified.
 pub fn restore_new<K: Keep>(keep: &mut K, text: &[u8]) -> Result<Option<Layer>, RestoreFault>
     requires { K.record_of keep.old ≡ manufactured (replicate 256 0) }
     ensures { RestoresNew K.can_refuse (state_of_text text.now) (K.record_of keep.new) result }
