@@ -90,9 +90,8 @@ LoadsObjects =
 
 -- ---- what ends the validity of a context
 
--- Every command leaves each context valid, with or without the layer, unless the device executes a
--- TPM2_Startup or a TPM2_Clear. Even TPM2_FlushContext of the object itself leaves its contexts
--- valid.
+-- Every command, even TPM2_FlushContext of the object itself, leaves each context valid, with or
+-- without the layer, unless the device executes a TPM2_Startup or a TPM2_Clear.
 abbrev pub StaysValidThrough : Type 0
 StaysValidThrough =
     (completes : Bool) (r : Record) (c : Completion) (object : Object) (buffer : List ℕ)

@@ -24,8 +24,8 @@ journal_history text opened new is history =
 -- A text was opened as a journal, and the device in its head follows a history: the device of an
 -- image after a power cycle, or of a state text. Whatever was executed on the opened device since,
 -- an execution reveals nothing about sealed data, or is recorded as an accepted command that reads
--- them and met the policy of an object without userWithAuth (`ReadsSealed`). Its history begins
--- with that of the head's device.
+-- them. That command met the object's policy, if the object has no userWithAuth (`ReadsSealed`).
+-- The history begins with that of the head's device.
 abbrev pub OpenedDataNeedPolicy : Type 0
 OpenedDataNeedPolicy =
     (objects : Public → Bool) (text : List ℕ) (opened : Opened) (new : Record)

@@ -63,8 +63,8 @@ abbrev pub retold_head : Telling → (head : List ℕ) → List ℕ
 retold_head Script head = head
 retold_head Answers head = []
 
--- Exactly the entries at the beginning of a text were executed again, one after another. For each
--- of them, its script lines or its answer were written.
+-- Exactly the entries at the beginning of a text were executed again, one after another, and the
+-- script lines or the answer of each were written.
 pub record Retells (form : Telling) (can : Bool) (before : Journal) (old : Record) (text : List ℕ)
     (held : Option (List ℕ)) (holds : Option (List ℕ)) (taken : ℕ) (fault : Option FollowFault)
     (after : Journal) (new : Record) : Type 0
@@ -72,8 +72,8 @@ pub record Retells (form : Telling) (can : Bool) (before : Journal) (old : Recor
     pub repeats : Repeats can before old text taken fault after new
     pub told : Appends held holds (flat_map (retold form) repeats.performances)
 
--- The entries of a text were executed again, with this result. For each of them, its script lines
--- or its answer were written.
+-- The entries of a text were executed again, with this result, and the script lines or the answer
+-- of each were written.
 pub record RetellsEntries (form : Telling) (can : Bool) (before : Journal) (old : Record) (text : List ℕ)
     (held : Option (List ℕ)) (holds : Option (List ℕ)) (followed : Followed) (after : Journal)
     (new : Record) : Type 0

@@ -146,7 +146,7 @@ impl Journal {
 
     /// Executes a command at this time of the host's clock, with or without the completing layer,
     /// and writes its entry to the beginning of a buffer. Returns the size of the entry. A command
-    /// of more than 4,097 bytes is truncated to 4,097 bytes, and is still refused in the same way.
+    /// of more than 4,097 bytes is truncated to 4,097, and is still refused in the same way.
     pub fn execute<K: Keep>(
         &mut self,
         machine: &mut Machine<K>,

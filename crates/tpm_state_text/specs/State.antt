@@ -39,7 +39,7 @@ state_of_text text = do
   or_fault (state_in_body framed.0 framed.1) fault.Body
 
 -- the state that a text of version 2 encodes, or the first fault of the text; for version 1 with a
--- correct frame, this is Earlier. A journal's head contains version 2, because the commands after
+-- correct frame, the fault Earlier. A journal's head contains version 2, because the commands after
 -- it were executed with the layer of that version.
 abbrev pub current_state_of_text : List ℕ → Result WholeState StateFault
 current_state_of_text text = do

@@ -111,7 +111,8 @@ module _ (a : Accepted) (random other : List ℕ) (as_long : length other ≡ le
       rw (answer_alike a.command a.grants (written_of a.success.answer) a.success.after random other (nonces_alike same).after) refl
 
 module _ (r : Record) (random other : List ℕ) (as_long : length other ≡ length random) where
-  -- a step is the same with other random bytes, whether or not an allocation fails
+  -- a step is the same with other random bytes that agree on those drawn, whether or not an
+  -- allocation fails
   pub where_alike : (refused : Bool) (a b : Result Accepted RefusedCommand) → AcceptedAlike random other a b
       → take (drawn_by_command random a 0) other ≡ take (drawn_by_command random a 0) random
       → answer_where refused r other b ≡ answer_where refused r random a
@@ -123,7 +124,7 @@ module _ (r : Record) (random other : List ℕ) (as_long : length other ≡ leng
   where_alike false (Err e) b alike same = ap (answer_where false r other) alike
   where_alike true (Err e) b alike same = ap (answer_where true r other) alike
 
-  -- a command draws the same number of bytes with other random bytes
+  -- a command draws the same number of bytes with other random bytes that agree on those drawn
   pub drawn_alike : (check : ℕ) (a b : Result Accepted RefusedCommand) → AcceptedAlike random other a b
       → take (drawn_by_command random a 0) other ≡ take (drawn_by_command random a 0) random
       → drawn_by_command other b check ≡ drawn_by_command random a check
