@@ -30,7 +30,7 @@ run_loading can first (Ok object) seen (refused, places) =
     run_placing can refused first object seen places
 run_loading can first (Err fault) seen is = []
 
--- the device's executions after that of a command
+-- the device's executions that follow the execution of a command
 abbrev pub run_behind : (can : Bool) (first : Seen) (buffer : List ℕ) (asked : Option (List ℕ))
     (seen : Seen) → Behind can first buffer asked seen → List Execution
 run_behind can first buffer (Some context) seen loads =

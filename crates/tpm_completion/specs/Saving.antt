@@ -82,8 +82,8 @@ session_numbered c handle (Some number) =
     context_given (with_session (counted c number) (place_named handle) number) handle number
 session_numbered c handle None = refused c 0x12e
 
--- the reply to TPM2_ContextSave of a session: REFERENCE_H0 (910) if the session is already saved,
--- because its handle then names nothing
+-- the reply to TPM2_ContextSave of a session: REFERENCE_H0 (910) if the handle names no session;
+-- the handle of a saved session names nothing
 abbrev pub session_saved : Record → Completion → Handle → (context : ℕ) → Reply
 session_saved r c handle context =
     if is_some (session_at r.sessions handle) && (context == 0) then

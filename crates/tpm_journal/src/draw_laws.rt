@@ -37,8 +37,9 @@ pub fn needed_byte_laws()
         → take s.answer.drawn other ≡ take s.answer.drawn q.random) }
 {}
 
-/// A command's step depends only on the random bytes that it draws. With other bytes after these,
-/// the step is the same, even if an allocation fails, and draws the same number of bytes.
+/// A command's step depends only on the random bytes that it draws. With equally many other bytes
+/// after these, the step is the same, even if an allocation fails, and draws the same number of
+/// bytes.
 #[inline(always)]
 #[tactic(auto, using(crate::proofs::draw_laws::Executions::steps_alike, crate::proofs::draw_laws::Executions::draws_alike))]
 pub fn step_laws()
@@ -52,8 +53,8 @@ pub fn step_laws()
         ≡ drawn_by r (Given buffer locality elapsed random) check }
 {}
 
-/// A command's execution depends only on the random bytes that it draws. With other bytes after
-/// these, the same outcome is possible.
+/// A command's execution depends only on the random bytes that it draws. With equally many other
+/// bytes after these, the same outcome is possible.
 #[inline(always)]
 pub fn execution_laws()
     ensures { (can : Bool) (r : Record) (buffer : List ℕ) (locality elapsed : ℕ)

@@ -35,11 +35,9 @@ pub struct Followed {
 /// The result of processing the beginning of a text.
 #[derive(Clone, Copy)]
 pub(crate) enum Deed<'a> {
-    /// The entry, whose text is `size` bytes long, was executed, and the answer matches the
-    /// entry.
+    /// An entry of `size` bytes of text was executed, and the answer matches it.
     Executed { entry: Entry<'a>, size: usize },
-    /// The entry, whose text is `size` bytes long, was executed, and the answer differs from the
-    /// entry.
+    /// An entry of `size` bytes of text was executed, and the answer differs from it.
     Otherwise { entry: Entry<'a>, size: usize },
     /// The text is torn: it is shorter than an entry, not counting zeros at its end.
     Torn,

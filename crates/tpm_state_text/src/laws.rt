@@ -51,7 +51,7 @@ pub fn version_laws()
 {}
 
 /// In the state text of a device, the head is directly followed by the body of the device's image
-/// in version 2.
+/// in version 2, as in that image.
 #[inline(always)]
 #[tactic(auto, using(crate::proofs::StateLaws::body_in_state, crate::proofs::StateLaws::body_in_image))]
 pub fn image_in_state_laws()
