@@ -119,8 +119,7 @@ pub fn open_into<K: Keep>(machine: &mut Machine<K>, text: &[u8]) -> Result<(), I
     fill_machine(machine, text)
 }
 
-/// Opens a device from its image in a machine just manufactured with all-zero random bytes. The
-/// contract does not mention histories.
+/// Opens a device from its image in a new machine. The contract does not mention histories.
 fn fill_machine<K: Keep>(machine: &mut Machine<K>, text: &[u8]) -> Result<(), ImageFault>
     requires new { state_of K.record_of machine.old ≡ manufactured (replicate 256 0) }
     requires never_refused { K.can_refuse ≡ false }

@@ -49,8 +49,7 @@ pub struct Opened {
     pub taken: usize,
 }
 
-/// Opens the device from the image in a head, in a machine just manufactured with all-zero random
-/// bytes.
+/// Opens the device from the image in a head, in a new machine.
 fn open_image<K: Keep>(machine: &mut Machine<K>, head: &Head) -> Result<Journal, OpenFault>
     requires new { state_of K.record_of machine.old ≡ manufactured (replicate 256 0) }
     requires never_refused { K.can_refuse ≡ false }
@@ -64,9 +63,8 @@ fn open_image<K: Keep>(machine: &mut Machine<K>, head: &Head) -> Result<Journal,
     }
 }
 
-/// Restores the device from the state text in a head, in a machine just manufactured with all-zero
-/// random bytes. A text of version 1 is refused, because its entries were answered by another
-/// completing layer.
+/// Restores the device from the state text in a head, in a new machine. A text of version 1 is
+/// refused, because its entries were answered by another completing layer.
 fn open_state<K: Keep>(machine: &mut Machine<K>, head: &Head) -> Result<Journal, OpenFault>
     requires new { state_of K.record_of machine.old ≡ manufactured (replicate 256 0) }
     requires never_refused { K.can_refuse ≡ false }
@@ -80,8 +78,8 @@ fn open_state<K: Keep>(machine: &mut Machine<K>, head: &Head) -> Result<Journal,
     }
 }
 
-/// Opens the device from a head, in a machine just manufactured with all-zero random bytes. Returns
-/// the journal of the head. On error, the machine is unspecified.
+/// Opens the device from a head, in a new machine. Returns the journal of the head. On error, the
+/// machine is unspecified.
 fn open_head<K: Keep>(machine: &mut Machine<K>, head: &Head) -> Result<Journal, OpenFault>
     requires new { state_of K.record_of machine.old ≡ manufactured (replicate 256 0) }
     requires never_refused { K.can_refuse ≡ false }

@@ -58,8 +58,8 @@ pub fn restore_new<K: Keep>(
     fill(machine, text)
 }
 
-/// Restores the machine of a state text into a machine just manufactured with all-zero random
-/// bytes. The contract does not mention the device that wrote the text.
+/// Restores the machine of a state text into a new machine. The contract does not mention the
+/// device that wrote the text.
 fn fill<K: Keep>(machine: &mut Machine<K>, text: &[u8]) -> Result<Option<Layer>, RestoreFault>
     requires { state_of K.record_of machine.old ≡ manufactured (replicate 256 0) }
     ensures { RestoresNew K.can_refuse (state_of_text text.now) (state_of K.record_of machine.new)

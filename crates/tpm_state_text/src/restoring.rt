@@ -16,8 +16,7 @@ use std::alloc::Global;
 use tpm_image_text::FillFault;
 use tpm_record::Keep;
 
-/// Reads the body of a text of this version into a device just manufactured with all-zero random
-/// bytes. Returns the completing layer.
+/// Reads the body of a text of this version into a new device. Returns the completing layer.
 #[tactic(auto, unfolding(crate::specs::State::state_in_body))]
 fn read_version<K: Keep>(
     keep: &mut K,
