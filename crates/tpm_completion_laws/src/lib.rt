@@ -1,6 +1,6 @@
 #![tactic(auto)]
 
-//! Laws about the completing layer: about the contexts that it makes and loads, and about what it
+//! Laws of the completing layer: about the contexts that it makes and loads, and about what it
 //! lists.
 //!
 //! The laws are about the definitions of tpm_completion: each law is the contract of a function

@@ -52,8 +52,8 @@ run_of_all can before old (one ∷ performances) after new leads =
     ++ run_of_all can (journal_after before one.entry one.seen.layer) one.seen.step.after
     performances after new leads.1
 
--- The checksums of the responses equal those in the entries. If the fault is that the device
--- answered differently, only the last checksum differs.
+-- The checksums of the responses are those in the entries. If the device answered differently, only
+-- the last sum differs.
 abbrev pub AnswersAre : Option FollowFault → (sums said : List ℕ) → Type 0
 AnswersAre None sums said = sums ≡ said
 AnswersAre (Some Damaged) sums said = sums ≡ said

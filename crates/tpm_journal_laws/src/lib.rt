@@ -1,7 +1,7 @@
 #![tactic(auto)]
 
-//! Laws about journals: what the text of a journal means as a script, how a journal follows the
-//! host's clock and records buffers, and which commands of a damaged journal are executed.
+//! Laws of journals: what the text of a journal means as a script, how a journal follows the host's
+//! clock and records buffers, and which commands of a damaged journal are executed.
 //!
 //! The laws are about the definitions of tpm_journal, tpm_journal_text and tpmsim_script. Each
 //! function states a law in its contract, and does nothing at run time. No crate uses this one.
