@@ -1,4 +1,4 @@
--- Counters are no more than all NV indices.
+-- There are at most as many counters as NV indices.
 use Rattle.std.proofs.Common.{ℕ, ◌≤◌, List, length, count_by}
 use Rattle.std.proofs.lemmas.List.Sums.{count_by-le-length}
 use Rattle.tpm_nv.specs.declared.head.Head.{Head}

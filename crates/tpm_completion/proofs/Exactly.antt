@@ -1,4 +1,4 @@
--- If no memory is refused, the effect of an event is that of the function.
+-- If no allocation fails, the effect of an event is the one that `completed` defines.
 use Rattle.std.proofs.Common.{◌≡◌, ℕ, Bool, true, false, List, Option, Some, None, Result, Ok, Err, refl, ap, sym, ◌∙◌}
 use Rattle.std.proofs.lemmas.Bool.{false≢true}
 use Rattle.tpm_machine.specs.Drawn.{drawn_by}
@@ -41,13 +41,14 @@ completes_exactly c old (Given buffer locality elapsed random) seen x = asks_fir
 completes_exactly c old Cycled seen x = passes_exactly c old Cycled seen x
 completes_exactly c old (Placed object) seen x = passes_exactly c old (Placed object) seen x
 
--- with the layer or without it, the effect is that of the function if `can` is false
+-- if `can` is false, the effect of an event is the one that `completed` defines, with or without
+-- the layer
 pub exactly : (can completes : Bool) (c : Completion) (old : Record) (event : PlainEvent) (seen : Seen) → CompletesIf can completes c old event seen → can ≡ false → seen ≡ completed completes c old event
 exactly false false c old event seen is never = passes_exactly c old event seen is
 exactly false true c old event seen is never = completes_exactly c old event seen is
 exactly true completes c old event seen is never = absurd (false≢true (sym never))
 
--- the effect by cases: with the layer or without it
+-- the effect of an event in two cases: without the layer, and with it
 pub completes_by_cases : (can completes : Bool) (c : Completion) (old : Record) (event : PlainEvent) (seen : Seen) → (completes ≡ false → Passes can c old event seen) → (completes ≡ true → Completes can c old event seen) → CompletesIf can completes c old event seen
 completes_by_cases can false c old event seen off on = off refl
 completes_by_cases can true c old event seen off on = on refl

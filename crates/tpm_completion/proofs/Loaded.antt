@@ -1,4 +1,4 @@
--- Which contexts of objects are loaded.
+-- Which contexts of objects can be loaded.
 use Rattle.std.proofs.Common.{◌≡◌, ℕ, List, ◌++◌, refl, sym, ap, ◌∙◌}
 use Rattle.tpm_bytes.specs.Writing.{sized_text}
 use Rattle.tpm_image_text.specs.Body.{object_fields_text}
@@ -15,7 +15,7 @@ use Rattle.tpm_context.specs.declared.head.ContextHead.{ContextHead}
 use Rattle.tpm_completion.specs.Loaded.{LoadsOnlyWhatWasMade, LoadsWhatWasSaved}
 use Rattle.tpm_completion.specs.Saving.{binding_of}
 
--- Two bindings are the same for an object.
+-- Two bindings agree in everything that matters for an object.
 record BindsAlike (a b : Binding) (o : Object) : Type 0 where
   start : b.start ≡ a.start
   reset_count : b.reset_count ≡ a.reset_count

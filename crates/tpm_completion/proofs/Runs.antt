@@ -1,4 +1,5 @@
--- What the device executes for one event leads from its record to the one after the event.
+-- The device's executions for one event lead from its record before the event to its record after
+-- it.
 use Rattle.std.proofs.Common.{◌≡◌, ℕ, Bool, true, false, List, Option, Some, None, Result, Ok, Err, refl, ap}
 use Rattle.tpm_machine.specs.Executions.{Leads}
 use Rattle.tpm_machine.proofs.Following.{stretch_follows}

@@ -1,4 +1,4 @@
--- What the completing layer lists of each capability, in ascending order. TPM 2.0 Library, Part 2,
+-- The completing layer's list for each capability, in ascending order. TPM 2.0 Library, Part 2,
 -- sections 6.3 (TPM_ALG_ID), 6.12 (TPM_CAP), 8.2 (TPMA_ALGORITHM) and 8.9 (TPMA_CC), and Part 3,
 -- section 30.2 (TPM2_GetCapability).
 use Rattle.std.specs.Prelude.{true, false, ℕ, ◌/◌, ◌%◌, ◌^◌, ◌==◌, ◌||◌, not, Bool, List, [], ◌∷◌, ◌++◌, length, if◌then◌else◌, Option, Some, None, Result, Ok}
@@ -30,8 +30,9 @@ asked_at text = do
   ended ← refused_if (not (length count.1 == 0)) too_short
   Ok (record { capability = capability.0; property = property.0; count = count.0 })
 
--- ---- algorithms, with their attributes: symmetric is 2, hash 4, object 8, signing 100, encrypting
--- 200 and method 400
+-- ---- algorithms
+-- an algorithm's attributes: symmetric is 2, hash 4, object 8, signing 100, encrypting 200, and
+-- method 400
 
 abbrev pub algorithm_elements : List Element
 algorithm_elements =
@@ -48,7 +49,7 @@ algorithm_elements =
 
 -- ---- commands, with their attributes: ContextSave has a handle, and ContextLoad answers one
 
--- the layer's own commands that come before one of the device's: IncrementalSelfTest; StirRandom;
+-- the layer's own commands that precede a command of the device: IncrementalSelfTest; StirRandom;
 -- ContextLoad and ContextSave; GetTestResult and Hash; TestParms
 abbrev pub own_before : CommandCode → List Element
 own_before command.SelfTest = element 0x142 0x142 ∷ []
@@ -58,7 +59,7 @@ own_before command.PcrRead = element 0x17c 0x17c ∷ element 0x17d 0x17d ∷ []
 own_before command.PolicyPassword = element 0x18a 0x18a ∷ []
 own_before _ = []
 
--- the elements of a command: the layer's own commands that come before it, and the command
+-- the elements for a command: the layer's own commands that precede it, and the command
 unfoldable pub commands_by : CommandCode → List Element
 commands_by code = own_before code ++ command_element code ∷ []
 
@@ -67,7 +68,7 @@ command_elements = flat_map commands_by all_codes
 
 -- ---- the answer
 
--- the list of the handles with a highest byte, if the layer lists them otherwise than the device
+-- the layer's list of the handles whose highest byte is `kind`, if it differs from the device's
 abbrev pub handles_told : Record → Completion → Asked → (kind : ℕ) → Option (List ℕ)
 handles_told r c asked kind =
     if kind == 0x02 then
@@ -76,7 +77,7 @@ handles_told r c asked kind =
     Some (listing form.Value 1 (asked.property % 2 ^ 24) asked.count (sessions_shown r c true))
     else None)
 
--- the layer's list of a capability that the device answered, if it has one
+-- the layer's list for a capability that the device answered, if it has one
 abbrev pub told_of : Record → Completion → Asked → Option (List ℕ)
 told_of r c asked =
     if asked.capability == 1 then handles_told r c asked (asked.property / 2 ^ 24)
@@ -86,12 +87,12 @@ told_of r c asked =
     Some (listing form.Property 6 asked.property asked.count (property_elements r c))
     else None))
 
--- whether the layer has an empty list of a capability: the device asks for no physical presence
--- (3), audits no command (4), and has no elliptic curve (8)
+-- whether the layer answers this capability with an empty list: the device requires no physical
+-- presence (3), audits no command (4), and has no elliptic curve (8)
 abbrev pub is_empty : (capability : ℕ) → Bool
 is_empty capability = (capability == 3) || ((capability == 4) || (capability == 8))
 
--- the layer's list of a capability that the device refused, if it has one
+-- the layer's list for a capability that the device refused, if it has one
 abbrev pub refused_of : Asked → Option (List ℕ)
 refused_of asked =
     if asked.capability == 0 then
@@ -102,8 +103,8 @@ refused_of asked =
     Some (listing form.Value asked.capability asked.property asked.count [])
     else None))
 
--- the bytes after the header of the layer's answer to TPM2_GetCapability, if it has one: the
--- device answered the capability, or refused it with VALUE for parameter 1
+-- the layer's answer to TPM2_GetCapability, without its header, if it has one: the device answered
+-- the capability, or refused it with VALUE for parameter 1
 unfoldable pub capability_told : Record → Completion → Asked → (was_told : Bool) → List ℕ
     → Option (List ℕ)
 capability_told r c asked was_told response =

@@ -1,5 +1,5 @@
--- A command as far as the completing layer reads it. TPM 2.0 Library, Part 1, section 18 (command
--- and response structures).
+-- The part of a command that the completing layer reads. TPM 2.0 Library, Part 1, section 18
+-- (command and response structures).
 use Rattle.std.specs.Prelude.{ℕ, ◌==◌, not, List, length, Result, Ok, Err}
 use Rattle.std.specs.Int.{w16, w32}
 use Rattle.tpm_bytes.specs.Reading.{◌>>=◌, number_at, refused_if, too_short}
@@ -14,7 +14,7 @@ pub record Command : Type 0 where
 abbrev pub command_of : PlainCommand → Command
 command_of c = record { code = c.code; parameters = c.parameters.now }
 
--- the command of a buffer with the tag TPM_ST_NO_SESSIONS and the size that its header says
+-- the command in a buffer with the tag TPM_ST_NO_SESSIONS and the size that its header states
 unfoldable pub plain_command : List ℕ → Result Command Short
 plain_command buffer = do
   tag ← number_at w16 buffer

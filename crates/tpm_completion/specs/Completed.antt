@@ -1,5 +1,5 @@
--- The effect of one event, with the completing layer or without it, if no memory is refused: a
--- function of the layer, the record and the event.
+-- The effect of one event, with or without the completing layer, as a function of the layer, the
+-- record and the event, if no allocation fails.
 use Rattle.std.specs.Prelude.{ℕ, Bool, true, false, List, Option, Some, None, Result, Ok, Err}
 use Rattle.tpm_machine.specs.Drawn.{drawn_by}
 use Rattle.tpm_object.specs.declared.object.Object.{Object}
@@ -25,7 +25,7 @@ abbrev pub loaded_behind : Seen → Result Object ContextFault → Seen
 loaded_behind first (Ok object) = placed_behind first (step first.step.after (Placed object))
 loaded_behind first (Err fault) = unopened_behind first fault
 
--- the effect after the device's execution of a command: the context of an object is loaded, or the
+-- the effect after the device has executed a command: the context of an object is loaded, or the
 -- layer may answer
 abbrev pub done_behind : Seen → (buffer : List ℕ) → Option (List ℕ) → Seen
 done_behind first buffer (Some context) = loaded_behind first (opened_behind first context)
@@ -40,7 +40,7 @@ completed_with c old (Given buffer locality elapsed random) =
 completed_with c old Cycled = passed c old Cycled
 completed_with c old (Placed object) = passed c old (Placed object)
 
--- the effect of an event with the layer (true), or without it (false)
+-- the effect of an event: with the layer if `completes` is true, otherwise without it
 abbrev pub completed : (completes : Bool) → Completion → Record → PlainEvent → Seen
 completed false c old event = passed c old event
 completed true c old event = completed_with c old event

@@ -1,5 +1,5 @@
--- What the completing layer remembers of the sessions of a device. TPM 2.0 Library, Part 1, section
--- 30 (context management).
+-- What the completing layer remembers about the sessions of a device. TPM 2.0 Library, Part 1,
+-- section 30 (context management).
 use Rattle.std.specs.Prelude.{ℕ, get_or, is_some, map, replicate, if◌then◌else◌}
 use Rattle.tpm_bytes.specs.Numbers.{numbers_below}
 use Rattle.tpm_containers.specs.Slots.{at_place}
@@ -7,7 +7,7 @@ use Rattle.tpm_types.specs.Limits.{session_limit}
 use Rattle.tpm_record.specs.Record.{Record}
 use Rattle.tpm_completion.specs.declared.completion.Completion.{Completion}
 
--- the layer of a start, before any context
+-- the layer after a start, before it has saved any context
 abbrev pub new_completion : (start : ℕ) → Completion
 new_completion start =
     record { start = start; count = 0; sessions = replicate session_limit 0 }
@@ -16,10 +16,10 @@ new_completion start =
 abbrev pub session_context : Completion → ℕ → ℕ
 session_context c place = get_or c.sessions place 0
 
--- the number of the context of the session in a slot, if the device still has a session there
+-- the number of the context of the session in a slot, or 0 if the device has no session there
 unfoldable pub session_kept : Record → Completion → ℕ → ℕ
 session_kept r c place = if is_some (at_place r.sessions place) then session_context c place else 0
 
--- the layer without the contexts of sessions that are gone
+-- the layer without the contexts of sessions that no longer exist
 unfoldable pub forgotten : Record → Completion → Completion
 forgotten r c = record c { sessions = map (session_kept r c) (numbers_below session_limit) }

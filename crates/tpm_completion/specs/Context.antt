@@ -15,7 +15,7 @@ use Rattle.tpm_completion.specs.declared.context.Token.{Token}
 abbrev pub session_context_size : ℕ
 session_context_size = 38
 
--- the bytes "tpmsim 1", by which a token is known
+-- the bytes "tpmsim 1", which identify a token
 abbrev pub mark : List ℕ
 mark = 0x74 ∷ 0x70 ∷ 0x6d ∷ 0x73 ∷ 0x69 ∷ 0x6d ∷ 0x20 ∷ 0x31 ∷ []
 
@@ -23,15 +23,15 @@ mark = 0x74 ∷ 0x70 ∷ 0x6d ∷ 0x73 ∷ 0x69 ∷ 0x6d ∷ 0x20 ∷ 0x31 ∷ [
 abbrev pub token_text : (start : ℕ) → Handle → List ℕ
 token_text start handle = mark ++ to_be_bytes w64 start ++ to_be_bytes w32 handle.number
 
--- the context of a token: its number is the sequence, its handle the savedHandle, and its hierarchy
--- is TPM_RH_NULL
+-- the context of a token: the sequence is the token's number, the savedHandle its handle, and the
+-- hierarchy TPM_RH_NULL
 unfoldable pub context_text : (start : ℕ) → Token → List ℕ
 context_text start token =
     to_be_bytes w64 token.context ++ to_be_bytes w32 token.handle.number
     ++ to_be_bytes w32 null_handle.number ++ sized_text (token_text start token.handle)
 
--- the token of a context's bytes: its number comes first, and its handle after 26 more bytes. The
--- bytes must be just those of the token's context
+-- the token in a context: its number comes first, and its handle after 26 more bytes. The bytes
+-- must be exactly those of the token's context
 unfoldable pub token_at : (start : ℕ) → List ℕ → Result Token Short
 token_at start text = do
   context ← number_at w64 text
@@ -54,6 +54,7 @@ abbrev pub is_of_session : Result Handle Short → Bool
 is_of_session (Ok handle) = is_session handle
 is_of_session (Err e) = false
 
--- whether the savedHandle of a context is a session's. Every other context is read as an object's
+-- whether the savedHandle of a context is the handle of a session; every other context is read as
+-- an object's
 abbrev pub names_session : List ℕ → Bool
 names_session context = is_of_session (saved_handle_at context)

@@ -1,5 +1,5 @@
 -- How the completing layer handles one event: which events the device executes, what the client
--- gets, and what the layer remembers then.
+-- gets, and the layer's new state.
 use Rattle.std.specs.Prelude.{◌≡◌, ℕ, ◌==◌, Bool, true, false, List, Option, Some, None, Result, Ok, Err}
 use Rattle.tpm_machine.specs.Follows.{After, Follows}
 use Rattle.tpm_machine.specs.Drawn.{drawn_by}
@@ -21,14 +21,14 @@ use Rattle.tpm_completion.specs.Reply.{reply}
 use Rattle.tpm_completion.specs.Saving.{Reply, refused}
 use Rattle.tpm_completion.specs.declared.completion.Completion.{Completion}
 
--- the effect of an event: the response, the device's own row and its record; what the layer
--- remembers then; and how many random bytes the device's last event drew
+-- the effect of an event: the response, the device's row and its record; the layer's new state; and
+-- how many random bytes the device's last event drew
 pub record Seen : Type 0 where
   pub step : Stepped
   pub layer : Completion
   pub drawn : ℕ
 
--- the effect that a machine, a layer and an outcome of the code show
+-- the effect that a machine, a layer and an outcome of the code represent
 abbrev pub seen_of : {K S O P N : Type 0} → (K → Record) → Machine K S O P N → Completion → Outcome
     → Seen
 seen_of record_of machine layer outcome = record {
@@ -37,7 +37,7 @@ seen_of record_of machine layer outcome = record {
   drawn = latest_drawn machine;
 }
 
--- the effect with the layer's answer instead of the device's
+-- the same effect, but the client gets the layer's response
 abbrev pub answered : Seen → Reply → Seen
 answered seen reply = record {
   step = record seen.step { response = reply.response };
@@ -45,8 +45,8 @@ answered seen reply = record {
   drawn = seen.drawn;
 }
 
--- The device alone executes an event. If it followed a history, it follows the history with this
--- event. The layer only forgets the contexts of sessions that are gone.
+-- The device alone executes an event. If the device follows a history, it then follows that history
+-- extended by this event. The layer only forgets the contexts of sessions that no longer exist.
 pub record Passes (can : Bool) (c : Completion) (old : Record) (event : PlainEvent) (seen : Seen)
     : Type 0
   where
@@ -57,17 +57,17 @@ pub record Passes (can : Bool) (c : Completion) (old : Record) (event : PlainEve
 
 -- ---- a command that loads the context of an object
 
--- the object that a context asked for contains, or why it is not loaded, after this effect on the
--- device
+-- the object in the context that a command is to load, or why it cannot be loaded; `first` is the
+-- command's effect on the device
 abbrev pub opened_behind : Seen → (context : List ℕ) → Result Object ContextFault
 opened_behind first context = object_opened first.step.after first.layer context
 
--- the effect when the context is refused, which changes nothing
+-- the effect of refusing the context: an error response, and no other change
 abbrev pub unopened_behind : Seen → ContextFault → Seen
 unopened_behind first fault = answered first (refused first.layer (rc_number (fault_rc fault)))
 
--- the effect with the object placed by this step of the device. The row stays that of the command,
--- which the device refused
+-- the effect after the device has placed the object; the row is still that of the command, which
+-- the device refused
 abbrev pub placed_behind : Seen → (placing : Stepped) → Seen
 placed_behind first placing =
     let reply : Reply = placed_reply first.layer (next_handle first.step.after.objects) in
@@ -77,55 +77,58 @@ placed_behind first placing =
       drawn = 0;
     }
 
--- the effect when the device is refused the memory for the object: MEMORY (904), and nothing else
+-- the effect if memory for the object ran out: the response is MEMORY (904), and the state is
+-- unchanged
 abbrev pub unplaced_behind : Seen → Seen
 unplaced_behind first = record (answered first (refused first.layer 0x904)) { drawn = 0 }
 
--- After this effect, the device executes the placing of an object.
+-- After a command's effect `first`, the device executes the event that places an object.
 pub record ExecutesPlacing (can : Bool) (first : Seen) (object : Object) (placing : Stepped) : Type 0
   where
     pub executes : Executes can first.step.after (Placed object) placing
     pub history : After Follows first.step.after (Placed object) placing
 
--- The device places an object (false), or is refused the memory for it (true), which happens only
--- if it can be.
+-- The device places an object. Or memory runs out (`refused`), which is possible only if `can` is
+-- true.
 abbrev pub PlacesIf : (can refused : Bool) → Seen → Object → Seen → Type 0
 PlacesIf can false first object seen =
     (placing : Stepped) × ExecutesPlacing can first object placing
     × (seen ≡ placed_behind first placing)
 PlacesIf can true first object seen = (can ≡ true) × (seen ≡ unplaced_behind first)
 
--- After the device refused the command, the object of its context is placed, or the context is
--- refused.
+-- The device refused the command. Then the object of the command's context is placed, or the
+-- context is refused.
 abbrev pub Loads : (can : Bool) → Seen → Result Object ContextFault → Seen → Type 0
 Loads can first (Ok object) seen = (refused : Bool) × PlacesIf can refused first object seen
 Loads can first (Err fault) seen = seen ≡ unopened_behind first fault
 
 -- ---- any command
 
--- the context of an object that a buffer loads after this effect on the device, if any
+-- the context of the object that a command is to load, if any; `first` is the command's effect on
+-- the device
 abbrev pub asked_behind : Seen → (buffer : List ℕ) → Option (List ℕ)
 asked_behind first buffer = context_asked first.step.after buffer first.step.response
 
--- the layer's answer after this effect on the device, to a command that loads no object
+-- the layer's answer to a command that loads no object; `first` is the command's effect on the
+-- device
 abbrev pub reply_behind : Seen → (buffer : List ℕ) → Reply
 reply_behind first buffer =
     reply first.step.after first.layer buffer first.step.response (first.step.row.check == 0)
 
--- After the device's execution of a command, the context of an object is loaded; or the layer
+-- After the device has executed a command, the context of an object is loaded, or the layer
 -- answers, or the client gets the device's response.
 abbrev pub Behind : (can : Bool) → Seen → (buffer : List ℕ) → Option (List ℕ) → Seen → Type 0
 Behind can first buffer (Some context) seen = Loads can first (opened_behind first context) seen
 Behind can first buffer None seen = seen ≡ answered first (reply_behind first buffer)
 
--- The device executes a command first.
+-- The device executes the command first, and the layer may answer afterwards.
 abbrev pub AsksFirst : Bool → Completion → Record → (buffer : List ℕ) → (locality elapsed : ℕ)
     → List ℕ → Seen → Type 0
 AsksFirst can c old buffer locality elapsed random seen =
     (first : Seen) × Passes can c old (Given buffer locality elapsed random) first
     × Behind can first buffer (asked_behind first buffer) seen
 
--- An event had this effect with the layer: the device alone executes a power cycle or places an
+-- An event has this effect with the layer. The device alone executes a power cycle or a placed
 -- object.
 abbrev pub Completes : Bool → Completion → Record → PlainEvent → Seen → Type 0
 Completes can c old (Given buffer locality elapsed random) seen =
@@ -133,7 +136,7 @@ Completes can c old (Given buffer locality elapsed random) seen =
 Completes can c old Cycled seen = Passes can c old Cycled seen
 Completes can c old (Placed object) seen = Passes can c old (Placed object) seen
 
--- An event had this effect with the layer (true), or without it (false).
+-- An event has this effect: with the layer if `completes` is true, otherwise without it.
 abbrev pub CompletesIf : (can completes : Bool) → Completion → Record → PlainEvent → Seen → Type 0
 CompletesIf can false c old event seen = Passes can c old event seen
 CompletesIf can true c old event seen = Completes can c old event seen

@@ -23,7 +23,7 @@ use Rattle.tpm_record.specs.Hierarchy.{secrets_of}
 use Rattle.tpm_record.specs.declared.hierarchy.Hierarchies.{Hierarchies}
 use Rattle.tpm_record.specs.rows.Rows.{all_read, parameter}
 
--- the hierarchy at the front of a text, and what is after it
+-- the hierarchy whose handle is at the beginning of a text, and the rest of the text
 unfoldable pub hierarchy_at : List ℕ → Result (HierarchyHandle × List ℕ) Rc
 hierarchy_at text = do
   number ← or_fault (number_at w32 text) (plain code.Insufficient)
@@ -32,12 +32,12 @@ hierarchy_at text = do
 
 -- ---- the ticket
 
--- whether data begin as a structure that a TPM signs: with TPM_GENERATED_VALUE
+-- whether the data begin with TPM_GENERATED_VALUE, like a structure that a TPM signs about itself
 abbrev pub is_generated : (message : List ℕ) → Bool
 is_generated message = starts_with nat_eq message (0xff ∷ 0x54 ∷ 0x43 ∷ 0x47 ∷ [])
 
--- the hierarchy of the ticket: the one that was asked for, or TPM_RH_NULL, if a restricted key may
--- not sign the digest of these data
+-- the hierarchy of the ticket: the requested one, or TPM_RH_NULL if a restricted key may not sign
+-- the digest of these data
 abbrev pub ticket_hierarchy : HierarchyHandle → (message : List ℕ) → HierarchyHandle
 ticket_hierarchy asked message = if is_generated message then kind.Null else asked
 
@@ -45,8 +45,8 @@ ticket_hierarchy asked message = if is_generated message then kind.Null else ask
 abbrev pub hash_check_tag : List ℕ
 hash_check_tag = to_be_bytes w16 0x8024
 
--- the digest of the ticket: empty for TPM_RH_NULL, and else the HMAC by the hierarchy's proof,
--- with SHA-256 (which is this device's own choice), of the tag and the digest of the data
+-- the digest of the ticket: empty for TPM_RH_NULL, and otherwise an HMAC of the tag and the digest
+-- of the data, whose key is the hierarchy's proof. SHA-256 is this device's own choice.
 abbrev pub ticket_digest : HierarchyHandle → (proof digest : List ℕ) → List ℕ
 ticket_digest kind.Null proof digest = []
 ticket_digest _ proof digest = hmac_of Sha256 proof (hash_check_tag ++ digest)

@@ -1,5 +1,5 @@
--- How a capability's list is answered. TPM 2.0 Library, Part 3, section 30.2, and Part 2, sections
--- 10.8 (TPMS_ALG_PROPERTY, TPMS_TAGGED_PROPERTY, TPMS_TAGGED_PCR_SELECT) and 10.10
+-- The list in an answer to TPM2_GetCapability. TPM 2.0 Library, Part 3, section 30.2, and Part 2,
+-- sections 10.8 (TPMS_ALG_PROPERTY, TPMS_TAGGED_PROPERTY, TPMS_TAGGED_PCR_SELECT) and 10.10
 -- (TPMS_CAPABILITY_DATA).
 use Rattle.std.specs.Prelude.{ℕ, ◌%◌, ◌^◌, nat_lt, List, ◌∷◌, ◌++◌, filter, take, if◌then◌else◌}
 use Rattle.std.specs.Int.{w8, w16, w32, to_be_bytes, to_le_bytes}
@@ -13,8 +13,8 @@ abbrev pub element : (number told : ℕ) → Element
 element number told = record { number = number; told = told }
 
 -- the text of an element: a handle or a command's attributes; a property and its value; an
--- algorithm and its attributes; a property of PCRs, and the three octets that select those that
--- have it
+-- algorithm and its attributes; a property of PCRs, and three octets that select the PCRs with this
+-- property
 abbrev pub told_text : Form → Element → List ℕ
 told_text form.Value e = to_be_bytes w32 e.told
 told_text form.Property e = to_be_bytes w32 e.number ++ to_be_bytes w32 e.told
@@ -22,13 +22,13 @@ told_text form.Algorithm e = to_be_bytes w16 (e.number % 2 ^ 16) ++ to_be_bytes 
 told_text form.Selection e =
     to_be_bytes w32 e.number ++ to_be_bytes w8 3 ++ take 3 (to_le_bytes w32 e.told)
 
--- the text of the first elements from a number on, at most `count`
+-- the text of at most `count` of the elements whose number is at least `from`
 abbrev pub text_of : Form → (from count : ℕ) → List Element → List ℕ
 text_of form from count elements =
     flat_map (told_text form) (take count (filter (is_from from) elements))
 
--- the text of a list: whether there are more elements than it lists (moreData), the capability,
--- the number of elements, and these
+-- the text of a list: whether the capability has more elements (moreData), the capability, the
+-- number of elements, and the elements
 abbrev pub listing : Form → (capability from count : ℕ) → List Element → List ℕ
 listing form capability from count elements =
     (if nat_lt (told_count from count elements) (found_count from elements) then 1 else 0)

@@ -1,5 +1,5 @@
--- Which contexts of objects are loaded: those that were saved since the start of the layer and the
--- last TPM Reset. TPM 2.0 Library, Part 1, section 30 (context management).
+-- Which contexts of objects can be loaded: those that were saved since the start of the layer and
+-- the last TPM Reset. TPM 2.0 Library, Part 1, section 30 (context management).
 use Rattle.std.specs.Prelude.{◌≡◌, ◌⊎◌, ℕ, ◌<◌, ◌^◌, List, Ok}
 use Rattle.tpm_object.specs.Object.{IsObject}
 use Rattle.tpm_object.specs.declared.object.Object.{Object}
@@ -11,7 +11,7 @@ use Rattle.tpm_completion.specs.Loading.{object_opened}
 use Rattle.tpm_completion.specs.Saving.{binding_of}
 use Rattle.tpm_completion.specs.declared.completion.Completion.{Completion}
 
--- the context that TPM2_ContextSave makes of an object, with this sequence
+-- the context that TPM2_ContextSave returns for an object, with this sequence number
 abbrev pub saved_context : Record → Completion → (number : ℕ) → Object → List ℕ
 saved_context r c number object =
     object_context_text r.fixed.hierarchies (binding_of r c) number object
@@ -26,16 +26,16 @@ pub record StaysValid (r later : Record) (c d : Completion) (object : Object) : 
   pub reset_count : later.fixed.reset_count ≡ r.fixed.reset_count
   pub restart_count : restart_of (binding_of later d) object ≡ restart_of (binding_of r c) object
 
--- A valid context contains the object that was saved.
+-- Loading a valid context yields the object that was saved.
 abbrev pub LoadsWhatWasSaved : Type 0
 LoadsWhatWasSaved =
     (r later : Record) (c d : Completion) (number : ℕ) (object : Object)
     → number < 2 ^ 64 → IsObject object → StaysValid r later c d object
     → object_opened later d (saved_context r c number object) ≡ Ok object
 
--- A context that is loaded was made with the same proof, start and count of TPM Resets, and for an
--- object with stClear the same count of TPM Restarts; or the HMAC has a collision. It is loaded as
--- the object of which it was made.
+-- A context that can be loaded was made with the same proof, start and count of TPM Resets, and for
+-- an object with stClear the same count of TPM Restarts; or the HMAC has a collision. Loading it
+-- yields the object from which it was made.
 abbrev pub LoadsOnlyWhatWasMade : Type 0
 LoadsOnlyWhatWasMade =
     (c : Making) (r : Record) (layer : Completion) (object : Object)

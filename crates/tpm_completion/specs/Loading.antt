@@ -12,8 +12,7 @@ use Rattle.tpm_completion.specs.Context.{names_session}
 use Rattle.tpm_completion.specs.Saving.{Reply, binding_of, handle_given, refused}
 use Rattle.tpm_completion.specs.declared.completion.Completion.{Completion}
 
--- the context that a command loads as an object's: TPM2_ContextLoad (161) of a context that names
--- no session
+-- the context in a TPM2_ContextLoad (161), unless it names a session
 abbrev pub object_context_in : Result Command Short → Option (List ℕ)
 object_context_in (Ok command) =
     if (command.code == 0x161) && not (names_session command.parameters) then
@@ -21,19 +20,18 @@ object_context_in (Ok command) =
     else None
 object_context_in (Err e) = None
 
--- the context of an object that a buffer loads, if the device is started and refused the buffer
+-- the context in a TPM2_ContextLoad of an object, if the device is started and refused the command
 -- with COMMAND_CODE (143)
 unfoldable pub context_asked : Record → (buffer response : List ℕ) → Option (List ℕ)
 context_asked r buffer response =
     if r.fixed.started && is_refusal 0x143 response then object_context_in (plain_command buffer)
     else None
 
--- the object of a context, or why it is not loaded
+-- the object in a context, or why it cannot be loaded
 abbrev pub object_opened : Record → Completion → (context : List ℕ) → Result Object ContextFault
 object_opened r c context = opened r.fixed.hierarchies (binding_of r c) context
 
--- the reply after an object was placed: the handle that it got; OBJECT_MEMORY (902) if no slot was
--- free
+-- the reply after an object was placed: its handle, or OBJECT_MEMORY (902) if no slot was free
 abbrev pub placed_reply : Completion → Option Handle → Reply
 placed_reply c (Some handle) = handle_given c handle
 placed_reply c None = refused c 0x902

@@ -6,8 +6,8 @@ use Rattle.tpm_actions_capability.specs.declared.element.Element.{Element}
 use Rattle.tpm_completion.specs.Listing.{element}
 
 -- the PCRs that a TPM2_Shutdown(STATE) saves; those that may be extended and reset from each
--- locality; and that each change counts as an update, and no PCR has a policy or an authorization
--- value
+-- locality; the PCRs whose changes do not count as an update, and those with a policy or an
+-- authorization value: none
 abbrev pub pcr_property_elements : List Element
 pcr_property_elements =
     element 0x00 0x00_ffff  -- SAVE

@@ -27,12 +27,12 @@ use Rattle.tpm_completion.specs.declared.completion.Completion.{Completion}
 abbrev pub own_count : ℕ
 own_count = 7
 
--- the number of all commands, which are all in the library
+-- the number of all commands; all of them are commands of the TPM 2.0 Library
 abbrev pub command_count : ℕ
 command_count = length all_codes + own_count
 
--- who made the device, and by which specification: family "2.0", level 0, revision 1.38 of
--- 29 September 2016, manufacturer "TSIM", vendor "tpmsim", model 1, firmware 1.0
+-- the device's manufacturer and specification: family "2.0", level 0, revision 1.38 of 29 September
+-- 2016, manufacturer "TSIM", vendor "tpmsim", model 1, firmware 1.0
 unfoldable pub identity_elements : List Element
 identity_elements =
     element 0x100 0x322e_3000  -- FAMILY_INDICATOR
@@ -50,10 +50,10 @@ identity_elements =
     ∷ element 0x10c 0  -- FIRMWARE_VERSION_2
     ∷ []
 
--- how much the device holds and takes, and how the contexts of objects are protected. Sessions that
--- are saved keep their slots, so as many are active as can be loaded; contexts of sessions may be
--- of any age; each NV index may be a counter; TPMA_MEMORY is 0, as no memory is shared and no
--- persistent object is copied
+-- the device's limits, and how the contexts of objects are protected. Saved sessions keep their
+-- slots; therefore the limits of active and of loaded sessions are equal. Contexts of sessions may
+-- have any age, and each NV index may be a counter. TPMA_MEMORY is 0, since no memory is shared and
+-- no persistent object is copied.
 unfoldable pub limit_elements : List Element
 limit_elements =
     element 0x10d data_limit  -- INPUT_BUFFER
@@ -85,7 +85,7 @@ limit_elements =
 
 -- ---- attributes
 
--- an attribute of this value, if it is set
+-- the value of an attribute if it is set, otherwise 0
 abbrev pub attribute_if : (set : Bool) → (value : ℕ) → ℕ
 attribute_if true value = value
 attribute_if false value = 0
@@ -101,8 +101,8 @@ values_set h =
     + attribute_if (is_set h.endorsement.auth_value) 2
     + attribute_if (is_set h.lockout_auth) 4
 
--- TPMA_PERMANENT: these, disableClear, inLockout and tpmGeneratedEPS, as the device draws its
--- seeds like all its random bytes
+-- TPMA_PERMANENT: the attributes of `values_set`, disableClear, inLockout and tpmGeneratedEPS (the
+-- device draws its seeds like all its random bytes)
 abbrev pub permanent_attributes : Fixed → ℕ
 permanent_attributes f =
     values_set f.hierarchies + attribute_if f.disable_clear 0x100
@@ -110,14 +110,14 @@ permanent_attributes f =
     + 0x400
 
 -- TPMA_STARTUP_CLEAR: phEnable, shEnable, ehEnable and phEnableNV, since no command disables a
--- hierarchy; and orderly, if it is known that a TPM2_Shutdown came before the last TPM2_Startup:
--- that was a TPM Restart or a TPM Resume
+-- hierarchy; and orderly, if it is known that a TPM2_Shutdown preceded the last TPM2_Startup, which
+-- then was a TPM Restart or a TPM Resume
 abbrev pub startup_attributes : Fixed → ℕ
 startup_attributes f = 0xf + attribute_if (not (f.restart_count == 0)) 0x8000_0000
 
 -- ---- what is there, and what there is place for
 
--- how many sessions are loaded (false) or saved (true)
+-- how many sessions are saved (for `saved` true) or loaded (for false)
 abbrev pub session_count : Record → Completion → (saved : Bool) → ℕ
 session_count r c saved = length (sessions_shown r c saved)
 
@@ -137,7 +137,7 @@ index_count contents = length (heads_of contents)
 abbrev pub counter_count : NvContents → ℕ
 counter_count contents = count_by is_counter (heads_of contents)
 
--- the attributes, and the counts of the device
+-- the properties that contain the device's attributes and counts
 unfoldable pub count_elements : Record → Completion → List Element
 count_elements r c =
     element 0x200 (permanent_attributes r.fixed)  -- PERMANENT
@@ -153,8 +153,8 @@ count_elements r c =
     ∷ element 0x20a (counter_count r.nv)  -- NV_COUNTERS
     ∷ []
 
--- what the device has none of (a set of algorithms, curves, a wait after a change of NV memory, an
--- audit of commands), and the parameters of lockout
+-- the properties about what the device does not have (a set of algorithms, curves, a wait after a
+-- change of NV memory, an audit of commands), and the parameters of lockout
 abbrev pub lockout_elements : LockoutState → List Element
 lockout_elements lockout =
     element 0x20c 0  -- ALGORITHM_SET

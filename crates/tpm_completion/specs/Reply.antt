@@ -1,8 +1,8 @@
--- The completing layer's answers after the device's response; Loading defines that to
--- TPM2_ContextLoad of an object's context. TPM 2.0 Library, Part 3, sections 10.3
--- (TPM2_IncrementalSelfTest), 10.4 (TPM2_GetTestResult), 15.4 (TPM2_Hash), 16.2
--- (TPM2_StirRandom), 28.2 (TPM2_ContextSave), 28.3 (TPM2_ContextLoad), 30.2 (TPM2_GetCapability)
--- and 30.3 (TPM2_TestParms).
+-- The completing layer's answers after the device has responded. The file Loading defines the
+-- answer to TPM2_ContextLoad of an object's context. TPM 2.0 Library, Part 3, sections 10.3
+-- (TPM2_IncrementalSelfTest), 10.4 (TPM2_GetTestResult), 15.4 (TPM2_Hash), 16.2 (TPM2_StirRandom),
+-- 28.2 (TPM2_ContextSave), 28.3 (TPM2_ContextLoad), 30.2 (TPM2_GetCapability) and 30.3
+-- (TPM2_TestParms).
 use Rattle.std.specs.Prelude.{ℕ, ◌==◌, ◌&&◌, not, Bool, false, List, [], length, if◌then◌else◌, Option, Some, None, Result, Ok, Err}
 use Rattle.std.specs.Int.{w32}
 use Rattle.std.specs.Str.{bytes_eq}
@@ -28,7 +28,7 @@ use Rattle.tpm_completion.specs.declared.completion.Completion.{Completion}
 abbrev pub stands : Completion → List ℕ → Reply
 stands c response = record { response = response; after = c }
 
--- whether these are the parameters of TPM2_StirRandom: at most 128 bytes, which are not used
+-- whether these are valid parameters of TPM2_StirRandom: at most 128 bytes, which are not used
 abbrev pub is_stirred : Result (List ℕ × List ℕ) SizedFault → Bool
 is_stirred (Ok bytes) = length bytes.1 == 0
 is_stirred (Err e) = false
@@ -45,7 +45,7 @@ save_asked r c response (Ok handle) =
     if length handle.1 == 0 then saved r c (numbered handle.0) else stands c response
 save_asked r c response (Err e) = stands c response
 
--- the reply with the success or the refusal of a row
+-- the reply with the result of a row, which is a success or a refusal
 abbrev pub replied : Completion → Result (List ℕ) Refused → Reply
 replied c (Ok body) = record { response = success body; after = c }
 replied c (Err e) = refused c (rc_number e.rc)
@@ -60,8 +60,8 @@ row_served r c command response =
     else (if command.code == 0x18a then replied c (test_parms_row command.parameters)
     else stands c response)))
 
--- the answer to TPM2_ContextLoad of a session's context; the context of an object is loaded after
--- this answer
+-- the answer to TPM2_ContextLoad of a session's context; the file Loading defines the loading of an
+-- object's context
 abbrev pub load_asked : Record → Completion → (context response : List ℕ) → Reply
 load_asked r c context response =
     if names_session context then loaded r c context else stands c response
@@ -86,8 +86,9 @@ capability_asked r c response was_told (Ok asked) =
     listed c response (capability_told r c asked was_told response)
 capability_asked r c response was_told (Err e) = stands c response
 
--- the answer to a command without sessions: before TPM2_Startup always the device's; afterwards
--- also that of the layer's own commands, which the device refuses with COMMAND_CODE (143)
+-- the answer to a command without sessions. Before TPM2_Startup, it is always the device's.
+-- Afterwards, the layer also answers its own commands, which the device refuses with COMMAND_CODE
+-- (143), and TPM2_GetCapability.
 unfoldable pub command_reply : Record → Completion → Command → (response : List ℕ)
     → (was_told : Bool) → Reply
 command_reply r c command response was_told =
@@ -97,16 +98,16 @@ command_reply r c command response was_told =
     capability_asked r c response was_told (asked_at command.parameters)
     else stands c response))
 
--- the answer to a command of TPM 1.2 (tag 00C1), which the device refused with BAD_TAG (1E) and
--- tag 00C4: VALUE (84) with tag 8001, from which firmware learns that there is no TPM 1.2
+-- the answer to a command of TPM 1.2 (tag 00C1) that the device refused with BAD_TAG (1E) and tag
+-- 00C4: VALUE (84) with tag 8001, from which firmware learns that there is no TPM 1.2
 unfoldable pub probed : Completion → (buffer response : List ℕ) → Reply
 probed c buffer response =
     if (tag_of buffer == 0xc1) && bytes_eq response (framed 0xc4 0x1e []) then
     record { response = refusal 0x84; after = c }
     else stands c response
 
--- the answer to a buffer, to which the device gave this response; `was_told` says whether it was a
--- success
+-- the answer to a buffer for which the device returned this response; `was_told` says whether it is
+-- a success
 abbrev pub reply_by : Record → Completion → (buffer response : List ℕ) → (was_told : Bool)
     → Result Command Short → Reply
 reply_by r c buffer response was_told (Ok command) = command_reply r c command response was_told

@@ -1,4 +1,4 @@
--- What the device executes for one event: the event, and with the layer also the placing of the
+-- The device's executions for one event: the event, and with the layer also the placing of the
 -- object whose context a command loads.
 use Rattle.std.specs.Prelude.{ℕ, Bool, true, false, List, [], ◌∷◌, Option, Some, None, Result, Ok, Err}
 use Rattle.tpm_machine.specs.Executions.{Execution}
@@ -16,21 +16,21 @@ use Rattle.tpm_completion.specs.declared.completion.Completion.{Completion}
 abbrev pub executed : Record → PlainEvent → Stepped → Execution
 executed old event seen = record { before = old; event = event; seen = seen }
 
--- what the device executes to place an object: nothing if it was refused the memory
+-- the event that places an object on the device, or none if memory ran out
 abbrev pub run_placing : (can refused : Bool) (first : Seen) (object : Object) (seen : Seen)
     → PlacesIf can refused first object seen → List Execution
 run_placing can false first object seen (placing, places, is) =
     executed first.step.after (Placed object) placing ∷ []
 run_placing can true first object seen is = []
 
--- what the device executes to load a context: nothing if the context is refused
+-- the device's executions that load a context: none if the context is refused
 abbrev pub run_loading : (can : Bool) (first : Seen) (opened : Result Object ContextFault)
     (seen : Seen) → Loads can first opened seen → List Execution
 run_loading can first (Ok object) seen (refused, places) =
     run_placing can refused first object seen places
 run_loading can first (Err fault) seen is = []
 
--- what the device executes after a command
+-- the device's executions that follow the execution of a command
 abbrev pub run_behind : (can : Bool) (first : Seen) (buffer : List ℕ) (asked : Option (List ℕ))
     (seen : Seen) → Behind can first buffer asked seen → List Execution
 run_behind can first buffer (Some context) seen loads =
@@ -51,13 +51,14 @@ run_with can c old (Given buffer locality elapsed random) seen completes =
 run_with can c old Cycled seen passes = executed old Cycled seen.step ∷ []
 run_with can c old (Placed object) seen passes = executed old (Placed object) seen.step ∷ []
 
--- the executions of an event, with the layer or without it
+-- the device's executions for an event, with or without the layer
 abbrev pub run_of : (can completes : Bool) (c : Completion) (old : Record) (event : PlainEvent)
     (seen : Seen) → CompletesIf can completes c old event seen → List Execution
 run_of can false c old event seen passes = executed old event seen.step ∷ []
 run_of can true c old event seen completes = run_with can c old event seen completes
 
--- A device that follows a history follows the history with all executions for an event.
+-- If a device follows a history, it then follows that history extended by all executions for an
+-- event.
 abbrev pub RunsFollow : Type 0
 RunsFollow =
     (can completes : Bool) (c : Completion) (old : Record) (event : PlainEvent) (seen : Seen)

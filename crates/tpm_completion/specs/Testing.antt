@@ -12,31 +12,31 @@ use Rattle.tpm_types.specs.declared.refused.Refused.{Refused}
 use Rattle.tpm_types_object.specs.Public.{object_type_at, parameters_at}
 use Rattle.tpm_record.specs.rows.Rows.{all_read, parameter}
 
--- the most algorithms of a list: MAX_ALG_LIST_SIZE
+-- the maximum number of algorithms in a list: MAX_ALG_LIST_SIZE
 abbrev pub algorithm_limit : ℕ
 algorithm_limit = 64
 
--- the algorithms of the list at the front of a text, two bytes each, and what is after it
+-- the algorithms in the list at the beginning of a text, two bytes each, and the rest of the text
 unfoldable pub algorithms_at : List ℕ → Result (List ℕ × List ℕ) Rc
 algorithms_at text = do
   count ← or_fault (number_at w32 text) (plain code.Insufficient)
   few ← refused_if (nat_lt algorithm_limit count.0) (plain code.Size)
   or_fault (bytes_at (2 * count.0) count.1) (plain code.Insufficient)
 
--- TPM2_IncrementalSelfTest: no algorithm is left to be tested (toDoList), whichever are named
+-- TPM2_IncrementalSelfTest: whichever algorithms are named, none remains to be tested (toDoList)
 unfoldable pub incremental_row : List ℕ → Result (List ℕ) Refused
 incremental_row parameters = do
   algorithms ← parameter 1 (algorithms_at parameters)
   ended ← all_read algorithms.1
   Ok (to_be_bytes w32 0)
 
--- TPM2_GetTestResult: no data (outData), and all tests succeeded (testResult)
+-- TPM2_GetTestResult: there are no data (outData), and all tests succeeded (testResult)
 unfoldable pub test_result_row : List ℕ → Result (List ℕ) Refused
 test_result_row parameters = do
   ended ← all_read parameters
   Ok (sized_text [] ++ to_be_bytes w32 0)
 
--- TPM2_TestParms: success if the device takes these parameters in a public area
+-- TPM2_TestParms: success if the device accepts these parameters in a public area
 unfoldable pub test_parms_row : List ℕ → Result (List ℕ) Refused
 test_parms_row parameters = do
   type ← parameter 1 (object_type_at parameters)

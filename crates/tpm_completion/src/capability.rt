@@ -23,10 +23,10 @@ use tpm_bytes::{Cursor, Short, Sink};
 use tpm_commands::CommandCode;
 use tpm_record::Keep;
 
-/// The text of a list that TPM2_GetCapability answers.
+/// The bytes of a list in the answer to TPM2_GetCapability.
 pub type Listing = Sink<LISTING_LIMIT>;
 
-/// The places for commands: three for each command of the device.
+/// The capacity of a list of commands: three elements for each command of the device.
 const COMMANDS_ROOM: usize = 160;
 
 type Commands = ArrayVec<Element, COMMANDS_ROOM>;
@@ -85,7 +85,7 @@ fn command(code: CommandCode) -> Element
     element(code.number(), attributes)
 }
 
-/// Lists the layer's own commands that come before this one, and then this one.
+/// Lists the layer's own commands that precede this command, and then this command.
 #[tactic(auto, unfolding(crate::specs::Capability::commands_by))]
 fn list_command(code: CommandCode, elements: &mut Commands)
     requires { length elements.old.items + 3 ≤ COMMANDS_ROOM }
@@ -109,7 +109,7 @@ fn list_command(code: CommandCode, elements: &mut Commands)
     elements.push(command(code));
 }
 
-/// Lists these commands, and before each of them the layer's own that come before it.
+/// Lists these commands, each after the layer's own commands that precede it.
 #[tactic(auto, using(crate::proofs::Commands::commands_more))]
 fn list_commands(codes: &[CommandCode], elements: &mut Commands)
     requires empty { elements.old.items ≡ [] }
@@ -146,7 +146,7 @@ fn tell_sessions<K: Keep>(
     list(elements.as_slice(), Form::Value, 1, from, asked.count, text);
 }
 
-/// Writes the handles of sessions, if these are asked for.
+/// Writes the handles of sessions if the client asks for them. Otherwise, returns false.
 fn tell_handles<K: Keep>(layer: &Completion, keep: &K, asked: Asked, text: &mut Listing) -> bool
     requires { text.old ≡ [] }
     ensures { Tells (handles_told (K.record_of keep.now) layer.now asked (asked.property / 2 ^ 24))
@@ -188,7 +188,7 @@ fn tell_properties<K: Keep>(layer: &Completion, keep: &K, asked: Asked, text: &m
     );
 }
 
-/// Writes the layer's list of a capability that the device answered, if the layer has one.
+/// Writes the layer's list for a capability that the device answered, if the layer has one.
 fn tell_told<K: Keep>(layer: &Completion, keep: &K, asked: Asked, text: &mut Listing) -> bool
     requires { text.old ≡ [] }
     ensures { Tells (told_of (K.record_of keep.now) layer.now asked) result text.new }
@@ -258,7 +258,7 @@ fn tell_pcr_properties(asked: Asked, text: &mut Listing)
     );
 }
 
-/// Lists nothing of a capability.
+/// Writes an empty list for a capability.
 fn tell_nothing(asked: Asked, text: &mut Listing)
     requires { text.old ≡ [] }
     ensures { text.new ≡ listing form.Value asked.capability asked.property asked.count [] }
@@ -267,14 +267,14 @@ fn tell_nothing(asked: Asked, text: &mut Listing)
     list(&[], Form::Value, asked.capability, from, asked.count, text);
 }
 
-/// Whether the layer has an empty list of a capability.
+/// Whether the layer answers this capability with an empty list.
 fn is_empty(capability: u32) -> bool
     ensures { result ≡ is_empty capability }
 {
     capability == 3 || capability == 4 || capability == 8
 }
 
-/// Writes the layer's list of a capability that the device refused, if the layer has one.
+/// Writes the layer's list for a capability that the device refused, if the layer has one.
 fn tell_refused(asked: Asked, text: &mut Listing) -> bool
     requires { text.old ≡ [] }
     ensures { Tells (refused_of asked) result text.new }
@@ -288,8 +288,8 @@ fn tell_refused(asked: Asked, text: &mut Listing) -> bool
     true
 }
 
-/// Writes the layer's list instead of the device's response, if the layer has one. `was_told` says
-/// whether the device answered the capability.
+/// Writes the list that the layer returns instead of the device's response, if it has one.
+/// `was_told` says whether the device answered the capability.
 #[tactic(auto, unfolding(crate::specs::Capability::capability_told))]
 pub fn tell<K: Keep>(
     layer: &Completion,

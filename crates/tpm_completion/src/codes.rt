@@ -1,4 +1,4 @@
-//! The numbers of the commands and response codes that the layer knows. TPM 2.0 Library, Part 2,
+//! The numbers of the commands and response codes that the layer uses. TPM 2.0 Library, Part 2,
 //! sections 6.5 (TPM_CC) and 6.6 (TPM_RC).
 
 pub const INCREMENTAL_SELF_TEST: u32 = 0x142;

@@ -1,4 +1,4 @@
-//! The reading of a command as far as the layer needs it.
+//! Parses a command as far as the layer needs it.
 
 ghost use Rattle.std.specs.Prelude.{◌≡◌};
 ghost use Rattle.tpm_bytes.specs.Reading.{Gives};
@@ -14,8 +14,8 @@ pub struct PlainCommand<'a> {
 }
 
 impl<'a> PlainCommand<'a> {
-    /// Reads a command without sessions whose size is that of its header. The layer answers no
-    /// other command.
+    /// Parses a command without sessions whose buffer has the size that its header states. The
+    /// layer answers no other command of TPM 2.0.
     #[tactic(auto, unfolding(crate::specs::Command::plain_command))]
     pub fn read(buffer: &'a [u8]) -> Result<PlainCommand<'a>, Short>
         ensures { Gives command_of (plain_command buffer.now) result }

@@ -1,4 +1,4 @@
-//! What the layer remembers: the sequence of the last context, and which sessions are saved.
+//! The state of the layer: the sequence number of the last context, and which sessions are saved.
 
 ghost use Rattle.std.specs.Prelude.{◌≡◌, ◌<◌};
 ghost use Rattle.tpm_types.specs.Limits.{session_limit};
@@ -10,10 +10,10 @@ use tpm_types::SESSION_LIMIT;
 /// The state of the layer.
 #[derive(Clone, Copy, PartialEq, Eq)]
 pub struct Completion {
-    /// A number that the caller chooses for each start. It is in each context, so that one of an
-    /// earlier start is not loaded.
+    /// A number that the caller chooses at each start of the layer. Each context contains it, so
+    /// that contexts of earlier starts are not loaded.
     pub start: u64,
-    /// The sequence of the last context, or 0 before the first.
+    /// The sequence number of the last context, or 0 before the first.
     pub count: u64,
     /// For each session, by its slot: the number of the context with which it was saved, or 0 if
     /// it is loaded.
@@ -21,8 +21,8 @@ pub struct Completion {
 }
 
 impl Completion {
-    /// The layer of a start, before any context. If the number differs at each start, as the
-    /// host's clock does, no context of an earlier start is loaded.
+    /// The layer after a start, before it has saved any context. If the number differs at each
+    /// start, like the host's clock, contexts of earlier starts are not loaded.
     pub fn of_start(start: u64) -> Completion
         ensures { result ≡ new_completion start }
     {
@@ -33,7 +33,7 @@ impl Completion {
         }
     }
 
-    /// The layer of a start with the number 0.
+    /// The layer after a start with the number 0.
     pub fn new() -> Completion
         ensures { result ≡ new_completion 0 }
     {
@@ -51,8 +51,8 @@ impl Completion {
         }
     }
 
-    /// The number of the context of the session in a slot, or 0 if the device has none there any
-    /// more.
+    /// The number of the context of the session in a slot, or 0 if the device no longer has a
+    /// session there.
     #[tactic(auto, unfolding(crate::specs::Completion::session_kept))]
     fn session_kept<K: Keep>(&self, keep: &K, place: usize) -> u64
         requires { place < session_limit }
@@ -65,7 +65,7 @@ impl Completion {
         }
     }
 
-    /// Forgets the contexts of sessions that are gone.
+    /// Forgets the contexts of sessions that no longer exist.
     #[tactic(auto, unfolding(crate::specs::Completion::forgotten))]
     pub(crate) fn forget<K: Keep>(&mut self, keep: &K)
         ensures forgotten { self.new ≡ forgotten (K.record_of keep.now) self.old }

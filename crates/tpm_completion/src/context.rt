@@ -6,12 +6,12 @@ ghost use Rattle.tpm_completion.specs.Context.{context_text, mark, names_session
 use tpm_bytes::{Cursor, Short, Sink, is_equal};
 use tpm_types::Handle;
 
-/// The size of a token's blob, in bytes; and of its whole context.
+/// The size of a token's contextBlob in bytes; below, of its whole context.
 const TOKEN_SIZE: usize = 20;
 
 pub const SESSION_CONTEXT_SIZE: usize = 38;
 
-/// What the context of a session names: its number, and the handle of the session.
+/// The content of a session's context: the number of the context, and the handle of the session.
 #[derive(Clone, Copy, PartialEq, Eq)]
 pub struct Token {
     pub context: u64,
@@ -29,7 +29,7 @@ fn token_text(start: u64, handle: Handle) -> Sink<TOKEN_SIZE>
     text
 }
 
-/// The context of a token.
+/// The context that contains this token.
 #[tactic(auto, unfolding(crate::specs::Context::context_text))]
 pub fn context_text(start: u64, token: Token) -> Sink<SESSION_CONTEXT_SIZE>
     ensures text { result ≡ context_text start token }
@@ -44,7 +44,7 @@ pub fn context_text(start: u64, token: Token) -> Sink<SESSION_CONTEXT_SIZE>
     text
 }
 
-/// Reads the token of a context; the bytes must be just those of its context.
+/// Parses a context, and returns its token. The bytes must be exactly those of the token's context.
 #[tactic(auto, unfolding(crate::specs::Context::token_at))]
 pub fn read_token(start: u64, bytes: &[u8]) -> Result<Token, Short>
     ensures { result ≡ token_at start bytes.now }
@@ -72,7 +72,7 @@ fn read_saved_handle(context: &[u8]) -> Result<Handle, Short>
     Ok(Handle { number })
 }
 
-/// Whether the savedHandle of a context is a session's.
+/// Whether the savedHandle of a context is the handle of a session.
 pub fn names_session(context: &[u8]) -> bool
     ensures { result ≡ names_session context.now }
 {

@@ -1,4 +1,4 @@
-//! The execution of one event, with the layer or without it.
+//! Executes one event, with or without the layer.
 
 ghost use Rattle.std.specs.Prelude.{◌≡◌, Ok, Some, option_map, true, false};
 ghost use Rattle.tpm_types.specs.Locality.{locality_number};
@@ -18,10 +18,10 @@ use tpm_record::Keep;
 use tpm_step::{Event, Outcome};
 use tpm_types::Locality;
 
-/// Executes one event, and writes its outcome over that of an earlier event. If `completes` is
-/// true, the layer may answer after the device; otherwise the device alone executes the event. The
-/// outcome's row is always the device's own. `drawn` of the machine is that of the last event that
-/// it executed.
+/// Executes one event, and overwrites `outcome`. If `completes` is true, the layer may answer after
+/// the device; otherwise the device alone executes the event. The outcome's row is always the
+/// device's own. Afterwards, `drawn` of the machine refers to the last event that the machine
+/// executed.
 pub fn execute<K: Keep>(
     machine: &mut Machine<K>,
     layer: &mut Completion,
@@ -33,7 +33,7 @@ pub fn execute<K: Keep>(
         (state_of K.record_of machine.old) (plain_event event.now)
         (seen_of K.record_of machine.new layer.new outcome.new) }
 
-    // If no memory can be refused, the layer, the record and the event determine the whole effect.
+    // If no allocation can fail, the layer, the record and the event determine the whole effect.
     ensures exactly { K.can_refuse ≡ false
         → seen_of K.record_of machine.new layer.new outcome.new
         ≡ completed completes layer.old (state_of K.record_of machine.old)
@@ -42,7 +42,7 @@ pub fn execute<K: Keep>(
     complete_if(machine, layer, completes, event, outcome);
 }
 
-/// Executes one event, with the layer or without it.
+/// Executes one event, with or without the layer.
 fn complete_if<K: Keep>(
     machine: &mut Machine<K>,
     layer: &mut Completion,
@@ -79,7 +79,7 @@ fn complete_if<K: Keep>(
     }
 }
 
-/// Has the device alone execute an event.
+/// Lets the device alone execute an event.
 fn pass<K: Keep>(
     machine: &mut Machine<K>,
     layer: &mut Completion,
@@ -113,7 +113,7 @@ fn complete<K: Keep>(
     answer_after(machine, layer, buffer, outcome);
 }
 
-/// Loads the object whose context a command loads, or answers after the device.
+/// Loads an object if the command is to load an object's context. Otherwise, the layer may answer.
 fn answer_after<K: Keep>(
     machine: &mut Machine<K>,
     layer: &mut Completion,

@@ -39,16 +39,15 @@ pub fn objects<K: Keep>(keep: &K, elements: &mut Elements)
     }
 }
 
-/// Whether a session with this context number is in the state that `saved` says: saved (true), or
-/// loaded (false), with the number 0.
+/// Whether a session with this context number is saved (for `saved` true) or loaded (for false).
+/// The number 0 means that it is loaded.
 fn is_in_state(saved: bool, context: u64) -> bool
     ensures { result ≡ is_in_state saved context }
 {
     if saved { context != 0 } else { context == 0 }
 }
 
-/// Lists the session in a slot, if it is in the state that `saved` says: saved (true) or loaded
-/// (false).
+/// Lists the session in a slot, if it is saved (for `saved` true) or loaded (for false).
 #[tactic(auto, unfolding(crate::specs::Handles::session_shown))]
 fn session<K: Keep>(layer: &Completion, keep: &K, saved: bool, place: u32, elements: &mut Elements)
     requires place { place < session_limit }
@@ -66,7 +65,7 @@ fn session<K: Keep>(layer: &Completion, keep: &K, saved: bool, place: u32, eleme
     }
 }
 
-/// Lists the sessions that are saved, if `saved` is true, or those that are loaded.
+/// Lists the saved sessions if `saved` is true, otherwise the loaded ones.
 #[tactic(auto, using(tpm_actions_capability::proofs::Listing::one_more))]
 pub fn sessions<K: Keep>(layer: &Completion, keep: &K, saved: bool, elements: &mut Elements)
     requires { elements.old.items ≡ [] }

@@ -19,7 +19,8 @@ const HASH_CHECK_TAG: u16 = 0x8024;
 /// The first bytes of what a TPM signs about itself: TPM_GENERATED_VALUE.
 const GENERATED: [u8; 4] = [0xff, 0x54, 0x43, 0x47];
 
-/// Reads a hierarchy: INSUFFICIENT if it is cut, VALUE if the handle names none.
+/// Parses the handle of a hierarchy: INSUFFICIENT if it is truncated, VALUE if it names no
+/// hierarchy.
 #[tactic(auto, unfolding(crate::specs::Hashing::hierarchy_at))]
 fn read_hierarchy(text: &mut Cursor) -> Result<HierarchyHandle, Rc>
     ensures { Reads (λ hierarchy. hierarchy) (hierarchy_at text.old) text.old result text.new }
@@ -35,7 +36,7 @@ fn read_hierarchy(text: &mut Cursor) -> Result<HierarchyHandle, Rc>
     Ok(hierarchy)
 }
 
-/// Whether data begin as a structure that a TPM signs.
+/// Whether the data begin like a structure that a TPM signs about itself.
 fn is_generated(message: &[u8]) -> bool
     ensures { result ≡ is_generated message.now }
 {

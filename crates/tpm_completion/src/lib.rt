@@ -1,19 +1,19 @@
 #![tactic(auto)]
 
-//! The completing layer answers what firmware and tools ask for and the device lacks by design. It
-//! is a function of a small state of its own, the device and one command. The caller turns it on
-//! for each command.
+//! The completing layer answers commands that firmware and tools need, but the device by design
+//! does not support. Its answer depends on a small state of its own, the device and the command.
+//! The caller turns it on or off for each command.
 //!
-//! The device executes the command first. If it refuses one that the layer knows, or lists less
-//! than the layer has, the client gets the layer's [`reply`]. Otherwise it gets the device's
-//! response, byte for byte. [`capability`], [`handles`] and [`properties`] have the lists,
-//! [`context`], [`saving`] and [`loading`] the contexts, [`testing`] and [`hashing`] four more
-//! commands. [`execution`] is the one call.
+//! The device executes the command first. If it refuses a command that the layer knows, or lists
+//! less than the layer does, the client gets the layer's [`reply`]. Otherwise it gets the device's
+//! response, byte for byte. The lists are in [`capability`], [`handles`] and [`properties`], the
+//! contexts in [`context`], [`saving`] and [`loading`], and four more commands in [`testing`] and
+//! [`hashing`]. Callers use [`execution`].
 //!
 //! The context of a session is a token, and the session stays in its slot. The context of an object
-//! contains the whole object, encrypted and authenticated (tpm_context). TPM2_ContextLoad of it is
-//! the one command after which the layer changes the device: it places the object in a free slot.
-//! The layer changes the device by events of tpm_machine alone.
+//! contains the whole object, encrypted and authenticated (tpm_context). The layer changes the
+//! device only after a TPM2_ContextLoad of an object's context: it places the object in a free
+//! slot, which is an event of tpm_machine.
 
 mod answer;
 mod capability;

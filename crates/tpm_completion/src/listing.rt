@@ -1,5 +1,5 @@
-//! How a capability's list is answered: the elements from a number on, at most as many as the
-//! caller asks for.
+//! Encodes the list in an answer to TPM2_GetCapability: the elements from a number on, at most as
+//! many as the client asks for.
 
 ghost use Rattle.std.specs.Prelude.{◌≡◌, ◌≤◌, ◌<◌, ◌+◌, ◌*◌, ◌^◌, ◌++◌, List, [], ◌∷◌, length, take};
 ghost use Rattle.std.specs.Int.{w32, to_le_bytes};
@@ -11,17 +11,17 @@ use arrayvec::ArrayVec;
 use tpm_actions_capability::element::Element;
 use tpm_bytes::Sink;
 
-/// The most elements of one answer.
+/// The maximum number of elements in one answer.
 pub const ELEMENT_LIMIT: usize = 64;
 
-/// The most bytes of one answer: moreData, the capability, the count, and 64 elements of eight
-/// bytes.
+/// The maximum size of one answer, in bytes: moreData, the capability, the count, and 64 elements
+/// of eight bytes.
 pub const LISTING_LIMIT: usize = 521;
 
 /// All elements that a capability lists.
 pub type Elements = ArrayVec<Element, ELEMENT_LIMIT>;
 
-/// The form in which an element is listed.
+/// The encoding of an element in a list.
 #[derive(Clone, Copy, PartialEq, Eq)]
 pub enum Form {
     Value,
@@ -30,7 +30,7 @@ pub enum Form {
     Selection,
 }
 
-/// The element of this number, for which this is listed.
+/// An element with this number, and with the value that is listed for it.
 pub fn element(number: u32, told: u32) -> Element
     ensures { result ≡ record { number = number; told = told } }
 {
@@ -74,15 +74,15 @@ fn is_from(element: &Element, from: u32) -> bool
     from <= element.number
 }
 
-/// How many elements of a list there are from a number on.
+/// How many elements have a number of at least `from`.
 fn found_count(elements: &[Element], from: u32) -> usize
     ensures { result ≡ found_count from elements.now }
 {
     elements.iter().filter(|e| is_from(e, from)).count()
 }
 
-/// Writes an element, unless its number is below this one or no more are asked for. Returns how
-/// many more may be written.
+/// Writes an element, unless its number is less than `from` or no more elements may be written.
+/// Returns how many more may be written.
 #[tactic(auto, using(crate::proofs::Telling::telling_one))]
 fn tell_if(
     element: &Element,
@@ -104,7 +104,7 @@ fn tell_if(
     left - 1
 }
 
-/// Writes the elements from a number on, at most `count` of them.
+/// Writes at most `count` of the elements whose number is at least `from`.
 fn tell_elements(
     elements: &[Element],
     form: Form,
@@ -121,7 +121,8 @@ fn tell_elements(
     }
 }
 
-/// Lists the elements of a capability from a number on, at most `count` of them.
+/// Writes the answer for a capability: at most `count` of the elements whose number is at least
+/// `from`.
 pub fn list(
     elements: &[Element],
     form: Form,

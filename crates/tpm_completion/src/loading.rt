@@ -13,8 +13,7 @@ use tpm_context::{ContextFault, open};
 use tpm_object::Object;
 use tpm_record::Keep;
 
-/// The context that a buffer loads as an object's, if the buffer is a TPM2_ContextLoad without
-/// sessions of a context that names no session.
+/// The context in a TPM2_ContextLoad without sessions, unless it names a session.
 fn object_context_in(buffer: &[u8]) -> Option<&[u8]>
     ensures { option_map (λ context. context.now) result
         ≡ object_context_in (plain_command buffer.now) }
@@ -29,7 +28,7 @@ fn object_context_in(buffer: &[u8]) -> Option<&[u8]>
     }
 }
 
-/// The context of an object that a buffer loads, if the device is started and refused the buffer
+/// The context in a TPM2_ContextLoad of an object, if the device is started and refused the command
 /// with COMMAND_CODE.
 #[tactic(auto, unfolding(crate::specs::Loading::context_asked))]
 pub fn context_asked<'a, K: Keep>(keep: &K, buffer: &'a [u8], response: &[u8]) -> Option<&'a [u8]>
@@ -44,7 +43,7 @@ pub fn context_asked<'a, K: Keep>(keep: &K, buffer: &'a [u8], response: &[u8]) -
 }
 
 impl Completion {
-    /// The object of a context.
+    /// The object in a context, or why it cannot be loaded.
     pub(crate) fn open_object<K: Keep>(
         &self,
         keep: &K,

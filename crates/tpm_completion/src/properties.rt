@@ -31,7 +31,7 @@ fn command_count() -> u32
     CommandCode::ALL.len() as u32 + OWN_COUNT
 }
 
-/// Who made the device, and by which specification.
+/// The properties that state the device's manufacturer and specification.
 #[tactic(auto, unfolding(crate::specs::Properties::identity_elements))]
 fn identity() -> [Element; 13]
     ensures { result ≡ identity_elements }
@@ -53,7 +53,7 @@ fn identity() -> [Element; 13]
     ]
 }
 
-/// How much the device holds and takes, and how the contexts of objects are protected.
+/// The properties that state the device's limits, and how the contexts of objects are protected.
 #[tactic(auto, unfolding(crate::specs::Properties::limit_elements))]
 fn limits() -> [Element; 25]
     ensures { result ≡ limit_elements }
@@ -87,7 +87,7 @@ fn limits() -> [Element; 25]
     ]
 }
 
-/// An attribute of this value, if it is set.
+/// The value of an attribute if it is set, otherwise 0.
 fn attribute_if(set: bool, value: u32) -> u32
     ensures value { result ≡ attribute_if set value }
     ensures small { result ≤ value }
@@ -95,7 +95,7 @@ fn attribute_if(set: bool, value: u32) -> u32
     if set { value } else { 0 }
 }
 
-/// Whether an authorization value is set.
+/// Whether an authorization value is set: it is not empty.
 fn is_set(value: &AuthValue) -> bool
     ensures { result ≡ is_set value.now }
 {
@@ -129,7 +129,7 @@ fn startup_attributes(fixed: &Fixed) -> u32
     0xf + attribute_if(fixed.restart_count != 0, 0x8000_0000)
 }
 
-/// How many sessions are loaded (false) or saved (true).
+/// How many sessions are saved (for `saved` true) or loaded (for false).
 fn session_count<K: Keep>(layer: &Completion, keep: &K, saved: bool) -> u32
     ensures value { result ≡ session_count (K.record_of keep.now) layer.now saved }
     ensures small { result ≤ 64 }
@@ -194,7 +194,7 @@ fn persistent_count<K: Keep>(keep: &K) -> u32
     keep.persistent().len() as u32
 }
 
-/// The attributes, and the counts of the device.
+/// The properties that contain the device's attributes and counts.
 #[tactic(auto, unfolding(crate::specs::Properties::count_elements))]
 fn counts<K: Keep>(layer: &Completion, keep: &K) -> [Element; 11]
     ensures { result ≡ count_elements (K.record_of keep.now) layer.now }
@@ -218,7 +218,7 @@ fn counts<K: Keep>(layer: &Completion, keep: &K) -> [Element; 11]
     ]
 }
 
-/// What the device has none of, and the parameters of lockout.
+/// The properties about features that the device does not have, and the parameters of lockout.
 fn lockout_parts(lockout: &Lockout) -> [Element; 9]
     ensures { result ≡ lockout_elements lockout.now }
 {
@@ -236,7 +236,7 @@ fn lockout_parts(lockout: &Lockout) -> [Element; 9]
     ]
 }
 
-/// Lists these elements after those before.
+/// Appends these elements to a list.
 fn add(part: &[Element], elements: &mut Elements)
     requires { length elements.old.items + length part.now ≤ 64 }
     ensures added { elements.new.items ≡ elements.old.items ++ part.now }

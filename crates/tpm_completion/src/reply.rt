@@ -1,4 +1,4 @@
-//! What the layer answers after the device's response.
+//! The layer's answer after the device has responded.
 
 ghost use Rattle.std.specs.Prelude.{◌≡◌, [], length};
 ghost use Rattle.tpm_bytes.specs.Reading.{sized_at};
@@ -24,7 +24,7 @@ use tpm_record::Keep;
 use tpm_step::Response;
 use tpm_types::{Handle, Refused};
 
-/// Whether these are the parameters of TPM2_StirRandom.
+/// Whether these are valid parameters of TPM2_StirRandom.
 fn is_stirred(parameters: &[u8]) -> bool
     ensures { result ≡ is_stirred (sized_at 128 parameters.now) }
 {
@@ -35,7 +35,7 @@ fn is_stirred(parameters: &[u8]) -> bool
     }
 }
 
-/// Answers a command of TPM 1.2, by which firmware asks whether there is such a TPM.
+/// Answers a command of TPM 1.2, with which firmware checks whether there is a TPM 1.2.
 #[tactic(auto, unfolding(crate::specs::Reply::probed))]
 fn probe(layer: &Completion, buffer: &[u8], text: &mut Response)
     ensures { record { response = text.new.items; after = layer.now }
@@ -83,7 +83,7 @@ impl Completion {
         }
     }
 
-    /// Answers by the success or the refusal of a row.
+    /// Answers with the result of a row, which is a success or a refusal.
     fn give(&self, row: Result<Body, Refused>, text: &mut Response)
         ensures { record { response = text.new.items; after = self.now }
             ≡ replied self.now row }
@@ -168,8 +168,8 @@ impl Completion {
         }
     }
 
-    /// Writes the layer's answer over the device's response in `text`, or leaves that response.
-    /// `was_told` says whether it was a success.
+    /// Replaces the device's response in `text` by the layer's answer, or leaves it unchanged.
+    /// `was_told` says whether the device's response is a success.
     #[tactic(auto, unfolding(crate::specs::Reply::reply))]
     pub(crate) fn reply<K: Keep>(
         &mut self,

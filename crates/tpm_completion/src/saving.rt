@@ -27,7 +27,7 @@ fn place_named(handle: Handle) -> usize
 }
 
 impl Completion {
-    /// Sets the number of the context of the session in a slot.
+    /// Sets the context number of the session in a slot.
     fn set_session(&mut self, place: usize, context: u64)
         ensures { self.new ≡ with_session self.old place context }
     {
@@ -36,7 +36,7 @@ impl Completion {
         }
     }
 
-    /// The number of the next context, if one is left.
+    /// The number of the next context, or `None` if no number is left.
     fn next_number(&self) -> Option<u64>
         ensures { result ≡ next_number self.now }
     {
@@ -47,7 +47,7 @@ impl Completion {
         }
     }
 
-    /// Answers with the context of this number.
+    /// Answers with the session context that has this number.
     fn give_context(&self, handle: Handle, context: u64, text: &mut Response)
         ensures { record { response = text.new.items; after = self.now }
             ≡ context_given self.now handle context }
@@ -56,14 +56,14 @@ impl Completion {
         answer(SUCCESS, context_text(self.start, token).as_slice(), text);
     }
 
-    /// Answers with the refusal of this code.
+    /// Refuses the command with this response code.
     fn refuse(&self, code: u32, text: &mut Response)
         ensures { record { response = text.new.items; after = self.now } ≡ refused self.now code }
     {
         answer(code, &[], text);
     }
 
-    /// What the context of an object is bound to.
+    /// The values to which the context of an object is bound.
     pub(crate) fn binding<K: Keep>(&self, keep: &K) -> Binding
         ensures { result ≡ binding_of (K.record_of keep.now) self.now }
     {
@@ -96,7 +96,7 @@ impl Completion {
         answer(SUCCESS, context.as_slice(), text);
     }
 
-    /// Saves the object of a handle.
+    /// Answers TPM2_ContextSave of an object.
     fn save_object<K: Keep>(&mut self, keep: &K, handle: Handle, text: &mut Response)
         ensures { record { response = text.new.items; after = self.new }
             ≡ object_saved (K.record_of keep.now) self.old
@@ -108,7 +108,7 @@ impl Completion {
         }
     }
 
-    /// Saves the session of a handle.
+    /// Answers TPM2_ContextSave of a session.
     fn save_session<K: Keep>(&mut self, keep: &K, handle: Handle, context: u64, text: &mut Response)
         ensures { record { response = text.new.items; after = self.new }
             ≡ session_saved (K.record_of keep.now) self.old handle context }
@@ -126,7 +126,7 @@ impl Completion {
         }
     }
 
-    /// TPM2_ContextSave of a handle.
+    /// Answers TPM2_ContextSave of a handle.
     #[tactic(auto, unfolding(crate::specs::Saving::saved))]
     pub(crate) fn save<K: Keep>(&mut self, keep: &K, handle: Handle, text: &mut Response)
         ensures { record { response = text.new.items; after = self.new }
@@ -150,7 +150,7 @@ impl Completion {
         answer(SUCCESS, &handle.number.to_be_bytes(), text);
     }
 
-    /// Loads the session of a context again.
+    /// Loads a saved session again.
     fn load_session<K: Keep>(&mut self, keep: &K, token: Token, text: &mut Response)
         ensures { record { response = text.new.items; after = self.new }
             ≡ session_loaded (K.record_of keep.now) self.old token }
@@ -164,7 +164,7 @@ impl Completion {
         self.give_handle(token.handle, text);
     }
 
-    /// TPM2_ContextLoad of these bytes, which name a session.
+    /// Answers TPM2_ContextLoad of a context that names a session.
     #[tactic(auto, unfolding(crate::specs::Saving::loaded))]
     pub(crate) fn load<K: Keep>(&mut self, keep: &K, context: &[u8], text: &mut Response)
         ensures { record { response = text.new.items; after = self.new }

@@ -1,5 +1,5 @@
-//! The commands of the layer that test the device: TPM2_IncrementalSelfTest, TPM2_GetTestResult
-//! and TPM2_TestParms.
+//! The layer's commands that test the device: TPM2_IncrementalSelfTest, TPM2_GetTestResult and
+//! TPM2_TestParms.
 
 ghost use Rattle.std.specs.Prelude.{◌≡◌};
 ghost use Rattle.tpm_bytes.specs.Reading.{Gives, Reads};
@@ -11,17 +11,17 @@ use tpm_types::{Rc, Refused, ResponseCode};
 use tpm_types_object::PublicParameters;
 use tpm_types_object::public::ObjectType;
 
-/// The most algorithms of a list: MAX_ALG_LIST_SIZE.
+/// The maximum number of algorithms in a list: MAX_ALG_LIST_SIZE.
 const ALGORITHM_LIMIT: u32 = 64;
 
-/// The most bytes after the header of an answer of these commands and TPM2_Hash: a digest and a
+/// The maximum size of an answer without its header, for the tests and TPM2_Hash: a digest and a
 /// ticket.
 const BODY_LIMIT: usize = 74;
 
-/// What is after the header of an answer.
+/// An answer without its header.
 pub type Body = Sink<BODY_LIMIT>;
 
-/// Reads a list of algorithms, two bytes each.
+/// Parses a list of algorithms, two bytes each.
 #[tactic(auto, unfolding(crate::specs::Testing::algorithms_at))]
 fn read_algorithms<'a>(text: &mut Cursor<'a>) -> Result<&'a [u8], Rc>
     ensures { Reads (λ bytes. bytes.now) (algorithms_at text.old) text.old result text.new }
@@ -40,7 +40,7 @@ fn read_algorithms<'a>(text: &mut Cursor<'a>) -> Result<&'a [u8], Rc>
     Ok(algorithms)
 }
 
-/// TPM2_IncrementalSelfTest: no algorithm is left to be tested.
+/// TPM2_IncrementalSelfTest: no algorithm remains to be tested.
 #[tactic(auto, unfolding(crate::specs::Testing::incremental_row))]
 pub fn incremental_self_test(parameters: &[u8]) -> Result<Body, Refused>
     ensures { Gives (λ body. body) (incremental_row parameters.now) result }
@@ -53,7 +53,7 @@ pub fn incremental_self_test(parameters: &[u8]) -> Result<Body, Refused>
     Ok(body)
 }
 
-/// TPM2_GetTestResult: no data, and all tests succeeded.
+/// TPM2_GetTestResult: there are no data, and all tests succeeded.
 #[tactic(auto, unfolding(crate::specs::Testing::test_result_row))]
 pub fn test_result(parameters: &[u8]) -> Result<Body, Refused>
     ensures { Gives (λ body. body) (test_result_row parameters.now) result }
@@ -65,7 +65,7 @@ pub fn test_result(parameters: &[u8]) -> Result<Body, Refused>
     Ok(body)
 }
 
-/// TPM2_TestParms: success if the device takes these parameters in a public area.
+/// TPM2_TestParms: success if the device accepts these parameters in a public area.
 #[tactic(auto, unfolding(crate::specs::Testing::test_parms_row))]
 pub fn test_parms(parameters: &[u8]) -> Result<Body, Refused>
     ensures { Gives (λ body. body) (test_parms_row parameters.now) result }

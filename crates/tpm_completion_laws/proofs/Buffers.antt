@@ -1,4 +1,5 @@
--- The device refuses a command that it lacks by COMMAND_CODE, and the layer reads it.
+-- If the device does not support a command, it refuses the command with COMMAND_CODE, and the layer
+-- parses it.
 use Rattle.std.proofs.Common.{arith, ◌≡◌, ℕ, ◌+◌, ◌^◌, ◌<◌, ◌≤◌, ◌&&◌, Bool, true, false, ltb, List, ◌++◌, length, Option, Some, None, Result, Ok, Err, refl, sym, ap, ◌∙◌}
 use Rattle.std.specs.Prelude.{◌==◌, ◌||◌, not, ok_or, if◌then◌else◌}
 use Rattle.std.specs.Int.{w16, w32, to_be_bytes}
@@ -36,11 +37,11 @@ use Rattle.tpm_completion.specs.declared.completion.Completion.{Completion}
 
 -- ---- the device
 
--- If only the code of a header is unknown, that is its fault.
+-- If a header is correct except that its code is unknown, the fault is that of the code.
 lacked_by : (outside other_size : Bool) (named : Option Tag) (known : Option CommandCode) (tag : Tag) (rest : List ℕ) → outside ≡ false → named ≡ Some tag → other_size ≡ false → known ≡ None → (refused_if outside fault.Length >>= λ length_fits. ok_or named fault.Tag >>= λ tag. refused_if other_size fault.Size >>= λ size_is_length. ok_or known fault.Code >>= λ code. Ok (record { tag = tag; code = code }, rest)) ≡ (let done : Result (Header × List ℕ) HeaderFault = Err fault.Code in done)
 lacked_by outside other_size named known tag rest e0 e1 e2 e3 = rw (e0, e1, e2, e3) refl
 
--- A code that the device lacks.
+-- The device supports no command with this code.
 pub record IsLacking (code : ℕ) : Type 0 where
   pub small : code < 2 ^ 32
   pub unnamed : code_named code ≡ None
@@ -62,7 +63,7 @@ header_lacks code body is few =
     let code-is : code_named (code_field bytes) ≡ None = ap code_named (from_be_bytes-to_be_bytes_4 code is.small) ∙ is.unnamed in
     lacked_by (ltb (length bytes) 10 || ltb buffer_limit (length bytes)) (not (size_field bytes == length bytes)) (tag_named (tag_field bytes)) (code_named (code_field bytes)) NoSessions body outside tag-is other_size code-is
 
--- the step of a device that lacks the command
+-- the step of a device that does not support the command
 abbrev pub lacking_step : Record → Stepped
 lacking_step t = record {
   response = refusal 0x143;
@@ -96,7 +97,8 @@ plain_again code body small few =
     ∙ ap (λ (read : Result (ℕ × List ℕ) Short). read >>= Checked 0x8001 size) (number_again w32 (2 ^ 32) wide32 code body small)
     ∙ ap (λ (same : Bool). refused_if (not same) too_short >>= (λ sized. Ok (record { code = code; parameters = body }))) fits
 
--- the context that the layer is asked to load, after the device refused a command that it lacks
+-- the context that the layer is to load, after the device refused a command that it does not
+-- support
 pub asked_again : (t : Record) (code : ℕ) (body : List ℕ) → code < 2 ^ 32 → length body ≤ 4086 → t.fixed.started ≡ true
     → context_asked t (framed 0x8001 code body) (refusal 0x143) ≡ object_context_in (Ok (record { code = code; parameters = body }))
 unfolding context_asked
@@ -104,7 +106,7 @@ asked_again t code body small few started =
     ap (λ (b : Bool). if b && is_refusal 0x143 (refusal 0x143) then object_context_in (plain_command (framed 0x8001 code body)) else None) started
     ∙ ap object_context_in (plain_again code body small few)
 
--- the reply to a command that the device lacks
+-- the reply to a command that the device does not support
 pub reply_again : (t : Record) (c : Completion) (code : ℕ) (body : List ℕ) (was_told : Bool) → code < 2 ^ 32 → length body ≤ 4086 → t.fixed.started ≡ true
     → reply t c (framed 0x8001 code body) (refusal 0x143) was_told ≡ served t c (record { code = code; parameters = body }) (refusal 0x143)
 unfolding reply command_reply

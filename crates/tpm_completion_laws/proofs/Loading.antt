@@ -1,4 +1,4 @@
--- TPM2_ContextLoad of a valid context brings back the object.
+-- TPM2_ContextLoad of a valid context loads the object that was saved.
 use Rattle.std.proofs.Common.{arith, ◌≡◌, ℕ, ◌^◌, ◌<◌, ◌≤◌, Bool, false, List, ◌++◌, length, Option, Some, None, Result, Ok, refl, sym, ap, subst, ◌∙◌}
 use Rattle.std.specs.Prelude.{is_none, not, if◌then◌else◌, option_map}
 use Rattle.std.specs.Int.{w32, w64, to_be_bytes}
@@ -119,7 +119,7 @@ kept_start : (t : Record) (c : Completion) → (forgotten t c).start ≡ c.start
 unfolding forgotten
 kept_start t c = refl
 
--- a valid context is valid after some time, and whatever sessions the layer forgets
+-- a valid context stays valid when time passes and when the layer forgets sessions
 still_valid : (r later : Record) (c d : Completion) (o : Object) (elapsed : ℕ) → StaysValid r later c d o → StaysValid r (ticked later elapsed) c (forgotten (ticked later elapsed) d) o
 still_valid r later c d o elapsed stays = record {
   proof = stays.proof;

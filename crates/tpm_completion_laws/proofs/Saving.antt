@@ -26,7 +26,7 @@ use Rattle.tpm_completion.specs.declared.completion.Completion.{Completion}
 use Rattle.tpm_completion_laws.proofs.Buffers.{IsLacking, asked_again, header_lacks, lacking_step, reply_again, step_lacks}
 use Rattle.tpm_completion_laws.specs.Objects.{IsSaved, SavesObjects, save_buffer}
 
--- the device's effect of a command that it lacks
+-- the effect of a command that the device does not support
 abbrev pub lacking_effect : (t : Record) → Completion → (drawn : ℕ) → Seen
 lacking_effect t c drawn = record { step = lacking_step t; layer = forgotten t c; drawn = drawn }
 
@@ -49,7 +49,7 @@ chosen t c handle b found object other holds there = rw (holds, there) refl
 numbered_next : (c : Completion) → c.count < 2 ^ 64 - 1 → next_number c ≡ Some (c.count + 1)
 numbered_next c less = ap (λ (b : Bool). if b then Some (c.count + 1) else None) (lt-ltb c.count (2 ^ 64 - 1) less)
 
--- the reply that saves an object
+-- the reply that contains the context of an object
 abbrev saved_reply : Record → Completion → Object → Reply
 saved_reply t c object = record { response = success (saved_context t c (c.count + 1) object); after = counted c (c.count + 1) }
 

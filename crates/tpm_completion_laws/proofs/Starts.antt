@@ -1,4 +1,4 @@
--- No answer of the layer changes its start.
+-- No answer of the layer changes its start number.
 use Rattle.std.proofs.Common.{◌≡◌, ℕ, Bool, true, false, List, [], Option, Some, None, Result, Ok, Err, refl}
 use Rattle.std.specs.Prelude.{◌==◌, ◌&&◌, is_some, length, not, if◌then◌else◌}
 use Rattle.std.specs.Str.{bytes_eq}
@@ -27,7 +27,7 @@ use Rattle.tpm_completion.specs.declared.capability.Asked.{Asked}
 use Rattle.tpm_completion.specs.declared.completion.Completion.{Completion}
 use Rattle.tpm_completion.specs.declared.context.Token.{Token}
 
--- The layer after a reply has this start.
+-- The layer has this start number after a reply.
 record StartsAt (start : ℕ) (reply : Reply) : Type 0 where
   is : reply.after.start ≡ start
 

@@ -36,7 +36,7 @@ use Rattle.tpm_step.specs.Step.{Accepted, accepted, step, stepped_of, success_st
 use Rattle.tpm_completion_laws.proofs.Starts.{placed_starts, reply_starts}
 use Rattle.tpm_completion_laws.specs.Objects.{StaysValidThrough}
 
--- The proofs of the hierarchies and the counts are the same.
+-- The proofs of the hierarchies, and the counts of TPM Resets and TPM Restarts, are unchanged.
 record Keeps (old new : Fixed) : Type 0 where
   secrets : KeepsSecrets old.hierarchies new.hierarchies
   reset_count : new.reset_count ≡ old.reset_count
@@ -49,7 +49,7 @@ then_keeps a b c first second = record {
   restart_count = second.restart_count ∙ first.restart_count;
 }
 
--- a record whose fixed part differs from another's only in what does not count
+-- if the hierarchies and both counts are equal, the proofs and the counts are unchanged
 same_keeps : (old new : Fixed) → new.hierarchies ≡ old.hierarchies → new.reset_count ≡ old.reset_count → new.restart_count ≡ old.restart_count → Keeps old new
 same_keeps old new same reset restart = record {
   secrets = λ h. ap (λ (x : Hierarchies). secrets_of x h) same;
@@ -59,7 +59,7 @@ same_keeps old new same reset restart = record {
 
 -- ---- parts of the state
 
--- whether a success that touches this part keeps the proofs and the counts
+-- whether a successful command that changes this part of the state keeps the proofs and the counts
 keeps_counts : Part → Bool
 keeps_counts part.Beginning = false
 keeps_counts part.Cleared = false
@@ -121,7 +121,7 @@ stepped_keeps t locality random (Err e) is no_startup no_clear = same_keeps _ _ 
 
 -- ---- the layer
 
--- Something leaves contexts valid: it keeps the proofs, the counts and the start of the layer.
+-- An effect leaves contexts valid: it keeps the proofs, the counts and the layer's start number.
 record Leaves (r : Record) (c : Completion) (seen : Seen) : Type 0 where
   fixed : Keeps r.fixed seen.step.after.fixed
   start : seen.layer.start ≡ c.start

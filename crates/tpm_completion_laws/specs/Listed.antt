@@ -1,4 +1,4 @@
--- What the completing layer lists, and what it serves.
+-- What the completing layer lists, and which commands it serves.
 use Rattle.std.specs.Prelude.{◌≡◌, ℕ, ◌+◌, ◌-◌, ◌*◌, ◌^◌, ◌==◌, ◌&&◌, ◌||◌, nat_lt, Bool, true, false, List, [], ◌∷◌, ◌++◌, filter, length, map, if◌then◌else◌}
 use Rattle.std.specs.List.{flat_map, sum_by}
 use Rattle.tpm_bytes.specs.Numbers.{numbers_below}
@@ -17,7 +17,7 @@ use Rattle.tpm_completion.specs.declared.completion.Completion.{Completion}
 
 -- ---- commands
 
--- whether a code is a command of the layer's own
+-- whether a code belongs to one of the layer's own commands
 abbrev pub is_own : (code : ℕ) → Bool
 is_own code =
     (code == 0x142)
@@ -25,7 +25,7 @@ is_own code =
     || ((code == 0x161)
     || ((code == 0x162) || ((code == 0x17c) || ((code == 0x17d) || (code == 0x18a))))))
 
--- The layer serves no command but its own.
+-- The layer serves only its own commands.
 abbrev pub ServesItsOwn : Type 0
 ServesItsOwn =
     (r : Record) (c : Completion) (command : Command) (response : List ℕ)
@@ -35,7 +35,7 @@ ServesItsOwn =
 abbrev pub numbers : List Element → List ℕ
 numbers elements = map (λ e. e.number) elements
 
--- The list of commands has each of the layer's own, once.
+-- The list of commands contains each of the layer's own commands once.
 abbrev pub ListsItsOwn : Type 0
 ListsItsOwn =
     filter is_own (numbers command_elements)
@@ -47,7 +47,7 @@ CountsAll = length command_elements ≡ command_count
 
 -- ---- order
 
--- whether each number is below the next
+-- whether each number is less than the next
 abbrev pub ascends_from : ℕ → List ℕ → Bool
 ascends_from n [] = true
 ascends_from n (m ∷ rest) = nat_lt n m && ascends_from m rest
@@ -62,7 +62,7 @@ PropertiesAscend =
 
 -- ---- PCRs
 
--- the PCRs for which a test holds, each as a bit
+-- the PCRs for which a test is true, as a number with one bit for each PCR
 abbrev pub pcrs_with : (ℕ → Bool) → ℕ
 pcrs_with test = sum_by (λ pcr. if test pcr then 2 ^ pcr else 0) (numbers_below 24)
 
@@ -73,8 +73,8 @@ of_locality locality =
     ∷ element (2 * locality + 2) (pcrs_with (λ pcr. may_reset (use_of pcr) locality))
     ∷ []
 
--- The properties of PCRs are those of the device: 0 to 15 are saved, and it says from which
--- locality each may be changed.
+-- The listed properties of PCRs match the device: PCRs 0 to 15 are saved, and the localities are
+-- those that may extend or reset each PCR.
 abbrev pub PcrPropertiesHold : Type 0
 PcrPropertiesHold =
     pcr_property_elements
@@ -83,8 +83,8 @@ PcrPropertiesHold =
 
 -- ---- counts
 
--- Loaded and saved sessions are all sessions. What is there and what there is room for make the
--- limit together: HR_LOADED and HR_LOADED_AVAIL, HR_ACTIVE and HR_ACTIVE_AVAIL, and the transient
+-- Loaded and saved sessions together are all sessions. What exists and what is available add up to
+-- the limit: HR_LOADED and HR_LOADED_AVAIL, HR_ACTIVE and HR_ACTIVE_AVAIL, and the transient
 -- objects and HR_TRANSIENT_AVAIL.
 pub record AddsUp (r : Record) (c : Completion) : Type 0 where
   pub all : active_count r c ≡ length (session_elements r)

@@ -1,5 +1,5 @@
--- What TPM2_ContextSave and TPM2_ContextLoad of an object do, as whole commands on a device with the
--- layer. TPM 2.0 Library, Part 3, sections 28.2 and 28.3.
+-- The effects of TPM2_ContextSave and TPM2_ContextLoad of an object, as whole commands on a device
+-- with the layer. TPM 2.0 Library, Part 3, sections 28.2 and 28.3.
 use Rattle.std.specs.Prelude.{◌≡◌, ◌≢◌, ℕ, ◌+◌, ◌-◌, ◌<◌, ◌^◌, Bool, true, List, Option, Some, None}
 use Rattle.std.specs.Int.{w32, to_be_bytes}
 use Rattle.tpm_object.specs.Object.{IsObject}
@@ -24,14 +24,15 @@ use Rattle.tpm_completion.specs.Loaded.{StaysValid, saved_context}
 use Rattle.tpm_completion.specs.Saving.{counted}
 use Rattle.tpm_completion.specs.declared.completion.Completion.{Completion}
 
--- TPM2_ContextSave (162) of a handle, and TPM2_ContextLoad (161) of a context, without sessions
+-- the buffer of TPM2_ContextSave (162) of a handle; below, of TPM2_ContextLoad (161) of a context;
+-- both without sessions
 abbrev pub save_buffer : Handle → List ℕ
 save_buffer handle = framed 0x8001 0x162 (to_be_bytes w32 handle.number)
 
 abbrev pub load_buffer : (context : List ℕ) → List ℕ
 load_buffer context = framed 0x8001 0x161 context
 
--- the effect of a command on a device with the layer, if no memory is refused
+-- the effect of a command on a device with the layer, if no allocation fails
 abbrev pub effect_of : Completion → Record → (buffer : List ℕ) → (locality elapsed : ℕ) → List ℕ
     → Seen
 effect_of c r buffer locality elapsed random =
@@ -39,14 +40,14 @@ effect_of c r buffer locality elapsed random =
 
 -- ---- saving
 
--- An object was saved with the next number. Time passed, and nothing else changed on the device.
+-- An object was saved in a context with the next number, and the device's record is unchanged.
 pub record IsSaved (r : Record) (c : Completion) (object : Object) (seen : Seen) : Type 0 where
   pub response : seen.step.response ≡ success (saved_context r c (c.count + 1) object)
   pub device : seen.step.after ≡ r
   pub layer : seen.layer ≡ counted c (c.count + 1)
 
--- TPM2_ContextSave of a loaded object returns its context, and leaves the device as it was, apart
--- from the time. The next context has the next number.
+-- TPM2_ContextSave of a loaded object returns its context, which has the layer's next number. Only
+-- the device's time changes.
 abbrev pub SavesObjects : Type 0
 SavesObjects =
     (r : Record) (c : Completion) (handle : Handle) (object : Object) (locality elapsed : ℕ)
@@ -75,8 +76,8 @@ abbrev pub IsLoaded : Record → Object → Option Handle → Seen → Type 0
 IsLoaded r object (Some handle) seen = IsPlaced r object handle seen
 IsLoaded r object None seen = IsFull r seen
 
--- TPM2_ContextLoad of a valid context brings back the same object, with its public area, its
--- sensitive area and its Name, under a free handle. If all slots are taken, it is refused by
+-- TPM2_ContextLoad of a valid context loads the same object, with its public area, its sensitive
+-- area and its Name, and with a free handle. If all slots are occupied, it is refused with
 -- OBJECT_MEMORY (902).
 abbrev pub LoadsObjects : Type 0
 LoadsObjects =
@@ -89,8 +90,8 @@ LoadsObjects =
 
 -- ---- what ends the validity of a context
 
--- Every command, such as TPM2_FlushContext of the object itself, leaves each context valid, with the
--- layer or without it, unless the device executes a TPM2_Startup or a TPM2_Clear.
+-- Every command, even TPM2_FlushContext of the object itself, leaves each context valid, with or
+-- without the layer, unless the device executes a TPM2_Startup or a TPM2_Clear.
 abbrev pub StaysValidThrough : Type 0
 StaysValidThrough =
     (completes : Bool) (r : Record) (c : Completion) (object : Object) (buffer : List ℕ)

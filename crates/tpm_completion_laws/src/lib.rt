@@ -1,16 +1,17 @@
 #![tactic(auto)]
 
-//! Laws of the completing layer: on the contexts that it makes and loads, and on what it lists.
+//! Laws of the completing layer: about the contexts that it makes and loads, and about what it
+//! lists.
 //!
-//! The laws are of the definitions of tpm_completion: each is the contract of a function that does
-//! nothing. No crate uses this one.
+//! The laws are about the definitions of tpm_completion: each law is the contract of a function
+//! that does nothing. No crate uses this one.
 
 ghost use Rattle.tpm_completion_laws.specs.Contexts.{IsLoadedOnce, RefusesAnotherStart};
 ghost use Rattle.tpm_completion_laws.specs.Listed.{CommandsAscend, CountsAddUp, CountsAll, ListsItsOwn};
 ghost use Rattle.tpm_completion_laws.specs.Listed.{PcrPropertiesHold, PropertiesAscend, ServesItsOwn};
 ghost use Rattle.tpm_completion_laws.specs.Objects.{LoadsObjects, SavesObjects, StaysValidThrough};
 
-/// The context of a session is loaded once, and refused from then on. One of another start is
+/// The context of a session can be loaded only once. A context from another start of the layer is
 /// always refused.
 #[inline(always)]
 #[tactic(auto, using(crate::proofs::Contexts::is_loaded_once, crate::proofs::Contexts::refuses_another_start))]
@@ -20,9 +21,9 @@ pub fn context_laws()
 {}
 
 /// TPM2_ContextSave of an object changes nothing on the device except the time. TPM2_ContextLoad of
-/// the context brings back the same object under a free handle, or is refused by OBJECT_MEMORY if
-/// all slots are taken. Every command except TPM2_Startup and TPM2_Clear leaves the context valid,
-/// also TPM2_FlushContext of the object.
+/// the context loads the same object with a free handle, or is refused with OBJECT_MEMORY if all
+/// slots are occupied. Every command except TPM2_Startup and TPM2_Clear leaves the context valid,
+/// even TPM2_FlushContext of the object.
 #[inline(always)]
 pub fn object_laws()
     ensures saved { SavesObjects }
@@ -30,9 +31,9 @@ pub fn object_laws()
     ensures valid { StaysValidThrough }
 {}
 
-/// The layer serves no command but its own, and lists and counts each of them. Commands and
-/// properties are listed in ascending order. What the device holds, and what it has place for,
-/// make its limits. The properties of PCRs are those by which the device changes them.
+/// The layer serves only its own commands, and lists and counts each of them. Commands and
+/// properties are listed in ascending order. The numbers of what exists and of what is available
+/// add up to the device's limits. The listed properties of PCRs match how the device changes PCRs.
 #[inline(always)]
 pub fn list_laws()
     ensures own { ServesItsOwn }

@@ -1,5 +1,4 @@
--- The effect of an event with the completing layer, on two devices that differ in secret data
--- alone.
+-- The effect of an event with the completing layer, on two devices that differ only in secret data.
 use Rattle.std.proofs.Common.{ap, refl, subst, sym, ◌∙◌}
 use Rattle.std.specs.Prelude.{Bool, Err, List, None, Ok, Option, Result, Some, [], false, option_map, true, ℕ, ◌&&◌, ◌==◌, ◌∷◌, ◌≡◌}
 use Rattle.tpm_completion.specs.Completed.{behind, completed, completed_with, done_behind, loaded_behind, passed}
@@ -58,7 +57,7 @@ module _ (indices : ℕ → Bool) (objects : Public → Bool) where
     layer = replies.after;
   }
 
-  -- these secrets leave the authorization values
+  -- devices that differ only in secret data agree on which authorization values are empty
   sets_alike : (r t : Record) → DifferInSecrets s r t → SetAlike r t
   sets_alike r t differ = ap (λ (x : Record). values_set x.fixed.hierarchies) differ
 

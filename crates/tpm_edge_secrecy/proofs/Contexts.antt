@@ -1,5 +1,5 @@
--- The contexts of objects on two devices that differ in secrets alone: the context of an object
--- without secrets is the same, and a context contains the same object.
+-- The contexts of objects on two devices that differ only in secrets: an object without secrets has
+-- the same context, and a context contains the same object.
 use Rattle.std.proofs.Common.{ap, refl, sym, ◌∙◌}
 use Rattle.std.specs.Prelude.{Bool, Err, List, None, Ok, Result, false, if◌then◌else◌, true, ℕ, ◌&&◌, ◌||◌, ◌≡◌}
 use Rattle.tpm_bytes.specs.Reading.{◌>>=◌}
@@ -37,7 +37,7 @@ module _ (s : Secrecy) where
       by false true is = absurd cc
       by true content is = absurd cc
 
-  -- If two devices differ in secrets alone, an object without secrets is the same on both.
+  -- If two devices differ only in secrets, an object without secrets is the same on both.
   pub same_object : (a b : Object) → bare_object s a ≡ bare_object s b → has_secret s a ≡ false → a ≡ b
   same_object a b same bare = sym (bare_open a bare) ∙ same ∙ bare_open b (sym (ap (has_secret s) same) ∙ bare)
 
@@ -56,7 +56,7 @@ module _ (s : Secrecy) (one other : Record) (differ : DifferInSecrets s one othe
   binding_alike : (c : Completion) → binding_of one c ≡ binding_of other c
   binding_alike c = ap (λ (r : Record). binding_of r c) differ
 
-  -- the context of the same object
+  -- an object has the same context on both devices
   pub context_alike : (c : Completion) (number : ℕ) (o : Object) → context_text one.fixed.hierarchies (binding_of one c) number o ≡ context_text other.fixed.hierarchies (binding_of other c) number o
   unfolding context_text
   context_alike c number o =

@@ -1,5 +1,5 @@
--- The completing layer reads nothing secret of a device, except whether three of its values are
--- empty, and the objects of which it makes contexts.
+-- The completing layer reads no secrets of a device, except whether three authorization values are
+-- empty, and the objects whose contexts it makes.
 use Rattle.std.proofs.Common.{ap, refl, subst, sym, ◌∙◌}
 use Rattle.std.proofs.lemmas.List.Folds.{fold-map}
 use Rattle.std.proofs.lemmas.List.{length-map}
@@ -147,7 +147,8 @@ same_reply saved a b same = record {
   after = ap (λ (x : Reply). x.after) same;
 }
 
--- the condition of the choice is the first part of whether a secret is saved
+-- a choice by one condition is alike on both devices, if the first branches are alike and the
+-- second ones equal
 then_alike : (b saved : Bool) (x y z w : Reply) → RepliesAlike saved x y → z ≡ w → RepliesAlike (b && saved) (if b then x else z) (if b then y else w)
 then_alike true saved x y z w chosen left = chosen
 then_alike false saved x y z w chosen left = same_reply false z w left
@@ -160,7 +161,7 @@ else_alike : (b saved : Bool) (x y z w : Reply) → x ≡ y → RepliesAlike sav
 else_alike true saved x y z w chosen left = same_reply saved x y chosen
 else_alike false saved x y z w chosen left = left
 
--- the counts of a device, as they are listed
+-- the properties that contain the counts of a device
 abbrev counted_elements : (permanent startup indices loaded active objects persistent counters : ℕ) → List Element
 counted_elements permanent startup indices loaded active objects persistent counters =
     element 0x200 permanent
@@ -176,9 +177,9 @@ counted_elements permanent startup indices loaded active objects persistent coun
     ∷ element 0x20a counters
     ∷ []
 
--- two devices that differ in secrets alone, and agree on which values are empty
+-- two devices that differ only in secrets, and agree on which authorization values are empty
 module _ (s : Secrecy) (one other : Record) (differ : DifferInSecrets s one other) (alike : SetAlike one other) where
-  -- what is the same of a device and of it without its secrets is the same of the two
+  -- a function that does not depend on a device's secrets has the same value for both devices
   through : {X : Type 0} (f : Record → X) → ((r : Record) → f (without_secrets s r) ≡ f r) → f one ≡ f other
   through f same = sym (same one) ∙ ap f differ ∙ same other
 

@@ -1,4 +1,4 @@
--- What a device that was opened from a journal reveals of what its objects seal.
+-- What a device that was opened from a journal reveals about the data sealed in its objects.
 use Rattle.std.specs.Prelude.{false}
 use Rattle.tpm_edge_secrecy.specs.Opened.{OpenedDataNeedPolicy, journal_history}
 use Rattle.tpm_journal.proofs.Histories.{repeats_follow}

@@ -1,5 +1,5 @@
--- What a device with the completing layer reveals of what it keeps secret: no more than the device
--- alone, except which of three authorization values are empty, and the contexts of objects that have
+-- What a device with the completing layer reveals about its secrets: no more than the device alone,
+-- except which of three authorization values are empty, and the contexts of objects that have
 -- secrets. TPM 2.0 Library, Part 1, section 30 (context management), and Part 2, section 8.6
 -- (TPMA_PERMANENT).
 use Rattle.std.specs.Int.{w32}
@@ -34,8 +34,8 @@ use Rattle.tpm_types_object.specs.declared.public.Public.{Public}
 abbrev pub has_secret : Secrecy → Object → Bool
 has_secret s o = s.object_values o.public || has_secret_data s o
 
--- whether saving a handle's object writes a secret into a context: the handle is a transient
--- object's, a sequence is left for the context, and the object has a secret
+-- whether saving the object with this handle writes a secret into a context: the object is
+-- transient and has a secret, and a sequence number is left for the context
 abbrev pub saves_object : Secrecy → Record → Completion → Handle → Bool
 saves_object s r c handle =
     is_transient handle
@@ -53,8 +53,8 @@ command_saves s r c (Ok command) =
     (command.code == 0x162) && handle_saves s r c (number_at w32 command.parameters)
 command_saves s r c (Err e) = false
 
--- whether the layer's answer to a buffer is the context of an object that has a secret; the device
--- gave this response, which is COMMAND_CODE (143) for each command that the layer serves itself
+-- whether the layer's answer to a buffer is the context of an object that has a secret; `response`
+-- is the device's response, which is COMMAND_CODE (143) for each of the layer's own commands
 abbrev pub saves_secret : Secrecy → Record → Completion → (buffer response : List ℕ) → Bool
 saves_secret s r c buffer response =
     r.fixed.started
@@ -63,20 +63,20 @@ saves_secret s r c buffer response =
 -- ---- what the layer reads of a device
 
 -- Two devices agree on which of ownerAuth, endorsementAuth and lockoutAuth are empty.
--- TPM2_GetCapability reports that of every TPM (TPMA_PERMANENT).
+-- TPM2_GetCapability reports this for every TPM (TPMA_PERMANENT).
 abbrev pub SetAlike : Record → Record → Type 0
 SetAlike one other =
     values_set one.fixed.hierarchies ≡ values_set other.fixed.hierarchies
 
--- Two replies leave the same layer; and the responses are the same, unless they are contexts of an
--- object that has a secret.
+-- Two replies leave the layer in the same state. Their responses are also the same, unless they are
+-- contexts of an object that has a secret (`saved`).
 pub record RepliesAlike (saved : Bool) (a b : Reply) : Type 0 where
   pub response : saved ≡ false → a.response ≡ b.response
   pub after : a.after ≡ b.after
 
--- What the layer answers after a response of the device, and what it remembers then, is the same of
--- two devices that differ in what is secret alone, if they agree on which of these values are
--- empty. Only the context of an object that has a secret may differ.
+-- If two devices differ only in secrets, and agree on which of the three authorization values are
+-- empty, the layer has the same answer and the same new state on both. Only the context of an
+-- object that has a secret may differ.
 abbrev pub LayerAnswersAlike : Type 0
 LayerAnswersAlike =
     (s : Secrecy) (one other : Record) (c : Completion) (buffer response : List ℕ)
@@ -85,16 +85,17 @@ LayerAnswersAlike =
     → RepliesAlike (saves_secret s one c buffer response)
     (reply one c buffer response was_told) (reply other c buffer response was_told)
 
--- The answer is such a context on both of two such devices, or on neither.
+-- If two devices differ only in secrets, the layer answers on both with the context of an object
+-- that has a secret, or on neither.
 abbrev pub LayerSavesAlike : Type 0
 LayerSavesAlike =
     (s : Secrecy) (one other : Record) (c : Completion) (buffer response : List ℕ)
     → DifferInSecrets s one other
     → saves_secret s one c buffer response ≡ saves_secret s other c buffer response
 
--- The layer loads the same context on two devices that differ in what is secret alone, and the
--- context contains the same object on both, or has the same fault: the proofs of the hierarchies are
--- no secrets.
+-- If two devices differ only in secrets, the layer is asked to load the same context on both, and
+-- the context contains the same object, or has the same fault. The proofs of the hierarchies do not
+-- count as secrets.
 abbrev pub LayerLoadsAlike : Type 0
 LayerLoadsAlike =
     (s : Secrecy) (one other : Record) (c : Completion) (buffer response context : List ℕ)
@@ -102,7 +103,8 @@ LayerLoadsAlike =
     → (context_asked one buffer response ≡ context_asked other buffer response)
     × (object_opened one c context ≡ object_opened other c context)
 
--- What the layer forgets after an event is the same for the device without its secrets.
+-- After an event, the layer forgets the same contexts for a device and for the device without its
+-- secrets.
 abbrev pub LayerForgetsAlike : Type 0
 LayerForgetsAlike =
     (s : Secrecy) (r : Record) (c : Completion)
@@ -118,20 +120,20 @@ is_saving s c r (Given buffer locality elapsed random) =
 is_saving s c r Cycled = false
 is_saving s c r (Placed object) = false
 
--- Two effects report the same row; the layer remembers the same after both, and the two devices
--- differ in what is secret alone. The responses are the same, unless they are contexts of an object
--- that has a secret.
+-- Two effects report the same row and leave the layer in the same state, and the two devices differ
+-- only in secrets. The responses are the same, unless they are contexts of an object that has a
+-- secret.
 pub record CompletesAlike (s : Secrecy) (saved : Bool) (x y : Seen) : Type 0 where
   pub response : saved ≡ false → x.step.response ≡ y.step.response
   pub row : x.step.row ≡ y.step.row
   pub after : DifferInSecrets s x.step.after y.step.after
   pub layer : x.layer ≡ y.layer
 
--- Two devices differ in secret data alone. An event that does not read them reveals nothing of
--- them with the layer either, also if it loads an object from its context; except the context of an
--- object that has secret data, which is the response to its TPM2_ContextSave. If the event itself
--- places an object, the object that the other device places may differ in this data too. No memory
--- is refused.
+-- If two devices differ only in secret data, and no allocation fails, an event that does not read
+-- these data reveals nothing about them, with or without the layer, even if it loads an object from
+-- its context. The only exception is the context of an object that has secret data, which is the
+-- response to TPM2_ContextSave. If the event places an object, the other device may place an object
+-- that differs in secret data.
 abbrev pub CompletedTellsNothing : Type 0
 CompletedTellsNothing =
     (indices : ℕ → Bool) (objects : Public → Bool) (one other : Record) (completes : Bool)
@@ -143,12 +145,12 @@ CompletedTellsNothing =
 
 -- ---- a list of events
 
--- events in order, each with whether the layer completes it
+-- a list of events; for each event, whether the layer completes it
 abbrev pub Completions : Type 0
 Completions = List (Bool × PlainEvent)
 
--- the responses of a device with the layer to these events, without contexts of objects that have
--- secrets, and the rows that it reports
+-- the responses and rows of a device with the layer for these events, without the contexts of
+-- objects that have secrets
 abbrev pub answers_with : Secrecy → Completion → Record → Completions → List (List ℕ × Row)
 answers_with s c r [] = []
 answers_with s c r (e ∷ es) =
@@ -156,15 +158,15 @@ answers_with s c r (e ∷ es) =
     (unless (e.0 && is_saving s c r e.1) x.step.response, x.step.row)
     ∷ answers_with s x.layer x.step.after es
 
--- None of these events reads secret data when it comes.
+-- None of these events reads secret data when it is executed.
 abbrev pub NoneReadsWith : Secrecy → Completion → Record → Completions → Type 0
 NoneReadsWith s c r [] = Unit {0}
 NoneReadsWith s c r (e ∷ es) =
     let x : Seen = completed e.0 c r e.1 in
     (is_reading s r e.1 ≡ false) × NoneReadsWith s x.layer x.step.after es
 
--- These events are the same, and the layer completes the same ones; but objects that they place may
--- differ in secrets.
+-- Two lists contain the same events, and the layer completes the same ones. But objects that the
+-- events place may differ in secrets.
 abbrev pub CompletionsAlike : Secrecy → Completions → Completions → Type 0
 CompletionsAlike s [] [] = Unit {0}
 CompletionsAlike s (e ∷ es) (f ∷ fs) =
@@ -172,8 +174,8 @@ CompletionsAlike s (e ∷ es) (f ∷ fs) =
 CompletionsAlike s [] (f ∷ fs) = ⊥
 CompletionsAlike s (e ∷ es) [] = ⊥
 
--- Two devices differ in secret data alone, and have the same layer. They answer alike until an
--- event reads these data; except with contexts of objects that have secret data.
+-- If two devices differ only in secret data, and have the same layer, they answer alike until an
+-- event reads these data, except with contexts of objects that have secret data.
 abbrev pub CompletedRunTellsNothing : Type 0
 CompletedRunTellsNothing =
     (indices : ℕ → Bool) (objects : Public → Bool) (one other : Record) (c : Completion)

@@ -1,4 +1,4 @@
--- What a device that was opened from a journal reveals of what its objects seal.
+-- What a device that was opened from a journal reveals about the data sealed in its objects.
 use Rattle.std.specs.Prelude.{Bool, List, Ok, false, ℕ, ◌∷◌, ◌≡◌, ◌⊎◌}
 use Rattle.tpm_journal.specs.Opening.{IsJournal, OpensJournal}
 use Rattle.tpm_journal.specs.Replay.{run_of_all}
@@ -13,7 +13,7 @@ use Rattle.tpm_step.specs.History.{AcceptedCommand, Done, History, recorded}
 use Rattle.tpm_step.specs.Step.{Stepped}
 use Rattle.tpm_types_object.specs.declared.public.Public.{Public}
 
--- the history of the device in a journal's head, and what the journal's entries executed after it
+-- the history of the device in a journal's head, extended by what the journal's entries executed
 abbrev pub journal_history : (text : List ℕ) (opened : Opened) (new : Record)
     → IsJournal text opened new → History → History
 journal_history text opened new is history =
@@ -21,10 +21,11 @@ journal_history text opened new is history =
     (run_of_all false is.reads.start.journal is.reads.start.device
     is.reads.replays.repeats.performances opened.journal new is.reads.replays.repeats.leads)
 
--- A text was opened as a journal whose head holds a device that follows a history: the image of
--- such a device, after a power cycle, or its state text. Whatever was executed on the opened
--- device since, an execution reveals nothing of what is sealed, or is recorded as an accepted
--- command that reads it, and the history from the head on met the policy of that command.
+-- A text was opened as a journal, and the device in its head follows a history: the device of an
+-- image after a power cycle, or of a state text. Whatever was executed on the opened device since,
+-- an execution reveals nothing about sealed data, or is recorded as an accepted command that reads
+-- them. That command met the object's policy, if the object has no userWithAuth (`ReadsSealed`).
+-- The history begins with that of the head's device.
 abbrev pub OpenedDataNeedPolicy : Type 0
 OpenedDataNeedPolicy =
     (objects : Public → Bool) (text : List ℕ) (opened : Opened) (new : Record)

@@ -1,11 +1,11 @@
 #![tactic(auto)]
 
-//! What a device reveals of what it keeps secret, with the completing layer, or after it was
-//! opened from a journal.
+//! What a device reveals about its secrets, with the completing layer, or after it was opened from
+//! a journal.
 //!
-//! The laws are about definitions, as those of tpm_secrecy: each is the contract of a function
-//! that does nothing. The contracts of tpm_completion and tpm_journal say that the code does what
-//! is defined.
+//! The laws are about definitions, like those of tpm_secrecy: each law is the contract of a
+//! function that does nothing. The contracts of tpm_completion and tpm_journal state that the code
+//! does what is defined.
 
 ghost use Rattle.tpm_edge_secrecy.specs.Layer.{CompletedRunTellsNothing};
 ghost use Rattle.tpm_edge_secrecy.specs.Layer.{CompletedTellsNothing};
@@ -15,12 +15,13 @@ ghost use Rattle.tpm_edge_secrecy.specs.Opened.{OpenedDataNeedPolicy};
 
 /// The completing layer reveals which of ownerAuth, endorsementAuth and lockoutAuth are empty, and
 /// the contexts of objects that have secrets, which TPM2_ContextSave returns. It reveals nothing
-/// else that the device keeps secret. Its answers, and what it remembers, are the same of two
-/// devices that differ in secrets alone, authorization values among them, and agree on which values
-/// are empty; only such contexts may differ. A context that is loaded contains the same object on
-/// both devices. So if two devices differ in secret data alone, an event that does not read them
-/// reveals nothing of them with the layer either, except such a context. The same holds for a list
-/// of events, also for those after such a context.
+/// else that the device keeps secret. If two devices differ only in secrets, such as authorization
+/// values, and agree on which of these values are empty, the layer has the same answers and the
+/// same state on both; only contexts of objects that have secrets may differ. A loaded context
+/// contains the same object on both devices. Therefore, if two devices differ only in secret data,
+/// an event that does not read these data reveals nothing about them with the layer either, except
+/// the context of an object that has secrets. The same holds for a list of events, even after such
+/// a context.
 #[inline(always)]
 pub fn layer_laws()
     ensures answers { LayerAnswersAlike }
@@ -31,10 +32,11 @@ pub fn layer_laws()
     ensures run { CompletedRunTellsNothing }
 {}
 
-/// A device was opened from a journal. Each execution on it reveals nothing of what objects seal,
-/// or it is an accepted command that reads such data. If the object has no userWithAuth, that
-/// command met its policy, or the hash is broken. The history is that of the device in the
-/// journal's head, what the journal's entries executed, and what was executed since.
+/// A device was opened from a journal. Each execution on it reveals nothing about data that objects
+/// seal, or is an accepted command that reads such data. If the object has no userWithAuth, that
+/// command satisfied the object's policy, or the hash is broken. The history consists of the
+/// history of the device in the journal's head, what the journal's entries executed, and what was
+/// executed since.
 #[inline(always)]
 pub fn opened_laws()
     ensures { OpenedDataNeedPolicy }

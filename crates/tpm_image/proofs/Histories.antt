@@ -1,5 +1,5 @@
--- A device that is opened from the image of another device follows that device's history and one
--- more power cycle.
+-- A device that is opened from the image of another device follows that device's history, extended
+-- by one more power cycle.
 use Rattle.std.proofs.Common.{◌≡◌, Bool, ◌∷◌, Result, Ok, Err, IfOk, sym, subst}
 use Rattle.tpm_record.specs.Cycle.{cycled}
 use Rattle.tpm_record.specs.Record.{Record}

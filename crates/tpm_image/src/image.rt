@@ -26,9 +26,9 @@ use tpm_image_text::{
 use tpm_machine::Machine;
 use tpm_record::Keep;
 
-/// Writes the image of a device, in version 2, and leaves the device unchanged. If the tap had
-/// not failed before, the result is Write exactly if the writer failed; then only a prefix of the
-/// image was written.
+/// Writes the image of a device, in version 2, and leaves the device unchanged. If the tap had not
+/// failed before, the result is the fault `Write` exactly if the writer failed. In that case, only
+/// a prefix of the image was written.
 pub fn save<K: Keep, D: Write>(machine: &Machine<K>, tap: &mut Tap<D>) -> Result<(), SaveFault>
     ensures written { OnOk result (Appends (D.contents (device_of tap.old))
         (D.contents (device_of tap.new))
@@ -59,15 +59,15 @@ pub fn save_into<K: Keep>(machine: &Machine<K>, room: &mut [u8]) -> usize
 /// cycle, or the first fault in the order of [`ImageFault`]; NoMemory is returned only if the
 /// text is an image.
 pub fn open<K: Keep>(alloc: Global, text: &[u8]) -> Result<Machine<K>, ImageFault>
-    // The device that was opened, or the first fault.
+    // The result is the opened device, or the first fault.
     ensures exact { Opens (state_of K.record_of) (K.empty_can_refuse || K.can_refuse) text.now
         result }
-    // A text that opens is an image of the device in a version, within the limits of that
-    // version.
+    // A text that can be opened is an image of the device in some version, within that version's
+    // limits.
     ensures found { IfOk result (λ machine. (version : Version) × (kept : NonVolatile)
         × IsNonVolatile kept × IsImage version kept text.now
         × (state_of K.record_of machine ≡ powered_on kept)) }
-    // The image of a device, in either version, opens.
+    // The image of a device, in either version, can be opened.
     ensures only { (version : Version) (r : Record) → IsRecord r
         → IsImage version (kept_of r) text.now
         → OpensAgain (state_of K.record_of) (K.empty_can_refuse || K.can_refuse) r result }
@@ -81,7 +81,7 @@ pub fn open<K: Keep>(alloc: Global, text: &[u8]) -> Result<Machine<K>, ImageFaul
     open_device(alloc, text)
 }
 
-/// Opens a device from its image. This contract does not mention how images are encoded.
+/// Opens a device from its image. The contract does not mention how images are encoded.
 fn open_device<K: Keep>(alloc: Global, text: &[u8]) -> Result<Machine<K>, ImageFault>
     ensures exact { Opens (state_of K.record_of) (K.empty_can_refuse || K.can_refuse) text.now
         result }
@@ -101,13 +101,13 @@ fn open_device<K: Keep>(alloc: Global, text: &[u8]) -> Result<Machine<K>, ImageF
     }
 }
 
-/// Opens a device from its image, in either version, into a new machine of zeros, which never
-/// runs out of memory. The device is the same as with [`open`], and is not moved. On error, the
-/// machine is unspecified.
+/// Opens a device from its image, in either version, in a machine just manufactured with all-zero
+/// random bytes, which never runs out of memory. The device is the same as with [`open`], and is
+/// not moved. On error, the machine is unspecified.
 pub fn open_into<K: Keep>(machine: &mut Machine<K>, text: &[u8]) -> Result<(), ImageFault>
     requires new { state_of K.record_of machine.old ≡ manufactured (replicate 256 0) }
     requires never_refused { K.can_refuse ≡ false }
-    // The device that was opened, or the first fault.
+    // The machine is the opened device, or the result is the first fault.
     ensures exact { Opens (λ done. state_of K.record_of machine.new) false text.now result }
 
     // The device follows the history of the saved device, with one more power cycle.
@@ -119,8 +119,7 @@ pub fn open_into<K: Keep>(machine: &mut Machine<K>, text: &[u8]) -> Result<(), I
     fill_machine(machine, text)
 }
 
-/// Opens a device from its image into a new machine of zeros. This contract does not mention
-/// histories.
+/// Opens a device from its image in a new machine. The contract does not mention histories.
 fn fill_machine<K: Keep>(machine: &mut Machine<K>, text: &[u8]) -> Result<(), ImageFault>
     requires new { state_of K.record_of machine.old ≡ manufactured (replicate 256 0) }
     requires never_refused { K.can_refuse ≡ false }

@@ -12,7 +12,8 @@ use tpm_image_text::{Text, put_front, write_body_at};
 use tpm_machine::Machine;
 use tpm_record::Keep;
 
-/// The state that a device keeps, except for Clock. In contracts, the value is its text.
+/// The state that a device keeps without power, except for Clock. In contracts, the value is its
+/// text.
 #[derive(Drop)]
 pub struct KeptText {
     text: Text,
@@ -25,15 +26,15 @@ impl Model for KeptText {
 }
 
 impl KeptText {
-    /// The empty text, which differs from that of every device, since no device has an empty text.
+    /// The empty text, which differs from the text of every device.
     pub fn none() -> KeptText
         ensures { result ≡ [] }
     {
         KeptText { text: Text::new() }
     }
 
-    /// Replaces the text with that of this device, and returns whether the new text differs from
-    /// the old one.
+    /// Replaces the text with the text of this device, and returns whether the new text differs
+    /// from the old one.
     pub fn renew<K: Keep>(&mut self, machine: &Machine<K>) -> bool
         ensures text { self.new ≡ kept_text (state_of K.record_of machine.now) }
         ensures told { result ≡ not (bytes_eq self.old
@@ -47,8 +48,8 @@ impl KeptText {
     }
 }
 
-/// Writes the text of the state that a device keeps, except for Clock, to the beginning of a
-/// buffer, if it fits. Returns the size of the text in either case.
+/// Writes the text of the state that a device keeps without power, except for Clock, to the
+/// beginning of a buffer, if it fits. Returns the size of the text in either case.
 pub fn kept_into<K: Keep>(machine: &Machine<K>, room: &mut [u8]) -> usize
     ensures { PutsFront (kept_text (state_of K.record_of machine.now)) room.old result room.new }
 {

@@ -1,7 +1,7 @@
 #![tactic(auto)]
 
-//! The image of a device: what it keeps without power, as bytes from which another device can be
-//! opened.
+//! The image of a device: the state that it keeps without power, as bytes from which another device
+//! can be opened.
 //!
 //! [`image::save`] writes the image, and [`image::open`] reads it; [`image::save_into`] and
 //! [`image::open_into`] do the same in the caller's memory. [`kept_text`] reports whether

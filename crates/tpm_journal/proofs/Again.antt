@@ -1,4 +1,4 @@
--- The text written for a live device leads to that device when it is followed again.
+-- Executing the journal of a live device again yields that device.
 use Rattle.std.proofs.Common.{◌≡◌, ℕ, ◌+◌, false, List, [], ◌∷◌, ◌++◌, length, map, drop, Option, Some, None, Result, Ok, Err, refl, ap, sym, subst, ◌∙◌, append_assoc, append-nil}
 use Rattle.std.specs.List.{AllByRecursion}
 use Rattle.std.proofs.lemmas.List.{length-take-le, take-append-drop}
@@ -69,13 +69,13 @@ sum_parts sum (e ∷ front) back = sum_parts (sum_after sum e) front back
 
 -- ---- executed again
 
--- if no allocation fails, an entry is performed in only one way
+-- if no allocation fails, executing an entry again has only one possible effect
 seen_once : (layer : Completion) (old : Record) (e : PlainEntry) (a b : Seen) → IsPerformed false layer old e a → IsPerformed false layer old e b → a ≡ b
 seen_once layer old e a b is also =
     exactly false e.completes layer old (event_of e) a is refl ∙ sym (exactly false e.completes layer old (event_of e) b also refl)
 
--- performed entries lead to the same journal and record as these answers, and have the same
--- answers
+-- if executing some entries again can give the recorded answers, it always does so, with the same
+-- journal and record
 same_run : (before : Journal) (old : Record) (performances : List Performance) (after : Journal) (new : Record) (layer : Completion) (mid : Record)
     → LeadsBy false before old performances after new → Answers before.layer old (map entry_in performances) layer mid
     → (after ≡ journal_after_all before (map entry_in performances) layer) × (new ≡ mid) × (map response_sum performances ≡ map answer_said performances)
@@ -91,8 +91,8 @@ same_run before old (one ∷ performances) after new layer mid leads answers =
           ∙ ap (λ (l : List ℕ). one.entry.answered ∷ l) next.2,
     )
 
--- a text with a torn end is followed to its last whole entry, if the device answers as the
--- entries say
+-- if the device gives the recorded answers, the execution of a text with a torn end has no fault
+-- and reaches the last complete entry
 ended : (fault : Option FollowFault) (sum : ℕ) (sums said : List ℕ) (more : List PlainEntry) (rest left : List ℕ)
     → AnswersAre fault sums said → sums ≡ said → EndsIn fault sum left → left ≡ entries_text sum more ++ rest
     → AllByRecursion IsEntry more → IsTorn (sum_after_all sum more) rest → (fault ≡ None) × (more ≡ [])
@@ -138,7 +138,7 @@ followed_again before old layer final new entries rest text followed after repla
 
 -- ---- opened again
 
--- two heads at the beginning of one text are equal
+-- a text does not begin with two different heads
 one_head : (text : List ℕ) (kind other : HeadKind) (clock time : ℕ) (content bytes rest behind : List ℕ) → BeginsWith text kind clock content rest
     → BeginsWith text other time bytes behind → (kind ≡ other) × (clock ≡ time) × (content ≡ bytes)
 one_head text kind other clock time content bytes rest behind begins others =
@@ -153,7 +153,7 @@ module _ (kind : HeadKind) (clock : ℕ) (content : List ℕ) (start : Start) (e
     (begins : BeginsWith text kind clock content (entries_text start.journal.sum entries ++ rest))
     (are : AllByRecursion IsEntry entries) (cut : IsTorn (sum_after_all start.journal.sum entries) rest)
     (answers : Answers start.journal.layer start.device entries layer final) where
-  -- what holds of the head read from the text holds of this one
+  -- a function of a head has the same value for two heads at the beginning of one text
   same_of : {X : Type 0} (f : HeadKind → ℕ → List ℕ → X) (other : HeadKind) (time : ℕ) (bytes behind : List ℕ) → BeginsWith text other time bytes behind
       → f kind clock content ≡ f other time bytes
   same_of f other time bytes behind others =

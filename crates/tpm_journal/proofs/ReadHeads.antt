@@ -27,7 +27,7 @@ begins text head is = record {
   is = sym (take-append-drop head.size text) ∙ ap (λ (l : List ℕ). l ++ drop head.size text) is.is;
 }
 
--- a head opens as the start of its text
+-- if the head of a text can be opened, the text starts the head's journal
 pub started : (text : List ℕ) (head : Head) (start : Start) → IsHeadOf text head → start_by head.kind head.clock head.content.now ≡ Ok start
     → (rest : List ℕ) × (starts : Starts text start rest) × (head.size ≡ length (starting_head starts))
 started text head start is opened = (
@@ -79,7 +79,7 @@ not_opened text (fault.Follow why) new not = absurd not
 
 -- ---- the rest
 
--- a text consists of the head that starts it and the rest
+-- a text consists of the head that starts its journal, and the rest
 pub split_head : (text : List ℕ) (start : Start) (rest : List ℕ) (size : ℕ) (starts : Starts text start rest) → size ≡ length (starting_head starts)
     → (take size text ≡ starting_head starts) × (drop size text ≡ rest)
 split_head text start rest size starts is = (

@@ -1,4 +1,4 @@
--- The laws of the random bytes that a command draws.
+-- The laws about the random bytes that a command draws.
 pub mod Fronts
 pub mod Alike
 pub mod Rows

@@ -1,4 +1,5 @@
--- A checkpoint of a journal: a head with the whole state of the device and the completing layer.
+-- A checkpoint of a journal: a head that contains the whole state of the device and of the
+-- completing layer.
 use Rattle.std.specs.Prelude.{ℕ, Some}
 use Rattle.tpm_journal_text.specs.Head.{head_sum}
 use Rattle.tpm_record.specs.Record.{Record}
@@ -11,8 +12,8 @@ use Rattle.tpm_journal.specs.declared.journal.Journal.{Journal}
 abbrev pub state_beside : Journal → Record → WholeState
 state_beside journal device = record { device = device; layer = Some (layer_of journal.layer) }
 
--- the journal after a checkpoint whose head has this clock: its sum is that of the head, its time
--- is the clock, and its layer is unchanged
+-- the journal after a checkpoint: its checksum is that of the new head, its time is the clock in
+-- this head, and its layer is unchanged
 abbrev pub checkpointed : Journal → (clock : ℕ) → Record → Journal
 checkpointed journal clock device = record journal {
   sum = head_sum clock (state_text (state_beside journal device));

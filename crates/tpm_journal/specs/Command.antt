@@ -25,7 +25,7 @@ given c = Given c.buffer c.locality c.elapsed c.random
 abbrev pub elapsed_of : (now time : ℕ) → ℕ
 elapsed_of now time = min (now - time) (2 ^ 32 - 1)
 
--- the command in a buffer, which is truncated to the largest size in an entry
+-- the command in a buffer, which is truncated to at most the largest size that an entry can record
 abbrev pub command_at : (buffer : List ℕ) (locality elapsed : ℕ) (completes : Bool)
     (random : List ℕ) → Command
 command_at buffer locality elapsed completes random = record {
@@ -36,11 +36,13 @@ command_at buffer locality elapsed completes random = record {
   random = random;
 }
 
--- A command was executed on this record, with or without the layer, with this effect.
+-- Executing the command on the record `old` has the effect `seen`. The command says whether the
+-- completing layer takes part.
 abbrev pub Executed : (can : Bool) → Completion → Record → Command → Seen → Type 0
 Executed can layer old c seen = CompletesIf can c.completes layer old (given c) seen
 
--- the entry of a command with this effect; it contains only the random bytes that were drawn
+-- the entry that records a command and its effect; of the random bytes, it contains only those that
+-- the command drew
 abbrev pub entry_of : Command → Seen → PlainEntry
 entry_of c seen = record {
   elapsed = c.elapsed;
@@ -59,7 +61,7 @@ padded drawn = drawn ++ replicate (256 - length drawn) 0
 abbrev pub event_of : PlainEntry → PlainEvent
 event_of e = Given e.buffer e.locality e.elapsed (padded e.drawn)
 
--- The command of an entry was executed again on this record, with this effect, and with the layer
--- if the entry says so.
+-- Executing an entry's command again on the record `old` has the effect `seen`. The entry says
+-- whether the completing layer takes part.
 abbrev pub IsPerformed : (can : Bool) → Completion → Record → PlainEntry → Seen → Type 0
 IsPerformed can layer old e seen = CompletesIf can e.completes layer old (event_of e) seen

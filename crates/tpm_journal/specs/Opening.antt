@@ -1,4 +1,4 @@
--- When a text opens as a journal.
+-- The result of opening a text as a journal.
 use Rattle.std.specs.Prelude.{◌≡◌, ℕ, ◌+◌, false, List, length, Result, Ok, Err, Some, None}
 use Rattle.tpm_completion.specs.declared.completion.Completion.{Completion}
 use Rattle.tpm_journal_text.specs.Entry.{PlainEntry}
@@ -13,8 +13,8 @@ use Rattle.tpm_journal.specs.declared.opening.OpenFault.{OpenFault}
 use Rattle.tpm_journal.specs.declared.opening.OpenFault.TheVariants as fault
 use Rattle.tpm_journal.specs.declared.opening.Opened.{Opened}
 
--- A text begins with a head that starts a journal. From the device and layer of this start, the
--- entries after the head were executed, with this result.
+-- The text begins with a head that starts a journal. The device and the layer in that head executed
+-- the entries after it, with this result.
 pub record Reads (text : List ℕ) (followed : Followed) (journal : Journal) (new : Record) : Type 0 where
   pub start : Start
   pub rest : List ℕ
@@ -22,15 +22,15 @@ pub record Reads (text : List ℕ) (followed : Followed) (journal : Journal) (ne
   pub replays : Replays false start.journal start.device rest followed journal new
 
 -- A text is a journal: its device and the layer above it executed exactly the entries after its
--- head. Nothing follows these entries, except perhaps the remains of one more after a crash.
+-- head. Nothing follows these entries, except perhaps an incomplete entry after a crash.
 pub record IsJournal (text : List ℕ) (opened : Opened) (new : Record) : Type 0 where
   pub followed : Followed
   pub reads : Reads text followed opened.journal new
   pub whole : followed.fault ≡ None
   pub size : opened.taken ≡ length (starting_head reads.starts) + followed.taken
 
--- A text opened as the device of a journal; or it starts no journal, because of this fault; or its
--- entries were executed up to this fault.
+-- Either the text was opened as a journal; or this fault prevents it from starting a journal; or
+-- its entries were executed up to this fault.
 abbrev pub OpensJournal : List ℕ → Result Opened OpenFault → Record → Type 0
 OpensJournal text (Ok opened) new = IsJournal text opened new
 OpensJournal text (Err fault.NoJournal) new = StartsNot text fault.NoJournal
@@ -40,8 +40,8 @@ OpensJournal text (Err (fault.Follow why)) new =
     (followed : Followed) × (journal : Journal) × Reads text followed journal new
     × (followed.fault ≡ Some why)
 
--- The journal with this head and these entries opened completely. Its layer and record are those
--- to which the entries lead from this start.
+-- Opening succeeded, and read the head and all of these entries. The resulting layer and record are
+-- `layer` and `final`.
 abbrev pub IsOpenedAgain : (head : List ℕ) → Journal → List PlainEntry → (layer : Completion)
     → (final : Record) → Result Opened OpenFault → Record → Type 0
 IsOpenedAgain head start entries layer final (Ok opened) new =

@@ -1,4 +1,4 @@
--- The entries of a text, executed again.
+-- Executing the entries of a text again.
 use Rattle.std.specs.Prelude.{◌≡◌, ◌≢◌, ℕ, ◌≤◌, Bool, List, [], ◌∷◌, ◌++◌, drop, length, map, take, Option, Some, None}
 use Rattle.std.specs.List.{AllByRecursion}
 use Rattle.tpm_completion.specs.Execution.{Seen}
@@ -26,16 +26,15 @@ pub record Performance : Type 0 where
 abbrev pub entry_in : Performance → PlainEntry
 entry_in one = one.entry
 
--- the sum of the response to the entry's command; and the sum that the entry records
+-- the checksum of the response to an entry's command; below, the checksum that the entry records
 abbrev pub response_sum : Performance → ℕ
 response_sum one = sum_of one.seen.step.response
 
 abbrev pub answer_said : Performance → ℕ
 answer_said one = one.entry.answered
 
--- The commands of these entries were executed again one after another, with the layer if the
--- entries say so, and led from one journal and record to another. `can` says whether an allocation
--- can fail.
+-- Executing these entries again, one after another and each with the layer if the entry says so,
+-- changes the first journal and record to the last ones. `can` says whether an allocation can fail.
 abbrev pub LeadsBy : (can : Bool) → Journal → Record → List Performance → Journal → Record → Type 0
 LeadsBy can before old [] after new = (after ≡ before) × (new ≡ old)
 LeadsBy can before old (one ∷ performances) after new =
@@ -43,7 +42,7 @@ LeadsBy can before old (one ∷ performances) after new =
     × LeadsBy can (journal_after before one.entry one.seen.layer) one.seen.step.after performances
     after new
 
--- all executions on the device that these entries caused
+-- everything that the device executed for these entries
 abbrev pub run_of_all : (can : Bool) (before : Journal) (old : Record)
     (performances : List Performance) (after : Journal) (new : Record)
     → LeadsBy can before old performances after new → List Execution
@@ -53,7 +52,7 @@ run_of_all can before old (one ∷ performances) after new leads =
     ++ run_of_all can (journal_after before one.entry one.seen.layer) one.seen.step.after
     performances after new leads.1
 
--- The sums of the responses match those in the entries; if the device answered differently, only
+-- The checksums of the responses are those in the entries. If the device answered differently, only
 -- the last sum differs.
 abbrev pub AnswersAre : Option FollowFault → (sums said : List ℕ) → Type 0
 AnswersAre None sums said = sums ≡ said
@@ -62,15 +61,15 @@ AnswersAre (Some Otherwise) sums said =
     (front : List ℕ) × (sum : ℕ) × (other : ℕ) × (sums ≡ front ++ sum ∷ [])
     × (said ≡ front ++ other ∷ []) × (sum ≢ other)
 
--- The text after the executed entries is torn, or damaged; if the device answered differently, it
--- can be anything.
+-- What follows the executed entries: a torn text if there was no fault, a damaged text if the fault
+-- is damage, and any text if the device answered differently.
 abbrev pub EndsIn : Option FollowFault → (sum : ℕ) → (left : List ℕ) → Type 0
 EndsIn None sum left = IsTorn sum left
 EndsIn (Some Damaged) sum left = IsDamaged sum left
 EndsIn (Some Otherwise) sum left = Unit {0}
 
 -- A device, with its layer, executed exactly the entries at the beginning of a text, one after
--- another. They led from one journal and record to another.
+-- another. This changed the journal from `before` to `after`, and the record from `old` to `new`.
 pub record Repeats (can : Bool) (before : Journal) (old : Record) (text : List ℕ) (taken : ℕ)
     (fault : Option FollowFault) (after : Journal) (new : Record) : Type 0
   where
@@ -90,8 +89,8 @@ pub record Replays (can : Bool) (before : Journal) (old : Record) (text : List �
 
 -- ---- executing a single entry again
 
--- The entry at the beginning of a text was executed again. `Holds` relates the sum of its response
--- to the sum in the entry.
+-- The entry at the beginning of a text was executed again. `Holds` relates the checksum of its
+-- response to the checksum in the entry.
 pub record Performs (can : Bool) (before : Journal) (old : Record) (text : List ℕ) (size : ℕ)
     (one : Performance) (after : Journal) (Holds : ℕ → ℕ → Type 0) : Type 0
   where
@@ -102,7 +101,7 @@ pub record Performs (can : Bool) (before : Journal) (old : Record) (text : List 
     pub answer : Holds (response_sum one) (answer_said one)
     pub journal : after ≡ journal_after before one.entry one.seen.layer
 
--- What was done with the beginning of a text; `seen` is the effect, if an entry was executed.
+-- The result of processing the beginning of a text. If an entry was executed, `seen` is its effect.
 abbrev pub Does : Bool → Journal → Record → List ℕ → Deed → (after : Journal) → Seen → Type 0
 Does can before old text (deed.Executed entry size) after seen =
     Performs can before old text size (record { entry = plain_entry entry; seen = seen }) after
@@ -117,8 +116,8 @@ Does can before old text deed.Damaged after seen =
 
 -- ---- texts followed to their end
 
--- A text of these entries was followed to its end: all of them were executed, and led to this
--- layer and this record.
+-- The text ended without a fault, and all of these entries were executed. The resulting layer and
+-- record are `layer` and `final`.
 pub record IsFollowedWhole (before : Journal) (entries : List PlainEntry) (layer : Completion)
     (final : Record) (followed : Followed) (after : Journal) (new : Record) : Type 0
   where

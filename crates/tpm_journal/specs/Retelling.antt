@@ -27,8 +27,8 @@ abbrev pub words_of : (completes : Bool) → PlainEvent → Row → (response : 
 words_of true event row response = codes "completed"
 words_of false event row response = trace_text event row response
 
--- There is a text that says how this event was answered: a trace requires that the row is in the
--- table, and that the response contains a header.
+-- The answer to this event can be put in words. A trace requires that the row is in the table, and
+-- that the response contains a header.
 abbrev pub CanBeTold : (completes : Bool) → PlainEvent → Row → (response : List ℕ) → Type 0
 CanBeTold true event row response = Unit {0}
 CanBeTold false event row response = IsRow row × IsAnswered event response
@@ -58,13 +58,13 @@ abbrev pub retold_by : Telling → (words response own : List ℕ) → List ℕ
 retold_by Script words response own = codes "# " ++ words ++ 10 ∷ [] ++ drop mark_line_size own
 retold_by Answers words response own = answer_lines words response
 
--- the text for a head: the head itself in a script, nothing among answers
+-- the output for a head: the head itself in a script, nothing among answers
 abbrev pub retold_head : Telling → (head : List ℕ) → List ℕ
 retold_head Script head = head
 retold_head Answers head = []
 
 -- Exactly the entries at the beginning of a text were executed again, one after another, and the
--- text for each of them was written.
+-- script lines or the answer of each were written.
 pub record Retells (form : Telling) (can : Bool) (before : Journal) (old : Record) (text : List ℕ)
     (held : Option (List ℕ)) (holds : Option (List ℕ)) (taken : ℕ) (fault : Option FollowFault)
     (after : Journal) (new : Record) : Type 0
@@ -72,8 +72,8 @@ pub record Retells (form : Telling) (can : Bool) (before : Journal) (old : Recor
     pub repeats : Repeats can before old text taken fault after new
     pub told : Appends held holds (flat_map (retold form) repeats.performances)
 
--- The entries of a text were executed again, with this result, and the text for each of them was
--- written.
+-- The entries of a text were executed again, with this result, and the script lines or the answer
+-- of each were written.
 pub record RetellsEntries (form : Telling) (can : Bool) (before : Journal) (old : Record) (text : List ℕ)
     (held : Option (List ℕ)) (holds : Option (List ℕ)) (followed : Followed) (after : Journal)
     (new : Record) : Type 0
@@ -81,8 +81,8 @@ pub record RetellsEntries (form : Telling) (can : Bool) (before : Journal) (old 
     pub replays : Replays can before old text followed after new
     pub told : Appends held holds (flat_map (retold form) replays.repeats.performances)
 
--- A text begins with a head that starts a journal. The texts for the head and for each executed
--- entry were written, with this result.
+-- The text begins with a head that starts a journal. The output for the head and for each executed
+-- entry was written. `fault` is the reason if execution stopped early.
 pub record RetellsText (form : Telling) (text : List ℕ) (held : Option (List ℕ)) (holds : Option (List ℕ))
     (fault : Option FollowFault) : Type 0
   where
@@ -103,8 +103,8 @@ abbrev pub retold_size : {form : Telling} {text : List ℕ} {held holds : Option
     {fault : Option FollowFault} → RetellsText form text held holds fault → ℕ
 retold_size told = length (starting_head told.starts) + told.followed.taken
 
--- A journal was converted to its end; or it was converted up to a fault; or the text starts no
--- journal, and nothing was written; or the writer failed.
+-- Either the journal was converted to its end; or it was converted up to a fault; or the text does
+-- not start a journal, and nothing was written; or the writer failed.
 abbrev pub RetellsJournal : Telling → List ℕ → (held : Option (List ℕ)) → (holds : Option (List ℕ))
     → Marks → Result (Unit {0}) RetellFault → Type 0
 RetellsJournal form text held holds marks (Ok done) = RetellsText form text held holds None

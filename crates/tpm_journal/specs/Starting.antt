@@ -39,19 +39,19 @@ start_by_state clock text (Ok state) = Ok (record {
 })
 start_by_state clock text (Err why) = Err (fault.State (Text why))
 
--- the start from a head of this kind, clock and content, or the fault of the content
+-- the start from a head with this kind, clock and content, or the fault in the content
 abbrev pub start_by : HeadKind → (clock : ℕ) → (content : List ℕ) → Result Start OpenFault
 start_by Image clock content = start_by_image clock content (image_of content)
 start_by State clock content = start_by_state clock content (current_state_of_text content)
 
--- A text is the head of this kind, clock and content, followed by the rest.
+-- The text is a head with this kind, clock and content, followed by the rest.
 pub record BeginsWith (text : List ℕ) (kind : HeadKind) (clock : ℕ) (content rest : List ℕ)
     : Type 0
   where
     pub has : HasHead kind clock content
     pub is : text ≡ head_text kind clock content ++ rest
 
--- A text consists of a head that starts this journal, and the rest.
+-- The text consists of a head that starts this journal, and the rest.
 pub record Starts (text : List ℕ) (start : Start) (rest : List ℕ) : Type 0 where
   pub kind : HeadKind
   pub clock : ℕ
@@ -64,13 +64,13 @@ abbrev pub starting_head : {text : List ℕ} {start : Start} {rest : List ℕ} �
     → List ℕ
 starting_head starts = head_text starts.kind starts.clock starts.content
 
--- A text begins with a head that starts no journal, because of this fault.
+-- The text begins with a head that cannot start a journal because of this fault.
 abbrev pub HoldsFault : List ℕ → OpenFault → Type 0
 HoldsFault text why =
     (kind : HeadKind) × (clock : ℕ) × (content : List ℕ) × (rest : List ℕ)
     × BeginsWith text kind clock content rest × (start_by kind clock content ≡ Err why)
 
--- A text starts no journal: it has no head, or the content of its head is faulty in this way.
+-- The text does not start a journal: it has no head, or the content of its head has this fault.
 abbrev pub StartsNot : List ℕ → OpenFault → Type 0
 StartsNot text fault.NoJournal =
     (kind : HeadKind) (clock : ℕ) (content rest : List ℕ) → BeginsWith text kind clock content rest
@@ -79,14 +79,14 @@ StartsNot text (fault.Image why) = HoldsFault text (fault.Image why)
 StartsNot text (fault.State why) = HoldsFault text (fault.State why)
 StartsNot text (fault.Follow why) = ⊥
 
--- The content of a head was opened: the journal and the device are those of the start, or this is
--- the fault.
+-- Opening the content of a head returned the journal and the device of its start, or the fault in
+-- the content.
 abbrev pub IsStart : Result Start OpenFault → Result Journal OpenFault → (new : Record) → Type 0
 IsStart start (Ok journal) new = start ≡ Ok (record { journal = journal; device = new })
 IsStart start (Err why) new = start ≡ Err why
 
--- The head of a text was opened: the journal and the device are those of the text's start, and
--- this is the head's size; or the text starts no journal.
+-- Opening the head of a text returned the journal and the device of its start, and the head's size.
+-- Or the text does not start a journal, because of this fault.
 abbrev pub StartsBy : List ℕ → Result Started OpenFault → (new : Record) → Type 0
 StartsBy text (Ok started) new =
     (rest : List ℕ)

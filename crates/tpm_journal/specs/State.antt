@@ -9,8 +9,8 @@ use Rattle.tpm_journal.specs.declared.journal.Journal.{Journal}
 use Rattle.tpm_snapshot.specs.Layer.{completion_of}
 use Rattle.tpm_state_text.specs.declared.layer.Layer.{Layer}
 
--- the journal after a head with this sum and this clock: the completing layer restarts, and the
--- sum becomes its start number
+-- the journal after a head with this checksum and clock: the completing layer restarts, with the
+-- checksum as its start number
 abbrev pub journal_of : (sum clock : ℕ) → Journal
 journal_of sum clock = record { sum = sum; time = clock; layer = new_completion sum }
 
@@ -18,13 +18,13 @@ journal_of sum clock = record { sum = sum; time = clock; layer = new_completion 
 abbrev pub journal_begun : (clock : ℕ) → (image : List ℕ) → Journal
 journal_begun clock image = journal_of (head_sum clock image) clock
 
--- the layer in a state, or a new layer if the state has none; the sum of the head is the start
--- number of the new layer
+-- the layer in a state, or a new layer if the state has none; the start number of a new layer is
+-- the checksum of the head
 abbrev pub layer_in : (sum : ℕ) → Option Layer → Completion
 layer_in sum None = new_completion sum
 layer_in sum (Some layer) = completion_of (Some layer)
 
--- the journal after a head with this sum and this clock, whose state text contains this layer
+-- the journal after a head with this checksum and clock, whose state text contains this layer
 abbrev pub journal_resumed : (sum clock : ℕ) → Option Layer → Journal
 journal_resumed sum clock layer = record { sum = sum; time = clock; layer = layer_in sum layer }
 
@@ -36,7 +36,7 @@ abbrev pub time_after_all : (time : ℕ) → List PlainEntry → ℕ
 time_after_all time [] = time
 time_after_all time (e ∷ entries) = time_after_all (time_after time e.elapsed) entries
 
--- the journal after an entry, and after several entries, that leave the layer in this state
+-- the journal after one entry, and below after several; `layer` is the layer's state after them
 abbrev pub journal_after : Journal → PlainEntry → (layer : Completion) → Journal
 journal_after j e layer =
     record { sum = sum_after j.sum e; time = time_after j.time e.elapsed; layer = layer }

@@ -1,2 +1,2 @@
--- Definitions for the random bytes that a command draws.
+-- Definitions about the random bytes that a command draws.
 pub mod Bytes

@@ -1,10 +1,9 @@
-//! A command's effect depends only on the random bytes that it draws. These are the first ones of
-//! its event, and any bytes may follow them. So recording the bytes that a command drew is enough
-//! to execute it again.
+//! A command's effect depends only on the random bytes that it draws. They are the first random
+//! bytes of its event; the bytes after them do not matter. Therefore, recording the bytes that a
+//! command drew is enough to execute it again.
 //!
-//! Each function is a proof only: its contract is the law, and it has no effect at run time. The
-//! laws are about the definitions of tpm_step; tpm_machine defines the number of bytes that an
-//! event draws.
+//! Each function here states a law in its contract, and does nothing at run time. The laws are
+//! about the definitions of tpm_step. tpm_machine defines the number of bytes that an event draws.
 
 ghost use Rattle.std.specs.Prelude.{◌≡◌, ℕ, Bool, false, IfOk, List, Ok, take};
 ghost use Rattle.tpm_record.specs.rows.Request.{Request};
@@ -18,8 +17,8 @@ ghost use Rattle.tpm_step.specs.Table.{row_of};
 ghost use Rattle.tpm_commands.specs.declared.command_code.CommandCode.{CommandCode};
 ghost use Rattle.tpm_commands.specs.declared.command_code.CommandCode.TheVariants as command;
 
-/// The row of a command acts in the same way with other random bytes, if these agree with the
-/// original ones on all bytes that the command draws.
+/// The result of a command's row depends only on the random bytes that the row draws: it is the
+/// same with other random bytes that agree on these.
 #[inline(always)]
 #[tactic(auto, using(crate::proofs::draw_laws::Rows::row_alike))]
 pub fn row_laws()
@@ -27,7 +26,7 @@ pub fn row_laws()
         → ActsAlike q.random other (row_of r c q) (row_of r c (with_random q other)) }
 {}
 
-/// Each byte that a command draws can matter: if TPM2_GetRandom acts in the same way with other
+/// TPM2_GetRandom depends on each byte that it draws: if its row has the same result with other
 /// random bytes, these agree with the original ones on all bytes that it draws.
 #[inline(always)]
 #[tactic(auto, using(crate::proofs::draw_laws::Needed::bytes_needed))]
@@ -38,9 +37,9 @@ pub fn needed_byte_laws()
         → take s.answer.drawn other ≡ take s.answer.drawn q.random) }
 {}
 
-/// The step of a command depends only on the random bytes that it draws. With an equal number of
-/// other random bytes that agree on those drawn, the step is the same, even if an allocation
-/// fails. It also draws the same number of bytes.
+/// A command's step depends only on the random bytes that it draws. With equally many other bytes
+/// after these, the step is the same, even if an allocation fails, and draws the same number of
+/// bytes.
 #[inline(always)]
 #[tactic(auto, using(crate::proofs::draw_laws::Executions::steps_alike, crate::proofs::draw_laws::Executions::draws_alike))]
 pub fn step_laws()
@@ -54,8 +53,8 @@ pub fn step_laws()
         ≡ drawn_by r (Given buffer locality elapsed random) check }
 {}
 
-/// The execution of a command depends only on the random bytes that it draws. It is also an
-/// execution with any equal number of other random bytes that agree on those drawn.
+/// A command's execution depends only on the random bytes that it draws. With equally many other
+/// bytes after these, the same outcome is possible.
 #[inline(always)]
 pub fn execution_laws()
     ensures { (can : Bool) (r : Record) (buffer : List ℕ) (locality elapsed : ℕ)

@@ -1,4 +1,4 @@
-//! A device and its completing layer execute the entries of a text again.
+//! Executes the entries of a text again, on a device with its completing layer.
 
 ghost use Rattle.std.specs.Prelude.{◌≡◌, ◌≤◌, length};
 ghost use Rattle.tpm_completion.specs.Execution.{seen_of};
@@ -18,30 +18,28 @@ use tpm_types::Locality;
 /// The reasons why the execution of a text's entries stopped early.
 #[derive(Clone, Copy, PartialEq, Eq)]
 pub enum FollowFault {
-    /// The text continues neither with an entry nor with the remains of one after a crash.
+    /// The text continues neither with an entry nor with a part of one that a crash left.
     Damaged,
     /// The device's answer to the last entry differs from the one recorded in the entry.
     Otherwise,
 }
 
-/// How much of a text was followed.
+/// The result of executing the entries of a text.
 #[derive(Clone, Copy, PartialEq, Eq)]
 pub struct Followed {
-    /// The size of the entries that were executed.
+    /// The total size of the executed entries, in bytes.
     pub taken: usize,
     pub fault: Option<FollowFault>,
 }
 
-/// What was done with the beginning of a text.
+/// The result of processing the beginning of a text.
 #[derive(Clone, Copy)]
 pub(crate) enum Deed<'a> {
-    /// The entry, whose text is `size` bytes long, was executed, and the answer matches the
-    /// entry.
+    /// An entry of `size` bytes of text was executed, and the answer matches it.
     Executed { entry: Entry<'a>, size: usize },
-    /// The entry, whose text is `size` bytes long, was executed, and the answer differs from the
-    /// entry.
+    /// An entry of `size` bytes of text was executed, and the answer differs from it.
     Otherwise { entry: Entry<'a>, size: usize },
-    /// The text is torn: it is less than an entry, possibly followed by zeros.
+    /// The text is torn: it is shorter than an entry, not counting zeros at its end.
     Torn,
     /// The text is damaged.
     Damaged,
@@ -79,8 +77,8 @@ fn padded(drawn: &[u8]) -> [u8; 256]
 }
 
 impl Journal {
-    /// Executes the entry at the beginning of a text. Stores the entry's bytes in the first
-    /// buffer, and writes its text to the second for comparison.
+    /// Executes the entry at the beginning of a text. Decodes it into `bytes`, and encodes it again
+    /// in `room` for comparison.
     pub(crate) fn follow_one<'a, K: Keep>(
         &mut self,
         machine: &mut Machine<K>,

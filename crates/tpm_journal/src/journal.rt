@@ -39,7 +39,7 @@ use tpm_types::Locality;
 /// The state of a journal in addition to its device.
 #[derive(Clone, Copy, PartialEq, Eq)]
 pub struct Journal {
-    /// The sum of the marks so far.
+    /// The checksum of the marks of the head and all entries.
     pub sum: u64,
     /// The time of the journal in milliseconds: the clock in its head, plus the elapsed times of
     /// its commands.
@@ -49,8 +49,8 @@ pub struct Journal {
 }
 
 impl Journal {
-    /// The journal after a head with this sum and this clock. The completing layer restarts; the
-    /// sum becomes its start number.
+    /// The journal after a head with this checksum and clock. The completing layer restarts, with
+    /// the checksum as its start number.
     pub fn begun(sum: u64, clock_ms: u64) -> Journal
         ensures { result ≡ journal_of sum clock_ms }
     {
@@ -61,8 +61,7 @@ impl Journal {
         }
     }
 
-    /// The journal after a head with this sum and this clock, whose state text contains this
-    /// layer.
+    /// The journal after a head with this checksum and clock, whose state text contains this layer.
     pub(crate) fn resumed(sum: u64, clock_ms: u64, layer: Option<&Layer>) -> Journal
         ensures { result ≡ journal_resumed sum clock_ms (option_copied layer.entry) }
     {
@@ -123,7 +122,7 @@ impl Journal {
         ensures journal { result ≤ length buffer.old
             → self.new ≡ checkpointed self.old clock_ms (state_of K.record_of machine.now) }
         ensures no_journal { length buffer.old < result → self.new ≡ self.old }
-        // Reading the head yields the journal and the device with which this one continues.
+        // Opening the written head yields this device and the new state of this journal.
         ensures starts { result ≤ length buffer.old → start_by State clock_ms
             (state_text (state_beside self.old (state_of K.record_of machine.now)))
             ≡ Ok (record { journal = self.new; device = state_of K.record_of machine.now }) }
@@ -146,8 +145,8 @@ impl Journal {
     }
 
     /// Executes a command at this time of the host's clock, with or without the completing layer,
-    /// and writes its entry to the beginning of a buffer. Returns the size of the entry. A
-    /// command of more than 4,097 bytes is truncated to 4,097, and is refused in the same way.
+    /// and writes its entry to the beginning of a buffer. Returns the size of the entry. A command
+    /// of more than 4,097 bytes is truncated to 4,097, and is still refused in the same way.
     pub fn execute<K: Keep>(
         &mut self,
         machine: &mut Machine<K>,
@@ -169,7 +168,7 @@ impl Journal {
             take result room.new ≡ entry_text self.old.sum (entry_of c seen) }
         ensures fits { result ≤ length room.new }
 
-        // The text written is an entry, and can be read again.
+        // The written text is the text of an entry, which can be read again.
         ensures entry { let c = command_at buffer.now (locality_number locality)
             (elapsed_of now_ms self.old.time) completes random.now in
             let seen = seen_of K.record_of machine.new self.new.layer outcome.new in
@@ -197,8 +196,8 @@ impl Journal {
     }
 }
 
-/// The layer in a state, or a new layer if the state has none. The sum of the head is the start
-/// number of the new layer.
+/// The layer in a state, or a new layer if the state has none. The start number of a new layer is
+/// the checksum of the head.
 fn layer_in(sum: u64, layer: Option<&Layer>) -> Completion
     ensures { result ≡ layer_in sum (option_copied layer.entry) }
 {
@@ -209,7 +208,7 @@ fn layer_in(sum: u64, layer: Option<&Layer>) -> Completion
 }
 
 /// Writes a head, whose content comes in two parts, to the beginning of a buffer, if it fits.
-/// Returns its size. Sets `sum` to the sum of the head's mark.
+/// Returns its size. Sets `sum` to the checksum of the head's mark.
 fn put_head(
     kind: HeadKind,
     clock_ms: u64,
@@ -296,7 +295,7 @@ fn put_state<K: Keep>(
     )
 }
 
-/// The prefix of a buffer, up to the largest size in an entry.
+/// The buffer, truncated to the largest size that an entry can record.
 #[tactic(auto, using(std::proofs::lemmas::List::take_all))]
 fn cut(buffer: &[u8]) -> &[u8]
     ensures { result.now ≡ take 4097 buffer.now }

@@ -1,4 +1,5 @@
 //! The laws of journals: opening a journal yields the device that executed the answered commands.
+//! Each function only states laws, and does nothing at run time.
 
 ghost use Rattle.std.specs.Prelude.{◌≡◌, ◌++◌, ℕ, Bool, List, Ok, Option, Result, false};
 ghost use Rattle.std.specs.List.{AllByRecursion};
@@ -30,9 +31,8 @@ ghost use Rattle.tpm_record.specs.Record.{Record};
 ghost use Rattle.tpm_state_text.specs.Body.{IsWholeState, WholeState};
 ghost use Rattle.tpm_state_text.specs.State.{state_text};
 
-/// If the entries of a live device and its layer are executed again, they have the same answers,
-/// and lead to the same layer and record. Random bytes that a command did not draw have no
-/// effect. A proof only: it has no effect at run time.
+/// Executing the entries of a live device and its layer again yields the same answers, layer and
+/// record. Random bytes that a command did not draw have no effect.
 #[inline(always)]
 #[tactic(auto, using(crate::proofs::Ignoring::lives_alike))]
 pub fn living_laws()
@@ -40,8 +40,8 @@ pub fn living_laws()
         (new : Record) → Lives layer old entries after new → Answers layer old entries after new }
 {}
 
-/// A text consists of entries and the remains of one more after a crash. If the device and its
-/// layer answer as the entries say, exactly the whole entries are executed again.
+/// A text consists of entries and perhaps an incomplete entry after a crash. If the device and its
+/// layer give the recorded answers, exactly the complete entries are executed again.
 #[inline(always)]
 pub fn following_laws()
     ensures { (before : Journal) (old : Record) (layer : Completion) (final new : Record)
@@ -53,10 +53,9 @@ pub fn following_laws()
         → IsFollowedWhole before entries layer final followed after new }
 {}
 
-/// Which journal starts with a head. The image of a device starts a new journal, with a power
-/// cycle of the device. A state text starts a journal in which the device and the layer continue
-/// unchanged. A checkpoint starts the journal that was checkpointed, with its layer and its
-/// device. A proof only: it has no effect at run time.
+/// The journal that a head starts. The image of a device starts a new journal, with a power cycle
+/// of the device. A state text starts a journal in which the device and the layer continue
+/// unchanged. A checkpoint starts the journal that was checkpointed, with its layer and its device.
 #[inline(always)]
 #[tactic(auto, using(crate::proofs::Starts::image_starts, crate::proofs::Starts::state_starts, crate::proofs::Starts::checkpoint_starts))]
 pub fn starting_laws()
@@ -75,9 +74,9 @@ pub fn starting_laws()
         ≡ Ok (record { journal = checkpointed j clock r; device = r }) }
 {}
 
-/// A text consists of a head that starts a journal, its entries, and the remains of one more
-/// entry after a crash. It opens as the device and the layer to which the entries lead from that
-/// start, if the device and its layer answer as the entries say.
+/// A text consists of a head that starts a journal, entries, and perhaps an incomplete entry after
+/// a crash. If the device and its layer give the recorded answers, opening the text yields the
+/// device and the layer after all complete entries.
 #[inline(always)]
 #[tactic(auto, using(crate::proofs::Again::opened_again))]
 pub fn opening_laws()
@@ -93,8 +92,8 @@ pub fn opening_laws()
         new }
 {}
 
-/// A checkpoint of a live device, followed by the entries of the commands that the device and its
-/// layer executed since, opens as this device and this layer.
+/// A text consists of a checkpoint of a live device and the entries of the commands that the device
+/// and its layer executed since. Opening it yields this device and layer.
 #[inline(always)]
 #[tactic(auto, using(crate::proofs::Starts::checkpoint_opened))]
 pub fn checkpoint_laws()
@@ -110,9 +109,9 @@ pub fn checkpoint_laws()
         (checkpointed j clock r) entries layer final result new }
 {}
 
-/// If a device follows a history and executes entries again, it then follows that history
-/// extended by everything that was executed for them and accepted. The law also states what else
-/// holds of such a sequence of entries.
+/// If a device follows a history and executes entries again, it then follows that history extended
+/// by everything that it accepted while executing them. The law also states other properties of
+/// these executions, such as the limits on failed tries.
 #[inline(always)]
 pub fn repeating_laws()
     ensures { (can : Bool) (before : Journal) (old : Record) (text : List ℕ) (taken : ℕ)

@@ -1,4 +1,4 @@
-//! How a device is opened from a journal.
+//! Opens a device from a journal.
 
 ghost use Rattle.std.specs.Prelude.{◌≡◌, false, option_copied, replicate};
 ghost use Rattle.tpm_image_text.specs.Image.{image_of};
@@ -49,7 +49,7 @@ pub struct Opened {
     pub taken: usize,
 }
 
-/// Opens the device from the image in a head, in a machine just manufactured with zeros.
+/// Opens the device from the image in a head, in a new machine.
 fn open_image<K: Keep>(machine: &mut Machine<K>, head: &Head) -> Result<Journal, OpenFault>
     requires new { state_of K.record_of machine.old ≡ manufactured (replicate 256 0) }
     requires never_refused { K.can_refuse ≡ false }
@@ -63,8 +63,8 @@ fn open_image<K: Keep>(machine: &mut Machine<K>, head: &Head) -> Result<Journal,
     }
 }
 
-/// Restores the device from the state text in a head, in a machine just manufactured with zeros. A
-/// text of version 1 is refused: its entries were answered by another completing layer.
+/// Restores the device from the state text in a head, in a new machine. A text of version 1 is
+/// refused, because its entries were answered by another completing layer.
 fn open_state<K: Keep>(machine: &mut Machine<K>, head: &Head) -> Result<Journal, OpenFault>
     requires new { state_of K.record_of machine.old ≡ manufactured (replicate 256 0) }
     requires never_refused { K.can_refuse ≡ false }
@@ -78,8 +78,8 @@ fn open_state<K: Keep>(machine: &mut Machine<K>, head: &Head) -> Result<Journal,
     }
 }
 
-/// Opens the device from a head, in a machine just manufactured with zeros. Returns the journal
-/// of the head. On error, the machine is unspecified.
+/// Opens the device from a head, in a new machine. Returns the journal of the head. On error, the
+/// machine is unspecified.
 fn open_head<K: Keep>(machine: &mut Machine<K>, head: &Head) -> Result<Journal, OpenFault>
     requires new { state_of K.record_of machine.old ≡ manufactured (replicate 256 0) }
     requires never_refused { K.can_refuse ≡ false }
@@ -93,8 +93,8 @@ fn open_head<K: Keep>(machine: &mut Machine<K>, head: &Head) -> Result<Journal, 
     }
 }
 
-/// Opens the device from the head of a text, in a machine just manufactured with zeros. On error,
-/// the machine is unspecified.
+/// Opens the device from the head of a text, in a machine just manufactured with all-zero random
+/// bytes. On error, the machine is unspecified.
 pub(crate) fn start<K: Keep>(machine: &mut Machine<K>, text: &[u8]) -> Result<Started, OpenFault>
     requires new { state_of K.record_of machine.old ≡ manufactured (replicate 256 0) }
     requires never_refused { K.can_refuse ≡ false }
@@ -113,8 +113,8 @@ pub(crate) fn start<K: Keep>(machine: &mut Machine<K>, text: &[u8]) -> Result<St
     }
 }
 
-/// Opens a device and its completing layer from their journal, in a machine just manufactured
-/// with zeros. On error, the machine is unspecified.
+/// Opens a device and its completing layer from their journal, in a machine just manufactured with
+/// all-zero random bytes. On error, the machine is unspecified.
 pub fn open<K: Keep>(
     machine: &mut Machine<K>,
     text: &[u8],

@@ -3,9 +3,9 @@
 //! lines that execute the command. The answers consist of that trace and the response, for each
 //! entry.
 //!
-//! [`retell`] executes the entries of a journal again, as opening does, and converts exactly the
-//! executed entries, one by one. It does no input or output except through the writer that it
-//! takes.
+//! [`retell`] executes the entries of a journal again, as opening a journal does, and converts
+//! exactly the executed entries, one by one. It does no input or output except through the writer
+//! that it takes.
 
 ghost use Rattle.std.specs.Prelude.{◌≡◌, IfOk, OnErr, false, replicate, true};
 ghost use Rattle.tpm_bytes.specs.Tap.{device_of, marks_of};
@@ -48,9 +48,9 @@ pub enum RetellFault {
     Write,
 }
 
-/// Converts a journal: opens the device from its head in a machine just manufactured with zeros,
-/// and executes its entries again. Text after the last complete entry was never answered, and is
-/// not converted.
+/// Converts a journal: opens the device from its head in a machine just manufactured with all-zero
+/// random bytes, and executes its entries again. An incomplete entry at the end was never answered,
+/// and is not converted.
 pub fn retell<K: Keep, W: Write>(
     form: Telling,
     machine: &mut Machine<K>,

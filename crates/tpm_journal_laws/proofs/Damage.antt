@@ -1,4 +1,4 @@
--- A damaged journal that is truncated at the damage is followed to its end.
+-- A damaged journal that is truncated at the damage can be executed to its end.
 use Rattle.std.proofs.Common.{◌≡◌, ◌≤◌, ℕ, zero, suc, arith, List, [], ◌∷◌, length, take, drop, refl, ap, ◌∙◌, inl}
 use Rattle.std.proofs.lemmas.List.{drop_all, length-take}
 use Rattle.tpm_journal_text.specs.Journal.{IsTorn}

@@ -50,7 +50,7 @@ shown_front : (drawn : List ℕ) → length drawn ≤ 256 → take (length drawn
 shown_front [] few = refl
 shown_front (byte ∷ drawn) few = repeated_front (byte ∷ drawn) few
 
--- a command draws at most the random bytes that its event has
+-- a command draws at most as many random bytes as its event contains
 few_drawn : (random : List ℕ) (a : Result Accepted RefusedCommand) → drawn_by_command random a 0 ≤ length random
 few_drawn random (Ok a) = omega arith
 few_drawn random (Err e) = omega arith

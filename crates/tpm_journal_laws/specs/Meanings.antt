@@ -14,14 +14,14 @@ use Rattle.tpmsim_script.specs.Line.{line_meaning, lines_of}
 abbrev pub meanings_of : (text : List ℕ) → List (Option Meaning)
 meanings_of text = map line_meaning (lines_of text)
 
--- the meanings of the lines of an entry, followed by those of the later lines
+-- the meanings of the lines of an entry, followed by the meanings of the later lines
 abbrev pub entry_meanings : PlainEntry → (rest : List (Option Meaning)) → List (Option Meaning)
 entry_meanings e rest =
     Some DoesNothing ∷ Some (Waits e.elapsed) ∷ Some (SetsLocality e.locality)
     ∷ Some (SetsEntropy (encode_lower (shown e.drawn)))
     ∷ Some (Executes (encode_lower e.buffer)) ∷ rest
 
--- the meanings of the lines of several entries, followed by those of the later lines
+-- the meanings of the lines of several entries, followed by the meanings of the later lines
 abbrev pub entries_meanings : List PlainEntry → (rest : List (Option Meaning))
     → List (Option Meaning)
 entries_meanings [] rest = rest
@@ -32,7 +32,7 @@ abbrev pub EntryMeansIt : Type 0
 EntryMeansIt = (sum : ℕ) (e : PlainEntry) (rest : List ℕ) → IsEntry e
     → meanings_of (entry_text sum e ++ rest) ≡ entry_meanings e (meanings_of rest)
 
--- The two lines of a head have no effect, whatever follows.
+-- The two lines of a head have no effect in a script, whatever follows.
 abbrev pub HeadMeansNothing : Type 0
 HeadMeansNothing = (kind : HeadKind) (clock : ℕ) (content rest : List ℕ)
     → meanings_of (head_text kind clock content ++ rest)

@@ -12,7 +12,7 @@ use Rattle.tpm_step.specs.Step.{step}
 use Rattle.tpmsim_script.specs.Line.{lines_of}
 use Rattle.tpmsim_script.specs.Script.{at_first, play, printed_response, repeated}
 
--- the event that the lines of an entry execute: its random bytes repeat those that the entry drew
+-- the event that the lines of an entry execute; its random bytes repeat those that the entry drew
 abbrev pub scripted : PlainEntry → PlainEvent
 scripted e = Given e.buffer e.locality e.elapsed (repeated (shown e.drawn))
 
@@ -23,8 +23,8 @@ printed_answers r (e ∷ entries) =
     printed_response (step r (scripted e)).response
     ++ printed_answers (step r (scripted e)).after entries
 
--- A journal that consists of a head of at most 32,767 bytes and of entries plays to its end as a
--- script, and prints the device's responses to the entries.
+-- If the content of a journal's head has at most 32,767 bytes, the journal can be played as a
+-- script to its end. The script prints the device's responses to the entries.
 abbrev pub JournalPlays : Type 0
 JournalPlays = (kind : HeadKind) (clock : ℕ) (content : List ℕ) (entries : List PlainEntry)
     (r : Record) (number : ℕ) → length content ≤ 32767 → AllByRecursion IsEntry entries
@@ -32,7 +32,7 @@ JournalPlays = (kind : HeadKind) (clock : ℕ) (content : List ℕ) (entries : L
     (lines_of (head_text kind clock content ++ entries_text (head_sum clock content) entries))
     ≡ record { text = printed_answers r entries; bad = None }
 
--- If an entry contains the random bytes, out of 256, that its command drew, its lines execute the
+-- If an entry contains the random bytes that its command drew out of 256, its lines execute the
 -- command as it was originally executed.
 abbrev pub PlaysAsExecuted : Type 0
 PlaysAsExecuted = (r : Record) (e : PlainEntry) (random : List ℕ) → length random ≡ 256

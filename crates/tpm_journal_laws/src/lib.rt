@@ -1,11 +1,10 @@
 #![tactic(auto)]
 
-//! Laws of journals: what the text of a journal means as a script, how a journal follows the
-//! host's clock and records buffers, and which commands of a damaged journal are executed.
+//! Laws of journals: what the text of a journal means as a script, how a journal follows the host's
+//! clock and records buffers, and which commands of a damaged journal are executed.
 //!
 //! The laws are about the definitions of tpm_journal, tpm_journal_text and tpmsim_script. Each
-//! function is a proof only: its contract is the law, and it has no effect at run time. No crate
-//! uses this one.
+//! function states a law in its contract, and does nothing at run time. No crate uses this one.
 
 ghost use Rattle.tpm_journal_laws.specs.Buffers.{IsRecordedWhole, LongerAreRefusedAlike};
 ghost use Rattle.tpm_journal_laws.specs.Damage.{FrontIsFollowed};
@@ -14,10 +13,9 @@ ghost use Rattle.tpm_journal_laws.specs.Meanings.{JournalMeansIt};
 ghost use Rattle.tpm_journal_laws.specs.Playing.{JournalPlays, PlaysAsExecuted};
 ghost use Rattle.tpm_journal_laws.specs.Times.{BeginsAtClock, GoesWithClock, TellsNoTimeTwice};
 
-/// The line of an entry's mark has no effect. The lines after it wait for the entry's
-/// milliseconds, set its locality and the random bytes that it drew, and execute its buffer. The
-/// lines of a head have no effect. So a whole journal means what its entries say, one after
-/// another.
+/// The line of an entry's mark has no effect. The lines after it wait for the entry's milliseconds,
+/// set its locality and the random bytes that it drew, and execute its buffer. The lines of a head
+/// have no effect. Therefore, a whole journal means what its entries say, one after another.
 #[inline(always)]
 #[tactic(auto, using(crate::proofs::Meanings::entry_means_it, crate::proofs::Meanings::head_means_nothing, crate::proofs::Meanings::journal_means_it))]
 pub fn meaning_laws()
@@ -26,9 +24,9 @@ pub fn meaning_laws()
     ensures journal { JournalMeansIt }
 {}
 
-/// A journal plays to its end as a script, and prints the device's responses to its entries. If
-/// an entry contains the bytes that its command drew, its lines execute the command as it was
-/// originally executed.
+/// A journal can be played as a script to its end, which prints the device's responses to its
+/// entries. If an entry contains the bytes that its command drew, its lines execute the command as
+/// it was originally executed.
 #[inline(always)]
 #[tactic(auto, using(crate::proofs::Playing::journal_plays, crate::proofs::Executing::plays_as_executed))]
 pub fn playing_laws()
@@ -36,10 +34,10 @@ pub fn playing_laws()
     ensures executes { PlaysAsExecuted }
 {}
 
-/// A journal's time begins at the clock of its head. After each command it equals the host's
-/// clock at the arrival of that command. No millisecond counts twice: over all commands together,
-/// at most the milliseconds from the journal's time to the latest clock elapse, even if the clock
-/// goes back.
+/// The time of a new journal is the clock in its head. After a command, it equals the host's clock
+/// at the arrival of that command, unless the clock went back or at least 2^32 milliseconds passed.
+/// No millisecond counts twice: over all commands together, at most the milliseconds from the
+/// journal's time to the latest clock elapse, even if the clock goes back.
 #[inline(always)]
 #[tactic(auto, using(crate::proofs::Times::begins_at_clock, crate::proofs::Times::goes_with_clock, crate::proofs::Times::tells_no_time_twice))]
 pub fn time_laws()
@@ -57,8 +55,8 @@ pub fn buffer_laws()
     ensures longer { LongerAreRefusedAlike }
 {}
 
-/// A damaged journal that is truncated at the damage is followed to its end, and leads to the
-/// same device. The answers before the damage match the entries there.
+/// A damaged journal that is truncated at the damage can be executed to its end, and yields the
+/// same device. All answers before the damage match their entries.
 #[inline(always)]
 #[tactic(auto, using(crate::proofs::Damage::front_is_followed))]
 pub fn damage_laws()

@@ -120,7 +120,7 @@ module _ (sum : ℕ) (e : PlainEntry) (place : ℕ) (is : IsEntry e) (less : pla
       take-append-le 72 (take place entry) (drop (place + 1) entry) (omega (arith, after, less, length-take-le place entry (omega (arith, less))))
       ∙ take-take 72 place entry after ∙ line_stands sum e entry [] (sym (append-nil entry))
 
-  -- After a removal, the last line feed is not at the end of a line of the entry.
+  -- After a byte is removed, the last line feed is not where a line of the entry may end.
   no_end : (mark : List ℕ) → mark ≡ mark_of e → LinesEnd mark cut → ⊥
   unfolding last text
   no_end mark same end =

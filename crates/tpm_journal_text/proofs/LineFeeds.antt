@@ -67,7 +67,7 @@ feed_at (byte ∷ line) rest (suc place) none e =
 
 -- ---- the lines of an entry
 
--- the lines after the line of the mark, without their line feeds
+-- the lines of an entry after the line of its mark, each without its line feed
 wait_line : PlainEntry → List ℕ
 wait_line e = codes "wait " ++ ten_digits e.elapsed
 
@@ -182,7 +182,7 @@ abbrev Ends : (e : PlainEntry) (place : ℕ) → Type 0
 Ends e place =
     ((place ≡ 15) ⊎ ((place ≡ 21) ⊎ (place ≡ drawn_line_end (length e.drawn)))) ⊎ (place ≡ last_end e)
 
--- Each line feed in the lines of an entry ends one of these lines.
+-- Each line feed in the lines of an entry is where a line of the entry ends.
 feeds_end : (e : PlainEntry) (place : ℕ) → get_or (lines_of e) place 0 ≡ 10 → Ends e place
 unfolding lines_of
 feeds_end e place is =
@@ -230,7 +230,7 @@ entry_lines sum e =
     append_assoc (mark_line sum (mark_of e)) (setting_lines e) (executing_lines e)
     ∙ ap (λ (l : List ℕ). mark_line sum (mark_of e) ++ l) (lines_are e)
 
--- If a line feed follows the line of the mark, it belongs to the entry's lines.
+-- Each line feed after the line of an entry's mark is where a line of the entry ends.
 pub feed_in_entry : (sum : ℕ) (e : PlainEntry) (place : ℕ) → get_or (entry_text sum e) (72 + place) 0 ≡ 10 → Ends e place
 feed_in_entry sum e place is =
     let line = mark_line sum (mark_of e) in
@@ -259,7 +259,7 @@ lines_end_front mark front back end place there =
     end place (get_or-drop 72 (front ++ back) place 0
     ∙ get_or_append_left front back 0 (72 + place) (feed_within front (72 + place) at) ∙ at)
 
--- After zeros are appended to a text, its lines still end where those of the mark's entry end.
+-- After zeros are appended to a text, its lines still end where the lines of the mark's entry end.
 pub lines_end_zeros : (mark front : List ℕ) (count : ℕ) → LinesEnd mark front → LinesEnd mark (front ++ replicate count 0)
 lines_end_zeros mark front count end place there =
     let text = front ++ replicate count 0 in

@@ -38,7 +38,7 @@ line_parts word bytes sum =
     append_assoc (word ++ encode_lower bytes ++ 32 ∷ []) (encode_lower (to_be_bytes w64 sum)) (10 ∷ [])
     ∙ append_assoc (word ++ encode_lower bytes) (32 ∷ []) (encode_lower (to_be_bytes w64 sum) ++ 10 ∷ [])
 
--- The digits of a marked line's bytes are at their offset.
+-- In a marked line, the hex digits of the bytes follow the word.
 pub line_digits : (word bytes text : List ℕ) (sum size count : ℕ) → length bytes ≡ count
     → take size text ≡ marked_line word bytes sum → take (2 * count) (drop (length word) text) ≡ encode_lower bytes
 line_digits word bytes text sum size count many there =
@@ -55,7 +55,7 @@ all_equal (byte ∷ text) = rw (eq-eqb byte byte refl, all_equal text) refl
 pub same_is_equal : (text other : List ℕ) → text ≡ other → pointwise nat_eq text other ≡ true
 same_is_equal text other e = rw (← e) (all_equal text)
 
--- If a text consists of a front and a rest, it begins with the front.
+-- If a text consists of a prefix and a rest, it begins with the prefix.
 pub front_of : (front rest text : List ℕ) (size : ℕ) → length front ≡ size → text ≡ front ++ rest → take size text ≡ front
 front_of front rest text size many e = ap (take size) e ∙ take_at front rest size many
 

@@ -22,8 +22,8 @@ zeros_are_all : (count : ℕ) → list_all (λ byte. byte == 0) (replicate count
 zeros_are_all zero = refl
 zeros_are_all (suc count) = zeros_are_all count
 
--- If byte number `size` and all later bytes of a text are zeros, the text has fewer than `size`
--- bytes.
+-- If the byte before offset `size` and all later bytes of a text are zeros, the text has fewer than
+-- `size` bytes, not counting the zeros at its end.
 pub fewer : (text end : List ℕ) (size : ℕ) → 0 < size → size ≤ length text → end ≡ drop (size - 1) text
     → list_all (λ byte. byte == 0) end ≡ true → HasFewer size text
 fewer text end size some long e all = record {
@@ -33,7 +33,8 @@ fewer text end size some long e all = record {
   fewer = omega (arith, some, long, length-take-le (size - 1) text (omega (arith, long)));
 }
 
--- If a text has fewer bytes than an offset, all bytes from that offset on are zeros.
+-- If a text consists of a prefix and zeros, all bytes from any offset after the prefix on are
+-- zeros.
 zeros_after : (front : List ℕ) (zeros place : ℕ) → length front ≤ place
     → (count : ℕ) × (drop place (front ++ replicate zeros 0) ≡ replicate count 0)
 zeros_after [] zeros place le = (zeros - place, drop-replicate {X = ℕ} place zeros 0)
@@ -53,7 +54,7 @@ whole_is_fewer text size short = record { front = text; zeros = 0; is = sym (app
 
 -- ---- less than an entry
 
--- If a text is less than an entry, each prefix of the text is less than an entry.
+-- If a text is too short for an entry, so is each prefix of the text.
 cut_off_front : (sum : ℕ) (front back : List ℕ) → IsCutOff sum (front ++ back) → IsCutOff sum front
 cut_off_front sum front back cut = by (nat_lt (length front) 72) refl
   where
@@ -72,7 +73,7 @@ cut_off_front sum front back cut = by (nat_lt (length front) 72) refl
               )
         ]
 
--- A proper prefix of an entry is less than an entry.
+-- A proper prefix of an entry is too short for an entry.
 part_of_entry : (sum : ℕ) (e : PlainEntry) (size : ℕ) → IsEntry e → size < length (entry_text sum e) → IsCutOff sum (take size (entry_text sum e))
 part_of_entry sum e size is less = by (nat_lt size 72) refl
   where
@@ -136,7 +137,8 @@ take_none : (count : ℕ) → take {A = ℕ} count [] ≡ []
 take_none zero = refl
 take_none (suc count) = refl
 
--- A prefix of a text followed by zeros is a prefix of the text, followed by zeros.
+-- Truncating a text that ends with zeros, and then appending zeros, yields a prefix of the text
+-- before its zeros, followed by zeros.
 take_zeros : (front : List ℕ) (zeros size more : ℕ) → (count : ℕ) × (left : ℕ)
     × (take size (front ++ replicate zeros 0) ++ replicate more 0 ≡ take count front ++ replicate left 0)
 take_zeros front zeros zero more = (0, more, refl)

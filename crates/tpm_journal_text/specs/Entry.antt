@@ -27,7 +27,7 @@ entry_room = 9216
 abbrev pub entry_limit : ℕ
 entry_limit = 4097
 
--- the entry in the code, as plain values without their memory
+-- an entry of the code as plain values, without references to memory
 abbrev pub plain_entry : Entry → PlainEntry
 plain_entry e = record {
   elapsed = e.elapsed_ms;
@@ -38,7 +38,7 @@ plain_entry e = record {
   answered = e.answered;
 }
 
--- The conditions under which a command has an entry.
+-- The conditions under which a command can be written as an entry.
 pub record IsEntry (e : PlainEntry) : Type 0 where
   pub elapsed : e.elapsed < 2 ^ 32
   pub locality : e.locality ≤ 4
@@ -56,8 +56,8 @@ flag false = 0
 flag true = 1
 
 -- the mark of an entry, 26 bytes: the elapsed time, the locality, the flag, the number of random
--- bytes drawn, the size of the buffer, the checksum of these fields, and the checksum of the
--- response
+-- bytes drawn, the size of the buffer, the checksum of these random bytes and the buffer, and the
+-- checksum of the response
 unfoldable pub mark_of : PlainEntry → List ℕ
 mark_of e =
     to_be_bytes w32 e.elapsed ++ to_be_bytes w8 e.locality ++ to_be_bytes w8 (flag e.completes)
@@ -67,7 +67,7 @@ mark_of e =
 abbrev pub mark_size : ℕ
 mark_size = 26
 
--- the number of random bytes drawn by the entry of a mark, and the size of its buffer
+-- the number of random bytes that the entry with this mark drew; below, the size of its buffer
 abbrev pub drawn_size : (mark : List ℕ) → ℕ
 drawn_size mark = from_be_bytes w16 (take 2 (drop 6 mark))
 
@@ -95,7 +95,8 @@ unfoldable pub ten_digits : ℕ → List ℕ
 ten_digits number =
     map (digit_at number) (1000000000 ∷ 100000000 ∷ 10000000 ∷ 1000000 ∷ 100000 ∷ 10000 ∷ 1000 ∷ 100 ∷ 10 ∷ 1 ∷ [])
 
--- the random bytes as a script line contains them: at least one byte, since the line needs one
+-- the random bytes as a script line contains them: at least one byte, since the line may not be
+-- empty
 abbrev pub shown : List ℕ → List ℕ
 shown [] = 0 ∷ []
 shown (byte ∷ bytes) = byte ∷ bytes
@@ -115,7 +116,7 @@ executing_lines e =
 abbrev pub drawn_line_end : (drawn : ℕ) → ℕ
 drawn_line_end drawn = 30 + 2 * max 1 drawn
 
--- the total size of the setting and the executing lines
+-- the total size of an entry's script lines
 abbrev pub lines_size : (drawn buffer : ℕ) → ℕ
 lines_size drawn buffer = 36 + (2 * max 1 drawn + 2 * buffer)
 

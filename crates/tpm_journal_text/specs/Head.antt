@@ -37,14 +37,14 @@ head_text kind clock content =
     marked_line (head_word kind) (head_mark clock content) (head_sum clock content)
     ++ codes "# " ++ encode_lower content ++ 10 ∷ []
 
--- the size of the line of a head's mark, and of a head with `count` bytes of content
+-- the size of the line with a head's mark; below, of a head with `count` bytes of content
 abbrev pub head_line_size : ℕ
 head_line_size = 77
 
 abbrev pub head_size : (count : ℕ) → ℕ
 head_size count = head_line_size + (3 + 2 * count)
 
--- A head of this kind can be written with this clock and this content.
+-- A head of this kind can contain this clock and this content.
 pub record HasHead (kind : HeadKind) (clock : ℕ) (content : List ℕ) : Type 0 where
   pub in_time : clock < 2 ^ 64
   pub small : length content ≤ content_limit kind

@@ -34,17 +34,17 @@ abbrev pub LinesEnd : (mark text : List ℕ) → Type 0
 LinesEnd mark text =
     (place : ℕ) → get_or (drop mark_line_size text) place 0 ≡ 10 → EndsLine mark place
 
--- A text is less than an entry. Either its first line is truncated. Or its first line contains a
--- mark that announces more bytes than the text has, and the following lines end where those of
--- the mark's entry end.
+-- The text is too short for an entry. Either its first line is truncated. Or its first line
+-- contains a mark that announces more bytes than the text has, and the following lines end where
+-- the lines of the mark's entry end.
 abbrev pub IsCutOff : (sum : ℕ) → List ℕ → Type 0
 IsCutOff sum text =
     (length text < mark_line_size)
     ⊎ ((mark : List ℕ) × BeginsWithMark sum mark text × (length text < entry_size mark)
     × LinesEnd mark text)
 
--- A torn text is less than an entry, possibly followed by zeros. Killing a process leaves less than
--- an entry, and a crash of the host may leave zeros instead of the rest.
+-- A torn text is too short for an entry, not counting zeros at its end. Killing a process leaves a
+-- part of an entry, and a crash of the host may leave zeros instead of the rest.
 pub record IsTorn (sum : ℕ) (text : List ℕ) : Type 0 where
   pub front : List ℕ
   pub zeros : ℕ

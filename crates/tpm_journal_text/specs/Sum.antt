@@ -1,20 +1,20 @@
--- The checksum of bytes: 64-bit FNV-1a (Fowler, Noll, Vo), called the sum. Each step maps
--- different sums to different sums, and different bytes to different sums, so changing a single
--- byte changes the sum.
+-- The checksum of bytes: 64-bit FNV-1a (Fowler, Noll, Vo), called the sum. Each step maps different
+-- sums to different sums, and different bytes to different sums. Therefore, changing a single byte
+-- changes the sum.
 use Rattle.std.specs.Prelude.{ℕ, ◌*◌, ◌%◌, ◌^◌, bit_xor, List, [], ◌∷◌}
 
--- the sum of no bytes
+-- the checksum of no bytes
 abbrev pub offset_basis : ℕ
 offset_basis = 0xcbf29ce484222325
 
 abbrev pub prime : ℕ
 prime = 0x100000001b3
 
--- a sum with one byte added
+-- a checksum with one byte added
 abbrev pub with_byte : (sum : ℕ) → (byte : ℕ) → ℕ
 with_byte sum byte = (bit_xor sum byte * prime) % 2 ^ 64
 
--- a sum with these bytes added
+-- a checksum with these bytes added
 abbrev pub sum_from : (sum : ℕ) → List ℕ → ℕ
 sum_from sum [] = sum
 sum_from sum (byte ∷ bytes) = sum_from (with_byte sum byte) bytes

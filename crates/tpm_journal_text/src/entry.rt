@@ -99,7 +99,7 @@ impl<'a> Entry<'a> {
     }
 
     /// Returns the random bytes as a script line contains them: at least one byte, since the line
-    /// needs one.
+    /// may not be empty.
     fn shown(&self) -> &[u8]
         ensures value { result.now ≡ shown self.now.drawn.now }
         ensures size { length result.now ≡ max 1 (length self.now.drawn.now) }

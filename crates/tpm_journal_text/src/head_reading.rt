@@ -35,7 +35,7 @@ fn count_of(mark: &[u8; MARK_SIZE]) -> usize
     u32::from_be_bytes([mark[8], mark[9], mark[10], mark[11]]) as usize
 }
 
-/// The kind of the head that a text may begin with.
+/// The kind of the head at the beginning of a text, if there is a head.
 fn kind_of(text: &[u8]) -> HeadKind
     ensures { (kind : HeadKind) (clock : ℕ) (content rest : List ℕ)
         → text.now ≡ head_text kind clock content ++ rest → result ≡ kind }
@@ -83,7 +83,7 @@ fn content_behind<'a>(
     read_hex(text, CONTENT_PLACE, content)
 }
 
-/// The text after its first line, which must contain this content, or None if it does not.
+/// The text after a line with this content, or None if the text does not begin with that line.
 fn behind_content<'a>(text: &'a [u8], content: &[u8]) -> Option<&'a [u8]>
     ensures some { IfSome result (λ rest. text.now
         ≡ codes "# " ++ (encode_lower content.now ++ (10 ∷ [] ++ rest.now))) }

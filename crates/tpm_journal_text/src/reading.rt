@@ -25,7 +25,7 @@ pub const BYTES_ROOM: usize = 256 + ENTRY_LIMIT;
 /// The offset of the random bytes in the text of an entry.
 const DRAWN_PLACE: usize = 102;
 
-/// The beginning of a text: an entry, less than an entry, or neither.
+/// The beginning of a text: an entry, a text too short for an entry, or neither.
 pub enum Next<'a> {
     /// An entry, the size of its text, and the checksum after it.
     Whole {
@@ -33,10 +33,10 @@ pub enum Next<'a> {
         size: usize,
         sum: u64,
     },
-    /// Less than an entry: its lines end where an entry's lines end, and any bytes after it are
-    /// zeros.
+    /// A text too short for an entry. Its lines end where an entry's lines end, and only zeros may
+    /// follow it.
     Torn,
-    /// Neither an entry nor the remains of one after a crash.
+    /// Neither an entry nor a part of one that a crash left.
     Damaged,
 }
 
@@ -82,7 +82,7 @@ fn u64_at(mark: &[u8; MARK_SIZE]) -> u64
     ])
 }
 
-/// The size of the entry's text, according to its mark.
+/// The size of the entry's text, according to the entry's mark.
 fn size_told(mark: &[u8; MARK_SIZE]) -> usize
     ensures { result ≡ entry_size mark.now }
 {
@@ -152,8 +152,8 @@ fn less_than_entry<'a>(text: &[u8], mark: &[u8; MARK_SIZE]) -> Next<'a>
     }
 }
 
-/// Reads the entry at the beginning of a text. `sum` is the checksum of all earlier marks. Stores
-/// the entry's bytes in the first buffer, and writes its text to the second for comparison.
+/// Reads the entry at the beginning of a text. `sum` is the checksum of all earlier marks. Decodes
+/// the entry into `bytes`, and encodes it again in `room` for comparison.
 pub fn read_entry<'a>(
     sum: u64,
     text: &[u8],

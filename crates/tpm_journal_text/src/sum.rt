@@ -27,7 +27,7 @@ pub fn sum_of(bytes: &[u8]) -> u64
 }
 
 /// The definition yields the checksums that FNV's authors publish for no bytes, for `a` and for
-/// `foobar`. A proof only: it has no effect at run time.
+/// `foobar`. The function does nothing at run time.
 pub fn published_sums()
     ensures none { sum_of [] ≡ 0xcbf29ce484222325 }
     ensures a { sum_of (codes "a") ≡ 0xaf63dc4c8601ec8c }

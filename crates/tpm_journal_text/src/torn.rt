@@ -1,4 +1,4 @@
-//! The remains of an entry after a crash: less than an entry, possibly followed by zeros.
+//! The part of an entry that a crash leaves, which may be followed by zeros.
 
 ghost use Rattle.std.specs.Prelude.{◌≡◌, ◌==◌, ◌+◌, ◌≤◌, ◌<◌, ◌⊎◌, ◌↔◌, ◌++◌, ℕ, List, [], true, false, drop, get_or, length, replicate, take};
 ghost use Rattle.std.specs.List.{list_all};
@@ -52,8 +52,8 @@ pub(crate) fn lines_end(lines: &[u8], drawn_end: usize) -> bool
 
 /// If a crash leaves nothing of an entry, or a prefix of it, possibly followed by zeros, the text
 /// is torn. It stays torn if another crash truncates it or adds zeros. An entry is not torn. If any
-/// byte of an entry except the last is removed, the entry is damaged. A proof only: it has no
-/// effect at run time.
+/// byte of an entry except the last is removed, the entry is damaged. The function does nothing at
+/// run time.
 #[inline(always)]
 pub fn torn_laws()
     ensures nothing { (sum : ℕ) → IsTorn sum [] }

@@ -15,7 +15,7 @@ use Rattle.tpm_completion.specs.Saving.{binding_of, counted, next_number}
 use Rattle.tpm_completion.specs.declared.completion.Completion.{Completion}
 use Rattle.tpm_premises.specs.Placed.{first_transient, saved_object}
 
--- a started device without the object, and one with it; and a device on which all slots are taken
+-- a started device without the object; below, a device with it, and a device without a free slot
 abbrev pub without_object : Record
 without_object = tried 1 0 0
 
@@ -31,14 +31,14 @@ four_more r = one_more (one_more (one_more (one_more r)))
 abbrev pub full : Record
 full = four_more (four_more without_object)
 
--- the layer at its start, and after its first context
+-- the layer at its start; below, after its first context
 abbrev pub first_layer : Completion
 first_layer = new_completion 1
 
 abbrev pub later_layer : Completion
 later_layer = counted first_layer 1
 
--- what the context of the object is made from
+-- the values from which the context of the object is made
 abbrev pub making : Making
 making = record {
   hierarchies = with_object.fixed.hierarchies;
@@ -47,8 +47,8 @@ making = record {
   object = saved_object;
 }
 
--- The object can be saved on the device with it. Its context is valid on the device without it,
--- where it gets the same handle again, and on the device on which all slots are taken.
+-- The object can be saved on `with_object`. Its context is valid on `without_object`, where it gets
+-- the same handle again, and on `full`, which has no free slot.
 pub record HasSavedObject : Type 0 where
   pub started : with_object.fixed.started ≡ true
   pub transient : is_transient first_transient ≡ true

@@ -18,7 +18,7 @@ given_command = record {
   random = zeros;
 }
 
--- the step of this command on a device on which the index exists, and its effect
+-- the step of `given_command` on a device on which the index exists; below, the command's effect
 abbrev pub refusal_step : Stepped
 refusal_step = step (tried 0 0 0) (wrong_after 0)
 
@@ -29,7 +29,7 @@ effect = record {
   drawn = drawn_by (tried 0 0 0) (wrong_after 0) refusal_step.row.check;
 }
 
--- A device executed this command, and its journal contains the entry.
+-- A device executed `given_command`, and its journal contains the entry.
 abbrev pub HasOneEntry : Type 0
 HasOneEntry =
     Lives (new_completion 0) (tried 0 0 0) (entry_of given_command effect ∷ []) effect.layer

@@ -64,14 +64,14 @@ entry = record {
   hmac = 1 ∷ 2 ∷ 3 ∷ 4 ∷ [];
 }
 
--- TPM2_GetRandom for eight bytes, with this entry
+-- TPM2_GetRandom for eight bytes, with `entry` in its authorization area
 abbrev pub buffer : List ℕ
 buffer =
     0x80 ∷ 0x02 ∷ 0x00 ∷ 0x00 ∷ 0x00 ∷ 0x1d ∷ 0x00 ∷ 0x00 ∷ 0x01 ∷ 0x7b
     ∷ 0x00 ∷ 0x00 ∷ 0x00 ∷ 0x0d ∷ 0x02 ∷ 0x00 ∷ 0x00 ∷ 0x00 ∷ 0x00 ∷ 0x00 ∷ 0x01
     ∷ 0x00 ∷ 0x04 ∷ 1 ∷ 2 ∷ 3 ∷ 4 ∷ 0x00 ∷ 0x08 ∷ []
 
--- the command in this buffer, as a history records it
+-- the command in `buffer`, as a history records it
 abbrev pub asking : AcceptedCommand
 asking = record {
   command = record {

@@ -5,7 +5,7 @@
 //! journals.
 //!
 //! A law whose premise can never be satisfied says nothing. Each example here satisfies one
-//! premise, by computation. Each law is the contract of a function that has no effect at run time.
+//! premise, by computation. Each law is the contract of a function that does nothing at run time.
 //! No crate depends on this one.
 
 ghost use Rattle.tpm_premises.specs.Contexts.{HasSavedObject};
@@ -16,7 +16,7 @@ ghost use Rattle.tpm_premises.specs.Policies.{EachIsWritten};
 ghost use Rattle.tpm_premises.specs.Replays.{HasReplay};
 ghost use Rattle.tpm_premises.specs.Uses.{HasUse};
 
-/// Every assertion can come next in a written policy, and two policies can be the branches of
+/// Every assertion can be added to a written policy, and two policies can be the branches of
 /// another.
 #[inline(always)]
 #[tactic(auto, using(crate::proofs::Policies::each_is_written))]
@@ -48,15 +48,16 @@ pub fn device_premises()
     ensures secrets { AreTwoSecrets }
 {}
 
-/// An object from a saved context can be placed on a new device, which records it.
+/// An object from a saved context can be placed on a new device, and the device's history records
+/// it.
 #[inline(always)]
 #[tactic(auto, using(crate::proofs::Placed::is_placed))]
 pub fn placed_premise()
     ensures { IsPlaced }
 {}
 
-/// An object can be saved, and its context is valid on the device after the object is gone, and on a
-/// device on which all slots are taken.
+/// An object can be saved, and its context is valid on the device without the object, and on a
+/// device without a free slot.
 #[inline(always)]
 pub fn context_premise()
     ensures { HasSavedObject }

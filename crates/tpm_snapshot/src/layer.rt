@@ -9,7 +9,7 @@ use tpm_completion::Completion;
 use tpm_state_text::Layer;
 use tpm_types::SESSION_LIMIT;
 
-/// Returns a number unchanged; its contract adds that the number fits its width.
+/// Returns a number unchanged. The contract adds that the number fits its width.
 fn with_width(number: u64) -> u64
     ensures same { result ≡ number }
     ensures fits { result < 2 ^ 64 }
@@ -29,7 +29,7 @@ fn sessions_of(sessions: &[u64; 16]) -> [u64; 16]
     saved
 }
 
-/// Returns what a text stores about the layer.
+/// Returns the part of a state text that stores the layer.
 pub fn layer_of(completion: &Completion) -> Layer
     ensures value { result ≡ layer_of completion.now }
     ensures is_layer { IsLayer result }
@@ -42,7 +42,7 @@ pub fn layer_of(completion: &Completion) -> Layer
     }
 }
 
-/// Returns the layer in a text; if the text contains none, a new layer with start 0.
+/// Returns the layer in a text; if the text contains none, a new layer with start number 0.
 pub fn completion_of(layer: Option<&Layer>) -> Completion
     ensures { result ≡ completion_of (option_copied layer.entry) }
 {

@@ -5,12 +5,12 @@
 //!
 //! [`snapshot_into`] writes the text of a machine into the caller's buffer. [`restored`],
 //! [`restore_new`] and [`restore_into`] read such a text, of any version; [`resume_new`] reads only
-//! the version that is written. [`layer_of`] and [`completion_of`]
-//! convert between the completing layer and its part of such a text. The crate uses the machine
-//! and the completing layer, and tpm_state_text for the bytes.
+//! the version that is written. [`layer_of`] and [`completion_of`] convert between the completing
+//! layer and its part of a state text. The crate uses the machine and the completing layer, and
+//! tpm_state_text for the bytes.
 //!
-//! A device that is restored from the text of a device is in the same state, and follows the same
-//! history ([`laws`] proves the layer's part).
+//! A device that is restored from the state text of another device is in the same state, and
+//! follows the same history ([`laws`] proves the layer's part).
 
 pub mod laws;
 mod layer;

@@ -19,8 +19,8 @@ use tpm_machine::Machine;
 use tpm_record::Keep;
 use tpm_state_text::{Layer, RestoreFault};
 
-/// Writes the state text of a machine, with its completing layer, to the front of a buffer, if it
-/// fits. Returns the size of the text. The call allocates no memory.
+/// Writes the state text of a machine, with its completing layer, to the beginning of a buffer, if
+/// it fits. Returns the size of the text. The call allocates no memory.
 pub fn snapshot_into<K: Keep>(
     machine: &Machine<K>,
     layer: Option<&Layer>,
@@ -35,9 +35,9 @@ pub fn snapshot_into<K: Keep>(
     tpm_state_text::snapshot_into(machine.keep(), layer, buffer)
 }
 
-/// Turns a new machine of zeros into the machine of a state text, without moving it, and returns
-/// the completing layer; or returns the first fault of the text. On error, the machine is
-/// unspecified.
+/// Restores the machine of a state text into a machine just manufactured with all-zero random
+/// bytes, without moving it. Returns the completing layer, or the first fault of the text. On
+/// error, the machine is unspecified.
 #[tactic(auto, using(crate::proofs::Restoring::new_again, crate::proofs::Restoring::has_follows))]
 pub fn restore_new<K: Keep>(
     machine: &mut Machine<K>,
@@ -58,8 +58,8 @@ pub fn restore_new<K: Keep>(
     fill(machine, text)
 }
 
-/// Turns a new machine of zeros into the machine of a state text. This contract does not mention
-/// the device that wrote the text.
+/// Restores the machine of a state text into a new machine. The contract does not mention the
+/// device that wrote the text.
 fn fill<K: Keep>(machine: &mut Machine<K>, text: &[u8]) -> Result<Option<Layer>, RestoreFault>
     requires { state_of K.record_of machine.old ≡ manufactured (replicate 256 0) }
     ensures { RestoresNew K.can_refuse (state_of_text text.now) (state_of K.record_of machine.new)
@@ -68,8 +68,7 @@ fn fill<K: Keep>(machine: &mut Machine<K>, text: &[u8]) -> Result<Option<Layer>,
     tpm_state_text::restore_new(machine.keep_mut(), text)
 }
 
-/// Turns a new machine of zeros into the machine of a state text, as [`restore_new`] does, but only
-/// of a text of the current version.
+/// Restores a machine like [`restore_new`], but accepts only a text of the current version.
 pub fn resume_new<K: Keep>(
     machine: &mut Machine<K>,
     text: &[u8],
@@ -102,7 +101,7 @@ pub fn restored<K: Keep>(
     made(alloc, text)
 }
 
-/// Returns the machine of a state text. This contract does not mention the device that wrote the
+/// Returns the machine of a state text. The contract does not mention the device that wrote the
 /// text.
 #[tactic(auto, using(tpm_state_text::proofs::RestoringLaws::restored_again))]
 fn made<K: Keep>(alloc: Global, text: &[u8]) -> Result<(Machine<K>, Option<Layer>), RestoreFault>
@@ -115,8 +114,8 @@ fn made<K: Keep>(alloc: Global, text: &[u8]) -> Result<(Machine<K>, Option<Layer
     Ok((Machine::from_keep(keep), layer))
 }
 
-/// Replaces a machine by that of a state text, and returns the completing layer. If the text is
-/// refused, the machine is unchanged.
+/// Replaces a machine by the machine of a state text, and returns the completing layer. If the text
+/// is refused, the machine is unchanged.
 #[tactic(auto, using(crate::proofs::Restoring::into_again, crate::proofs::Restoring::has_follows))]
 pub fn restore_into<K: Keep>(
     machine: &mut Machine<K>,
@@ -138,7 +137,7 @@ pub fn restore_into<K: Keep>(
     replace(machine, alloc, text)
 }
 
-/// Replaces a machine by that of a state text. This contract does not mention the device that
+/// Replaces a machine by the machine of a state text. The contract does not mention the device that
 /// wrote the text.
 fn replace<K: Keep>(
     machine: &mut Machine<K>,

@@ -12,7 +12,7 @@ use Rattle.tpm_state_text.specs.Places.{optional_after, optional_in, optional_te
 
 -- ---- slots whose values have a property
 
--- what holds for all slots holds for each of them
+-- if the value in each slot has a property, so does each element of the list of slots
 pub each_of_all : {A : Type 0} (Is : A → Type 0) (places : List (Option A)) → AreAll Is places → AllByRecursion (λ value. IfSome value Is) places
 each_of_all Is [] all = tt
 each_of_all Is (value ∷ values) all = (all 0, each_of_all Is values (λ place. all (suc place)))
@@ -20,7 +20,7 @@ each_of_all Is (value ∷ values) all = (all 0, each_of_all Is values (λ place.
 -- ---- texts
 
 module _ {A : Type 0} {text : A → List ℕ} {Is : A → Type 0} {at : List ℕ → Result (A × List ℕ) Malformed} (law : Spelled text Is at) where
-  -- the text after the yes or no
+  -- the text of an optional value, after the byte that says whether there is one
   abbrev after : Option A → List ℕ
   after None = []
   after (Some x) = text x

@@ -27,7 +27,8 @@ unfolding resumed_in
 resumes r old lockout fields started banks time forgiving_time closed_time sessions objects new text behind_started behind_banks behind_time behind_forgiving behind_closed behind_sessions rest is same made written first second third fourth fifth sixth seventh =
     rw (written, made, same, is, first, second, third, fourth, fifth, sixth, seventh) refl
 
--- reading first what a device keeps and then what a power cycle clears reads the whole device
+-- reading first the state that a device keeps without power, and then the state that a power cycle
+-- clears, reads the whole device
 pub device_filled : (can : Bool) (kept : NonVolatile) (middle new : Record) (result : Result (Unit {0}) FillFault) (text behind rest : List ℕ) → kept_in Two text ≡ Ok (kept, behind) → middle ≡ powered_on kept → Fills can (resumed_in (kept_of middle) behind) new result rest → Fills can (device_in text) new result rest
 unfolding device_in
 device_filled can kept middle new result text behind rest is same filled =

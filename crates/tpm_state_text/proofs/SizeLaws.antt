@@ -41,7 +41,7 @@ pub optional_small : {A : Type 0} (text : A → List ℕ) (Is : A → Type 0) (m
 optional_small text Is most each None is = omega arith
 optional_small text Is most each (Some x) is = omega (arith, each x is)
 
--- the text of a list is no longer than the largest size of an element times their number
+-- the text of a list is no longer than the largest size of an element times the number of elements
 pub each_small : {A : Type 0} (text : A → List ℕ) (Is : A → Type 0) (most : ℕ) → ((x : A) → Is x → length (text x) ≤ most) → (xs : List A) → AllByRecursion Is xs → length (flat_map text xs) ≤ most * length xs
 each_small text Is most each [] all = omega arith
 each_small text Is most each (x ∷ xs) all =
@@ -94,7 +94,7 @@ banks_small b is = simp length-append (omega (arith, is.sha1.0, is.sha256.0, ban
 
 -- ---- the layer
 
--- the numbers of the contexts of sessions
+-- the context numbers of sessions take at most eight bytes each
 pub contexts_small : (sessions : List ℕ) → All (λ context. context < 2 ^ 64) sessions → length (flat_map (to_be_bytes w64) sessions) ≤ 8 * length sessions
 contexts_small sessions all =
     let IsContext : ℕ → Type 0 = λ n. n < 2 ^ 64 in

@@ -84,7 +84,7 @@ pub earlier_refused : (state : EarlierState) → IsEarlierState state → curren
 earlier_refused state is =
     ap (λ (framed : Result (StateVersion × List ℕ) StateFault). framed >>= current_by) (earlier_framed state is)
 
--- the state in a body of this version
+-- a state that was decoded from a body of this version is possible, and the framed body encodes it
 found_in : (version : StateVersion) (body : List ℕ) (state : WholeState) → AreBytes body → state_in_body version body ≡ Ok state → IsWholeState state × Encodes (framed_state version body) state
 unfolding state_in_body state_text earlier_text
 found_in One body state fits e =
@@ -103,7 +103,7 @@ text_found text state fits e =
     let found = found_in a.0.0 a.0.1 state frame.1 (or_fault_ok (state_in_body a.0.0 a.0.1) fault.Body state a.2) in
     (found.0, subst (λ (t : List ℕ). Encodes t state) (sym frame.0) found.1)
 
--- the state in the body of a text of version 2
+-- if only version 2 is accepted, a decoded state comes from a body of version 2
 current_in : (version : StateVersion) (body : List ℕ) (state : WholeState) → current_by (version, body) ≡ Ok state → (version ≡ Two) × (state_of_body body ≡ Ok state)
 current_in One body state e = absurd cc
 current_in Two body state e = (refl, or_fault_ok (state_of_body body) fault.Body state e)

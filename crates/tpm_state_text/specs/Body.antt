@@ -1,6 +1,6 @@
--- The body of a state text: the body of the device's image, followed by what a power cycle would
--- clear (TPM 2.0 Library, Part 1, section 12.2.2, _TPM_Init, and docs/table/README.md, "Events"),
--- and by what the completing layer remembers, if the device has the layer.
+-- The body of a state text: the body of the device's image, followed by the state that a power
+-- cycle would clear (TPM 2.0 Library, Part 1, section 12.2.2, _TPM_Init, and docs/table/README.md,
+-- "Events"), and by the state of the completing layer, if there is one.
 use Rattle.std.specs.Prelude.{ℕ, nat_lt, ◌^◌, Bool, List, ◌++◌, IfSome, Option, Result, Ok}
 use Rattle.std.specs.Int.{w64, to_be_bytes}
 use Rattle.tpm_bytes.specs.Reading.{◌>>=◌}
@@ -19,7 +19,7 @@ use Rattle.tpm_state_text.specs.Objects.{transients_in, transients_text}
 use Rattle.tpm_state_text.specs.Places.{optional_in, optional_text}
 use Rattle.tpm_state_text.specs.Sessions.{sessions_in, sessions_text}
 
--- the whole state of a device: its record, and what the completing layer remembers, if it has one
+-- the whole state of a device: its record, and the state of the completing layer, if it has one
 pub record WholeState : Type 0 where
   pub device : Record
   pub layer : Option Layer
@@ -38,8 +38,8 @@ is_lockout_time time = nat_lt time (milliseconds (2 ^ 32))
 unfoldable pub lockout_time_in : List ℕ → Result (ℕ × List ℕ) Malformed
 lockout_time_in text = passing is_lockout_time (number_in w64) text
 
--- the text of what a power cycle clears in a device: whether it is started; the banks; Time; both
--- lockout timers; the sessions; and the transient objects
+-- the text of the state that a power cycle clears: whether the device is started; the banks; Time;
+-- both lockout timers; the sessions; and the transient objects
 unfoldable pub volatile_text : Record → List ℕ
 volatile_text r =
     yes_no_text r.fixed.started ++ banks_text r.fixed.banks
@@ -48,8 +48,8 @@ volatile_text r =
     ++ to_be_bytes w64 r.fixed.lockout.closed_time
     ++ sessions_text r.sessions ++ transients_text r.objects
 
--- reads the other parts of a device that keeps this state without power, and returns the whole
--- device
+-- reads the state that a power cycle clears, and returns the whole device; `kept` is the rest of
+-- the device's state
 unfoldable pub resumed_in : NonVolatile → List ℕ → Result (Record × List ℕ) Malformed
 resumed_in kept text = do
   started ← yes_no_in text
@@ -87,7 +87,7 @@ resumed_in kept text = do
 
 -- ---- the device
 
--- the text of a device: the body of its image, followed by what a power cycle clears
+-- the text of a device: the body of its image, followed by the state that a power cycle clears
 unfoldable pub device_text : Record → List ℕ
 device_text r = image_body_text Two (kept_of r) ++ volatile_text r
 
@@ -98,7 +98,7 @@ device_in text = do
 
 -- ---- the body
 
--- the text of a body: that of the device, followed by that of the layer, if there is one
+-- the text of a body: the text of the device, followed by the text of the layer, if there is one
 unfoldable pub body_text : WholeState → List ℕ
 body_text state = device_text state.device ++ optional_text layer_text state.layer
 
@@ -108,6 +108,6 @@ body_in text = do
   layer ← optional_in layer_in device.1
   Ok (record { device = device.0; layer = layer.0 }, layer.1)
 
--- the state in a body, which must take up all of the bytes
+-- the state in a body, if the bytes contain nothing else
 unfoldable pub state_of_body : List ℕ → Result WholeState Malformed
 state_of_body text = filling body_in text

@@ -1,8 +1,8 @@
 -- Version 1 of a state text, which can be read but is no longer written. In this version the
 -- completing layer also remembers objects, since a context of an object did not contain the object:
--- an object with a context that was flushed waited in its slot, where TPM2_ContextLoad found it.
--- The contexts of version 2 contain the whole object, so that no object waits. Reading version 1
--- removes the objects that wait.
+-- if an object had a context, it waited in its slot after it was flushed, and TPM2_ContextLoad
+-- found it there. The contexts of version 2 contain the whole object, so no object waits. Reading
+-- version 1 removes the objects that wait.
 use Rattle.std.specs.Prelude.{◌≡◌, ℕ, ◌<◌, ◌^◌, ◌==◌, List, ◌++◌, get_or, length, if◌then◌else◌, IfSome, Option, Some, None, option_map, Result, Ok}
 use Rattle.std.specs.Int.{w64, to_be_bytes}
 use Rattle.std.specs.List.{All, flat_map, fold}
@@ -65,7 +65,7 @@ earlier_layer_in text = do
 
 -- ---- the body
 
--- the whole state of a device as version 1 has it
+-- the whole state of a device in version 1
 pub record EarlierState : Type 0 where
   pub device : Record
   pub layer : Option EarlierLayer
@@ -75,7 +75,7 @@ pub record IsEarlierState (state : EarlierState) : Type 0 where
   pub device : IsRecord state.device
   pub layer : IfSome state.layer IsEarlierLayer
 
--- the text of a body: that of the device, followed by that of the layer, if there is one
+-- the text of a body: the text of the device, followed by the text of the layer, if there is one
 unfoldable pub earlier_body_text : EarlierState → List ℕ
 earlier_body_text state =
     device_text state.device ++ optional_text earlier_layer_text state.layer
@@ -86,38 +86,40 @@ earlier_body_in text = do
   layer ← optional_in earlier_layer_in device.1
   Ok (record { device = device.0; layer = layer.0 }, layer.1)
 
--- the state in a body, which must take up all of the bytes
+-- the state in a body, if the bytes contain nothing else
 unfoldable pub earlier_state_of_body : List ℕ → Result EarlierState Malformed
 earlier_state_of_body text = filling earlier_body_in text
 
 -- ---- the state that is read
 
--- what is remembered of an object without a context
+-- what the layer remembers about an object without a context
 abbrev pub not_held : Held
 not_held = record { context = 0; waits = 0 }
 
--- the slots without the object in one of them, if it waits
+-- the slots without the object in slot `place`, if it was flushed but stayed there
 unfoldable pub without_one : List Held → List (Option Object) → (place : ℕ) → List (Option Object)
 without_one held objects place =
     if (get_or held place not_held).waits == 0 then objects
     else without_object objects (object_handle place)
 
--- the slots without the objects that wait
+-- the slots without the flushed objects that stayed in them
 unfoldable pub without_waiting : List Held → List (Option Object) → List (Option Object)
 without_waiting held objects = fold (without_one held) objects (numbers_below object_limit)
 
--- the device without the objects that wait; without a layer no object waits
+-- the device without the flushed objects that stayed in their slots; without a layer, there are
+-- none
 abbrev pub device_of : Record → Option EarlierLayer → Record
 device_of device (Some layer) =
     record device { objects = without_waiting layer.objects device.objects }
 device_of device None = device
 
--- what stays of the layer: its start, its count and the contexts of sessions
+-- the parts of the layer that version 2 also contains: its start, its count and the contexts of
+-- sessions
 abbrev pub layer_of : EarlierLayer → Layer
 layer_of layer =
     record { start = layer.start; count = layer.count; sessions = layer.sessions }
 
--- the state that is read from version 1
+-- the state to which a text of version 1 decodes
 abbrev pub current : EarlierState → WholeState
 current state = record {
   device = device_of state.device state.layer;

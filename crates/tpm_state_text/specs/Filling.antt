@@ -16,13 +16,13 @@ use Rattle.tpm_state_text.specs.declared.layer.Layer.{Layer}
 abbrev pub state_of : Record → Option Layer → WholeState
 state_of device layer = record { device = device; layer = layer }
 
--- the slots with a value stored in one of them; unchanged if there is no value
+-- the slots after an optional value is stored in one of them; unchanged if there is no value
 abbrev pub with_value : {X : Type 0} → List (Option X) → ℕ → Option X → List (Option X)
 with_value places place None = places
 with_value places place (Some x) = slice_set places place (Some x)
 
--- One slot was filled from a text, or stayed free if the text encodes no value; or the text is
--- malformed; or an allocation failed, in which case the text may be anything.
+-- One slot was filled from a text, or stayed free if the text encodes no value. Or the text is
+-- malformed. Or an allocation failed, in which case the text may be anything.
 abbrev pub FillsPlace : {X : Type 0}
     → Bool → Result (Option X × List ℕ) Malformed → (old : List (Option X)) → (place : ℕ)
     → Result (Unit {0}) FillFault → (new : List (Option X)) → List ℕ → Type 0
@@ -31,7 +31,7 @@ FillsPlace {X} can read old place (Ok done) new rest =
 FillsPlace can read old place (Err unfilled.Malformed) new rest = read ≡ Err malformed
 FillsPlace can read old place (Err unfilled.NoMemory) new rest = can ≡ true
 
--- A device was read from a body, and the result is its layer; or the body is malformed; or an
+-- A device was read from a body, and the result is its layer. Or the body is malformed. Or an
 -- allocation failed, in which case the body may be anything.
 abbrev pub FillsState : Bool → Result WholeState Malformed → Record
     → Result (Option Layer) FillFault → Type 0
@@ -39,8 +39,8 @@ FillsState can read device (Ok layer) = read ≡ Ok (state_of device layer)
 FillsState can read device (Err unfilled.Malformed) = read ≡ Err malformed
 FillsState can read device (Err unfilled.NoMemory) = can ≡ true
 
--- A new device was set to the state of a text, which is `read`, and the result is its layer; or the
--- result is the first fault of the text; or an allocation failed, in which case the text may be
+-- A new device was set to the state of a text, which is `read`, and the result is its layer. Or the
+-- result is the first fault of the text. Or an allocation failed, in which case the text may be
 -- anything.
 abbrev pub RestoresNew : Bool → (read : Result WholeState StateFault) → Record
     → Result (Option Layer) RestoreFault → Type 0
@@ -48,8 +48,8 @@ RestoresNew can read device (Ok layer) = read ≡ Ok (state_of device layer)
 RestoresNew can read device (Err (unrestored.Text fault)) = read ≡ Err fault
 RestoresNew can read device (Err unrestored.NoMemory) = can ≡ true
 
--- A device was created with the state of a text, and the result also contains its layer; or the
--- result is the first fault of the text; or an allocation failed, in which case the text may be
+-- A device was created with the state of a text, and the result also contains its layer. Or the
+-- result is the first fault of the text. Or an allocation failed, in which case the text may be
 -- anything.
 abbrev pub Restores : {K : Type 0} → (K → Record) → Bool → List ℕ
     → Result (K × Option Layer) RestoreFault → Type 0

@@ -1,4 +1,4 @@
--- The frame of a state text: like that of an image, but with its own magic word, versions and
+-- The frame of a state text: like the frame of an image, but with its own magic word, versions and
 -- faults. The format is this device's own (docs/table/state_text.md).
 use Rattle.std.specs.Prelude.{ℕ, List}
 use Rattle.tpm_image_text.specs.Frame.{Format, framed_in}

@@ -1,5 +1,5 @@
--- What the completing layer remembers, if a device has such a layer: the contexts that it made. TPM
--- 2.0 Library, Part 1, section 30 (context management). The same record is `Completion` in
+-- The state of the completing layer, if a device has the layer: the contexts that it made. TPM 2.0
+-- Library, Part 1, section 30 (context management). The same record is `Completion` in
 -- tpm_completion.
 use Rattle.std.specs.Prelude.{◌≡◌, ℕ, ◌<◌, ◌^◌, List, ◌++◌, length, Result, Ok}
 use Rattle.std.specs.Int.{w64, to_be_bytes}

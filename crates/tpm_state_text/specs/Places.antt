@@ -1,5 +1,5 @@
 -- Fields that an image does not have: numbers that stand for values, optional values, and places
--- (slots) that are free or taken. A field that is truncated, or contains a value that is not
+-- (slots) that are free or occupied. A field that is truncated, or contains a value that is not
 -- allowed, is malformed.
 use Rattle.std.specs.Prelude.{ℕ, Bool, true, false, List, ◌++◌, ok_or, Option, Some, None, Result, Ok}
 use Rattle.std.specs.Int.{Width}
@@ -19,12 +19,12 @@ named_in width named text = do
 
 -- ---- an optional value
 
--- the text of an optional value: a no, or a yes followed by the value's own text
+-- the text of an optional value: a byte that says whether there is one, and the value's own text
 abbrev pub optional_text : {X : Type 0} → (X → List ℕ) → Option X → List ℕ
 optional_text text_of None = yes_no_text false
 optional_text text_of (Some x) = yes_no_text true ++ text_of x
 
--- reads the rest of an optional value, after its yes or no
+-- reads the rest of an optional value, after the byte that says whether there is one
 abbrev pub optional_after : {X : Type 0}
     → (List ℕ → Result (X × List ℕ) Malformed)
     → (is_there : Bool) → List ℕ → Result (Option X × List ℕ) Malformed
@@ -42,8 +42,8 @@ optional_in at text = do
 
 -- ---- slots
 
--- the text of the slots, from the first to the last: for each slot, whether it is taken, followed
--- by its value if it is
+-- the text of the slots, from the first to the last: for each slot, whether it is occupied,
+-- followed by its value if it is
 abbrev pub places_text : {X : Type 0} → (X → List ℕ) → List (Option X) → List ℕ
 places_text text_of places = flat_map (optional_text text_of) places
 

@@ -57,8 +57,8 @@ binding_in text = do
 
 -- ---- sessions
 
--- the text of a session: its type, its hash and its symmetric definition; nonceTPM and the key;
--- what the session is bound to, if anything; and its policy
+-- the text of a session: its type, its hash and its symmetric definition; nonceTPM and the key; its
+-- binding, if it has one; and its policy
 unfoldable pub session_text : Session → List ℕ
 session_text s =
     to_be_bytes w8 (type_number s.kind) ++ to_be_bytes w16 (hash_number s.hash)

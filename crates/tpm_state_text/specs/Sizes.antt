@@ -1,10 +1,11 @@
--- The largest sizes of the parts of a state text, in bytes, by the limits of the device.
+-- The largest sizes of the parts of a state text, in bytes, which follow from the limits of the
+-- device.
 use Rattle.std.specs.Prelude.{ℕ, ◌+◌, ◌*◌}
 use Rattle.tpm_image_text.specs.Sizes.{body_size, object_fields_size}
 use Rattle.tpm_types.specs.Limits.{object_limit, session_limit}
 
--- the largest sizes of a policy, of a session with its policy, and of all sessions, each preceded
--- by its yes or no
+-- the largest sizes of a policy, of a session with its policy, and of all sessions; one byte for
+-- each slot says whether there is a session
 abbrev pub policy_size : ℕ
 policy_size = 87
 
@@ -14,7 +15,7 @@ session_size = 149 + policy_size
 abbrev pub sessions_size : ℕ
 sessions_size = (1 + session_size) * session_limit
 
--- the largest size of all transient objects, each preceded by its yes or no
+-- the largest size of all transient objects; one byte for each slot says whether there is an object
 abbrev pub transients_size : ℕ
 transients_size = (1 + object_fields_size) * object_limit
 
@@ -22,11 +23,11 @@ transients_size = (1 + object_fields_size) * object_limit
 abbrev pub banks_size : ℕ
 banks_size = 24 * 20 + 24 * 32 + 8
 
--- the largest size of what a power cycle clears
+-- the largest size of the state that a power cycle clears
 abbrev pub volatile_size : ℕ
 volatile_size = 25 + banks_size + sessions_size + transients_size
 
--- the size of a layer, and of a layer in version 1
+-- the size of a layer; below, of a layer in version 1
 abbrev pub layer_size : ℕ
 layer_size = 16 + session_limit * 8
 

@@ -23,7 +23,8 @@ state_text state = framed_state Two (body_text state)
 unfoldable pub earlier_text : EarlierState → List ℕ
 earlier_text state = framed_state One (earlier_body_text state)
 
--- the state in a body of this version; of version 1 without the objects that wait
+-- the state in a body of this version; in version 1, without flushed objects that stayed in their
+-- slots
 unfoldable pub state_in_body : StateVersion → List ℕ → Result WholeState Malformed
 state_in_body One body = do
   state ← earlier_state_of_body body
@@ -37,17 +38,17 @@ state_of_text text = do
   framed ← within_frame state_format text
   or_fault (state_in_body framed.0 framed.1) fault.Body
 
--- the same for texts of version 2 only; Earlier for a text of version 1 with a correct frame. A
--- journal begins with such a text: the commands after it were executed with the layer of its
--- version.
+-- the state that a text of version 2 encodes, or the first fault of the text; for version 1 with a
+-- correct frame, the fault Earlier. A journal's head contains version 2, because the commands after
+-- it were executed with the layer of that version.
 abbrev pub current_state_of_text : List ℕ → Result WholeState StateFault
 current_state_of_text text = do
   framed ← within_frame state_format text
   is_current ← refused_if (is_earlier framed.0) fault.Earlier
   or_fault (state_of_body framed.1) fault.Body
 
--- A text encodes this state: it is the state text of the state; or it is a text in version 1, and
--- the state is what is read from it.
+-- A text encodes this state: it is the state text of the state; or it is a text in version 1 that
+-- decodes to this state.
 abbrev pub Encodes : List ℕ → WholeState → Type 0
 Encodes text state =
     (text ≡ state_text state)

@@ -22,7 +22,7 @@ use tpm_record::Keep;
 use tpm_record::objects::Objects;
 use tpm_types::{Handle, OBJECT_LIMIT};
 
-/// What the completing layer remembers of a transient object: the number of its context, and the
+/// What the completing layer remembers about a transient object: the number of its context, and the
 /// number of its flush. Each number is 0 if there was no context or no flush.
 #[derive(Clone, Copy, PartialEq, Eq)]
 pub struct Held {
@@ -30,14 +30,14 @@ pub struct Held {
     pub waits: u64,
 }
 
-/// What the completing layer remembers in version 1.
+/// The state of the completing layer in version 1.
 #[derive(Clone, Copy, PartialEq, Eq)]
 pub struct EarlierLayer {
-    /// The number of the layer's start.
+    /// The layer's start number.
     pub start: u64,
     /// The number of contexts and flushes that the layer counted.
     pub count: u64,
-    /// What the layer remembers of each transient object, by slot.
+    /// What the layer remembers about each transient object, by slot.
     pub objects: [Held; 8],
     /// The number of the context in which each session was saved, by slot; 0 if the session is
     /// loaded.
@@ -89,7 +89,7 @@ fn read_layer(text: &mut Cursor) -> Result<EarlierLayer, Malformed>
     })
 }
 
-/// Reads what the layer remembers, if the device has the layer.
+/// Reads the state of the layer, if the device has the layer.
 fn read_optional_layer(text: &mut Cursor) -> Result<Option<EarlierLayer>, Malformed>
     ensures { Reads (λ layer. layer) (optional_in earlier_layer_in text.old) text.old
         result text.new }
@@ -104,7 +104,7 @@ fn read_optional_layer(text: &mut Cursor) -> Result<Option<EarlierLayer>, Malfor
     Ok(layer)
 }
 
-/// Removes the object in a slot, if it waits.
+/// Removes the object in a slot, if it was flushed but stayed there.
 #[tactic(auto, unfolding(crate::specs::Earlier::without_one))]
 fn remove_one<O: Slots<Object, OBJECT_LIMIT>>(
     objects: &mut Objects<O>,
@@ -121,7 +121,7 @@ fn remove_one<O: Slots<Object, OBJECT_LIMIT>>(
     }
 }
 
-/// Removes the objects that wait.
+/// Removes the flushed objects that stayed in their slots.
 #[tactic(auto, unfolding(crate::specs::Earlier::without_waiting), using(crate::proofs::EarlierLaws::without_more))]
 fn remove_waiting<O: Slots<Object, OBJECT_LIMIT>>(objects: &mut Objects<O>, held: &[Held; 8])
     ensures { objects_of O.places objects.new
@@ -132,7 +132,7 @@ fn remove_waiting<O: Slots<Object, OBJECT_LIMIT>>(objects: &mut Objects<O>, held
     }
 }
 
-/// What stays of a layer of version 1.
+/// The parts of a layer of version 1 that version 2 also contains.
 fn layer_of(layer: &EarlierLayer) -> Layer
     ensures { result ≡ layer_of layer.now }
 {
@@ -144,8 +144,8 @@ fn layer_of(layer: &EarlierLayer) -> Layer
     }
 }
 
-/// Reads a whole body of version 1 into a new `Keep`, without the objects that wait, and returns
-/// its layer.
+/// Reads a whole body of version 1 into a new `Keep`, without flushed objects that stayed in their
+/// slots, and returns its layer.
 #[tactic(auto, unfolding(crate::specs::State::state_in_body, crate::specs::Earlier::earlier_state_of_body, crate::specs::Earlier::earlier_body_in))]
 pub fn read_earlier_body<K: Keep>(keep: &mut K, body: &[u8]) -> Result<Option<Layer>, FillFault>
     requires { K.record_of keep.old ≡ manufactured (replicate 256 0) }

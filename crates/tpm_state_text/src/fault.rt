@@ -1,4 +1,4 @@
-//! Why bytes are not a state text.
+//! The reasons why bytes are not a state text.
 
 /// The reasons why bytes are not a state text, in the order of the checks.
 #[derive(Clone, Copy, PartialEq, Eq)]
@@ -15,15 +15,15 @@ pub enum StateFault {
     Digest,
     /// The bytes between the head and the digest do not encode a state.
     Body,
-    /// The version of the text is 1, where only version 2 is read: in the head of a journal. This
-    /// check comes after that of the digest.
+    /// The version of the text is 1, but the head of a journal accepts only version 2. The digest
+    /// is checked before this.
     Earlier,
 }
 
 /// The reasons why a device was not restored from a state text.
 #[derive(Clone, Copy, PartialEq, Eq)]
 pub enum RestoreFault {
-    /// The bytes are not a state text, for this reason, the first one found.
+    /// The bytes are not a state text. This is the first fault that was found.
     Text(StateFault),
     /// An allocation failed.
     NoMemory,

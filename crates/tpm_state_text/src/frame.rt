@@ -12,7 +12,7 @@ use crate::version::StateVersion;
 use tpm_bytes::Sink;
 use tpm_mac::{HashAlg, digest_parts};
 
-/// The magic bytes at the front of a state text: TPMS.
+/// The magic bytes at the beginning of a state text: TPMS.
 const MAGIC: [u8; 4] = [0x54, 0x50, 0x4d, 0x53];
 
 /// Sizes of the head and of the digest, in bytes.

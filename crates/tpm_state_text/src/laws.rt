@@ -1,5 +1,5 @@
-//! The laws of state texts. Each function here is a proof only: it has no effect at run time, and
-//! its contract is the law.
+//! The laws of state texts. Each function here states laws in its contract, and does nothing at run
+//! time.
 
 ghost use Rattle.std.specs.Prelude.{◌≡◌, ◌≤◌, ◌<◌, ℕ, List, Ok, Err, length, take};
 ghost use Rattle.tpm_bytes.specs.Reading.{AreBytes};
@@ -14,9 +14,9 @@ ghost use Rattle.tpm_state_text.specs.State.{Encodes, HasBehindHead, current_sta
 ghost use Rattle.tpm_state_text.specs.declared.fault.StateFault.TheVariants as fault;
 
 /// Decoding the state text of a device returns exactly that device, with its completing layer. If
-/// decoding returns a device, which is a possible one, the bytes are the state text of that device;
-/// or they have version 1, and the device is without the objects that wait. Two devices with the
-/// same state text are equal, and no state text exceeds the largest size.
+/// decoding bytes returns a device, this device is possible, and the bytes are its state text. Or
+/// the bytes have version 1, and flushed objects that stayed in their slots were left out. Two
+/// devices with the same state text are equal, and no state text exceeds the largest size.
 #[inline(always)]
 #[tactic(auto, using(crate::proofs::StateLaws::text_told, crate::proofs::StateLaws::one_state, crate::proofs::StateLaws::text_small))]
 pub fn state_laws()
@@ -31,9 +31,9 @@ pub fn state_laws()
         → length (state_text state) ≤ state_text_size }
 {}
 
-/// A text of version 1 is read as its state without the objects that wait, which is a possible
-/// state. Where only version 2 is read, version 1 is refused with Earlier, and the state text of a
-/// device, and nothing else, decodes to this device.
+/// Decoding a text of version 1 returns its state without the flushed objects that stayed in their
+/// slots, which is a possible state. If only version 2 is accepted, version 1 is refused with
+/// Earlier, and only the state text of a device decodes to this device.
 #[inline(always)]
 #[tactic(auto, using(crate::proofs::StateLaws::earlier_told, crate::proofs::StateLaws::earlier_refused, crate::proofs::StateLaws::current_told, crate::proofs::StateLaws::current_found, crate::proofs::EarlierLaws::current_is))]
 pub fn version_laws()
@@ -50,8 +50,8 @@ pub fn version_laws()
         → IsWholeState state × (text ≡ state_text state) }
 {}
 
-/// In the state text of a device, the head is followed by the body of the device's image in
-/// version 2, which also follows the head of the image.
+/// In the state text of a device, the head is directly followed by the body of the device's image
+/// in version 2, as in that image.
 #[inline(always)]
 #[tactic(auto, using(crate::proofs::StateLaws::body_in_state, crate::proofs::StateLaws::body_in_image))]
 pub fn image_in_state_laws()

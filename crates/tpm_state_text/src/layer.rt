@@ -1,4 +1,4 @@
-//! What the completing layer remembers, in a state text.
+//! The state of the completing layer in a state text.
 
 ghost use Rattle.std.specs.Prelude.{◌≡◌, ◌≤◌, ◌+◌, ◌++◌, length, option_copied};
 ghost use Rattle.std.specs.Int.{w64, to_be_bytes};
@@ -15,19 +15,19 @@ use tpm_bytes::Cursor;
 use tpm_image_text::{Malformed, Text, read_bool, read_u64, write_bool, write_u64};
 use tpm_types::SESSION_LIMIT;
 
-/// What the completing layer remembers.
+/// The state of the completing layer.
 #[derive(Clone, Copy, PartialEq, Eq)]
 pub struct Layer {
-    /// The number of the layer's start.
+    /// The layer's start number.
     pub start: u64,
-    /// The sequence of the latest context.
+    /// The sequence number of the latest context.
     pub count: u64,
     /// The number of the context in which each session was saved, by slot; 0 if the session is
     /// loaded.
     pub sessions: [u64; 16],
 }
 
-/// Reads the numbers of the contexts of all sessions.
+/// Reads the context numbers of all sessions.
 #[tactic(auto, using(crate::proofs::Loops::left_laws))]
 pub fn read_sessions(text: &mut Cursor) -> Result<[u64; 16], Malformed>
     ensures { Reads (λ sessions. sessions) (many_at (number_in w64) 16 text.old) text.old
@@ -58,7 +58,7 @@ fn read_layer(text: &mut Cursor) -> Result<Layer, Malformed>
     })
 }
 
-/// Reads what the layer remembers, if the device has the layer.
+/// Reads the state of the layer, if the device has the layer.
 pub fn read_optional_layer(text: &mut Cursor) -> Result<Option<Layer>, Malformed>
     ensures { Reads (λ layer. layer) (optional_in layer_in text.old) text.old result text.new }
 {
@@ -93,7 +93,7 @@ fn write_layer(layer: &Layer, text: &mut Text)
     write_sessions(&layer.sessions, text);
 }
 
-/// Writes what the layer remembers, if the device has the layer.
+/// Writes the state of the layer, if the device has the layer.
 pub fn write_optional_layer(layer: Option<&Layer>, text: &mut Text)
     requires { length text.old + (1 + layer_size) ≤ text_size }
     ensures written { text.new ≡ text.old ++ optional_text layer_text (option_copied layer.entry) }

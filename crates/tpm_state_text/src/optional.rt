@@ -1,4 +1,4 @@
-//! Optional values in a state text: a no, or a yes followed by the value.
+//! Optional values in a state text: a byte that says whether there is a value, and the value.
 
 ghost use Rattle.std.specs.Prelude.{◌≡◌, ◌≤◌, ◌+◌, ◌++◌, length, option_map};
 ghost use Rattle.std.specs.Int.{w32, w64, to_be_bytes};

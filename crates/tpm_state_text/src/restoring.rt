@@ -16,8 +16,7 @@ use std::alloc::Global;
 use tpm_image_text::FillFault;
 use tpm_record::Keep;
 
-/// Reads the body of a text of this version into a new device of zeros, and returns the completing
-/// layer.
+/// Reads the body of a text of this version into a new device. Returns the completing layer.
 #[tactic(auto, unfolding(crate::specs::State::state_in_body))]
 fn read_version<K: Keep>(
     keep: &mut K,
@@ -34,9 +33,9 @@ fn read_version<K: Keep>(
     }
 }
 
-/// Turns a new device of zeros into the device of a state text, without moving it, and returns
-/// the completing layer; or returns the first fault of the text. On error, the device's state is
-/// unspecified.
+/// Restores the device of a state text into a device just manufactured with all-zero random bytes,
+/// without moving it. Returns the completing layer, or the first fault of the text. On error, the
+/// device's state is unspecified.
 pub fn restore_new<K: Keep>(keep: &mut K, text: &[u8]) -> Result<Option<Layer>, RestoreFault>
     requires { K.record_of keep.old ≡ manufactured (replicate 256 0) }
     ensures { RestoresNew K.can_refuse (state_of_text text.now) (K.record_of keep.new) result }
@@ -52,8 +51,7 @@ pub fn restore_new<K: Keep>(keep: &mut K, text: &[u8]) -> Result<Option<Layer>, 
     }
 }
 
-/// Turns a new device of zeros into the device of a state text, as [`restore_new`] does, but only
-/// of a text of version 2.
+/// Restores a device like [`restore_new`], but accepts only a text of version 2.
 pub fn resume_new<K: Keep>(keep: &mut K, text: &[u8]) -> Result<Option<Layer>, RestoreFault>
     requires { K.record_of keep.old ≡ manufactured (replicate 256 0) }
     ensures { RestoresNew K.can_refuse (current_state_of_text text.now) (K.record_of keep.new)
@@ -73,7 +71,7 @@ pub fn resume_new<K: Keep>(keep: &mut K, text: &[u8]) -> Result<Option<Layer>, R
     }
 }
 
-/// Creates the device of a state text. This contract does not mention the device that wrote the
+/// Creates the device of a state text. The contract does not mention the device that wrote the
 /// text.
 fn made<K: Keep>(alloc: Global, text: &[u8]) -> Result<(K, Option<Layer>), RestoreFault>
     ensures { Restores K.record_of (K.empty_can_refuse || K.can_refuse) text.now result }
@@ -97,8 +95,8 @@ pub fn restored<K: Keep>(alloc: Global, text: &[u8]) -> Result<(K, Option<Layer>
     made(alloc, text)
 }
 
-/// Replaces a device by that of a state text, and returns the completing layer. If the text is
-/// refused, the device is unchanged. The new device is created next to the old one and then
+/// Replaces a device by the device of a state text, and returns the completing layer. If the text
+/// is refused, the device is unchanged. The new device is created next to the old one and then
 /// moved.
 pub fn restore_into<K: Keep>(
     keep: &mut K,

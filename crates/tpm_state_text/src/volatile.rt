@@ -35,7 +35,8 @@ fn read_lockout_time(text: &mut Cursor) -> Result<u64, Malformed>
     Ok(time)
 }
 
-/// Reads what a power cycle clears, into a device that has no session and no transient object.
+/// Reads the state that a power cycle clears, into a device that has no session and no transient
+/// object.
 #[tactic(auto, unfolding(crate::specs::Body::resumed_in))]
 pub fn read_volatile<K: Keep>(keep: &mut K, text: &mut Cursor) -> Result<(), FillFault>
     requires sessions { (K.record_of keep.old).sessions ≡ no_sessions }
@@ -68,7 +69,7 @@ pub fn read_volatile<K: Keep>(keep: &mut K, text: &mut Cursor) -> Result<(), Fil
     Ok(())
 }
 
-/// Writes what a power cycle clears.
+/// Writes the state that a power cycle clears.
 #[tactic(auto, unfolding(crate::specs::Body::volatile_text))]
 pub fn write_volatile<K: Keep>(keep: &K, text: &mut Text)
     requires { length text.old + volatile_size ≤ text_size }

@@ -1,13 +1,13 @@
--- Steps that act alike with other random bytes.
+-- Results that are the same with other random bytes.
 use Rattle.std.proofs.Common.{◌≡◌, ◌∙◌, ℕ, List, take, Result, Ok, Err, ap, refl, sym}
 use Rattle.tpm_bytes.specs.Reading.{◌>>=◌}
 use Rattle.tpm_step.specs.General.{in_command}
 use Rattle.tpm_types.specs.declared.refused.Refused.{Refused}
 use Rattle.tpm_commands.specs.declared.command_code.CommandCode.{CommandCode}
 
--- Two results are alike. If the first is a success, it says which number of random bytes it
--- draws; if the other random bytes agree on these, the second is that success moved to them. A
--- refusal is the same in both.
+-- Two results `x` and `y`, with two lists of random bytes, are alike. If `x` is a success and both
+-- lists agree on the bytes that it draws, `y` is the same success, changed by `moved`. If `x` is a
+-- refusal, `y` is the same refusal.
 abbrev pub Alike : {A E : Type 0} → (drawn : A → ℕ) → (moved : A → A) → (random other : List ℕ) → (x y : Result A E) → Type 0
 Alike drawn moved random other (Ok a) y = take (drawn a) other ≡ take (drawn a) random → y ≡ Ok (moved a)
 Alike drawn moved random other (Err e) y = y ≡ Err e
@@ -19,7 +19,7 @@ module _ {A B E : Type 0} (random other : List ℕ) where
   alike_after drawn moved (Ok a) f g alike = alike a
   alike_after drawn moved (Err e) f g alike = refl
 
-  -- results remain alike before a last step that draws no further bytes
+  -- results remain alike if a last step follows that draws no further bytes
   pub alike_before : (drawn : A → ℕ) (moved : A → A) (drawn' : B → ℕ) (moved' : B → B) (x y : Result A E) (f g : A → B)
       → ((a : A) → drawn' (f a) ≡ drawn a) → ((a : A) → g (moved a) ≡ moved' (f a))
       → Alike drawn moved random other x y → Alike drawn' moved' random other (x >>= λ a. Ok (f a)) (y >>= λ a. Ok (g a))
@@ -28,7 +28,7 @@ module _ {A B E : Type 0} (random other : List ℕ) where
       ∙ ap Ok (made a)
   alike_before drawn moved drawn' moved' (Err e) y f g as_many made alike = ap (λ (z : Result A E). z >>= λ a. Ok (g a)) alike
 
--- results remain alike if a refusal names its command
+-- results remain alike if the command is added to a refusal
 pub alike_in_command : {A : Type 0} (drawn : A → ℕ) (moved : A → A) (random other : List ℕ) (c : CommandCode) (x y : Result A Refused)
     → Alike drawn moved random other x y → Alike drawn moved random other (in_command c x) (in_command c y)
 alike_in_command drawn moved random other c (Ok a) y alike = λ same. ap (in_command c) (alike same)

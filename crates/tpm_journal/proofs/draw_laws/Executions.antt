@@ -1,4 +1,4 @@
--- A command is executed in the same way with other random bytes, if they agree on those that it
+-- A command is executed in the same way with other random bytes that agree on the bytes that it
 -- draws.
 use Rattle.std.proofs.Common.{◌≡◌, ◌≤◌, ◌-◌, ◌∙◌, ℕ, Bool, false, List, length, take, Result, Ok, Err, refl, sym, ap, subst, arith}
 use Rattle.std.specs.Prelude.{replicate}
@@ -17,7 +17,7 @@ use Rattle.tpm_journal.specs.draw_laws.Bytes.{AgreeOnDrawn, replayed, zeros_behi
 use Rattle.tpm_journal.proofs.draw_laws.Fronts.{front_kept}
 use Rattle.tpm_journal.proofs.draw_laws.Steps.{AcceptedAlike, accepted_alike, drawn_alike, fronts, nonces_alike, where_alike, with_other}
 
--- a modest success is also modest with other random bytes
+-- a success that stays within the limits (`IsModest`) also does so with other random bytes
 modest_alike : (a b : Result Accepted RefusedCommand) (random other : List ℕ) → length other ≡ length random → AcceptedAlike random other a b
     → take (drawn_by_command random a 0) other ≡ take (drawn_by_command random a 0) random
     → (x : Accepted) × (a ≡ Ok x) × IsModest random x → (x : Accepted) × (b ≡ Ok x) × IsModest other x
@@ -64,14 +64,14 @@ drawn_told : (r : Record) (random : List ℕ) (a : Result Accepted RefusedComman
 drawn_told r random (Ok a) = refl
 drawn_told r random (Err e) = refl
 
--- a command draws at most the random bytes that its event has
+-- a command draws at most as many random bytes as its event contains
 drawn_of_those : (random : List ℕ) (a : Result Accepted RefusedCommand) → drawn_by_command random a 0 ≤ length random
 drawn_of_those random (Ok a) = omega arith
 drawn_of_those random (Err e) = omega arith
 
 module _ (r : Record) (buffer : List ℕ) (locality elapsed : ℕ) (random : List ℕ) (x : Stepped)
     (done : Executes false r (Given buffer locality elapsed random) x) where
-  -- the number of bytes drawn, according to the check and according to the step
+  -- the number of bytes drawn, according to the reported check; below, according to the step
   abbrev told : ℕ
   told = drawn_by r (Given buffer locality elapsed random) x.row.check
 

@@ -1,4 +1,4 @@
--- What follows if two lists have the same prefix.
+-- Facts about two lists with the same prefix.
 use Rattle.std.proofs.Common.{◌≡◌, ◌≤◌, ◌+◌, ◌-◌, ◌∙◌, ℕ, zero, suc, List, [], ◌∷◌, ◌++◌, length, take, drop, refl, sym, ap, arith, inl, inr}
 use Rattle.std.proofs.lemmas.Bool.{cases_lt}
 use Rattle.std.proofs.lemmas.List.{drop-take, length-drop, length-take-le, take-append-le}
@@ -22,7 +22,7 @@ module _ {X : Type 0} (n : ℕ) (xs ys : List X) (same : take n ys ≡ take n xs
   pub shorter : (d : ℕ) → d ≤ n → take d ys ≡ take d xs
   shorter d le = sym (take_twice d n ys le) ∙ ap (λ l. take d l) same ∙ take_twice d n xs le
 
-  -- equal parts of a common prefix are equal
+  -- the lists agree on each part of the common prefix
   pub part : (skipped count : ℕ) → skipped + count ≤ n → take count (drop skipped ys) ≡ take count (drop skipped xs)
   part skipped count le =
       sym (drop-take skipped count ys) ∙ ap (λ l. drop skipped l) (shorter (skipped + count) le) ∙ drop-take skipped count xs
@@ -36,9 +36,8 @@ pub front_kept : {X : Type 0} (n : ℕ) (xs others : List X) → n ≤ length xs
 front_kept n xs others le =
     take-append-le n (take n xs) others (omega (arith, length-take-le n xs le)) ∙ take_twice n n xs (omega arith)
 
--- Two lists of the same length agree on their first `n` elements. From each, the first `d`
--- elements are taken, and then others, until `k` are left. If all these are among the first `n`,
--- the lists agree on the first `d` and on the others.
+-- Two lists of the same length agree on their first `n` elements, and at most `k` elements follow
+-- these. Then they agree on their first `d` elements, and also on the others among the first `n`.
 pub record Behind (n d k : ℕ) (xs ys : List ℕ) : Type 0 where
   pub first : take d ys ≡ take d xs
   pub later : take (n - d) (drop d ys) ≡ take (n - d) (drop d xs)

@@ -1,5 +1,5 @@
--- If a command acts alike with other random bytes, it is accepted alike, takes the same step, and
--- draws the same number of bytes.
+-- If a command's row has the same result with other random bytes, the command also takes the same
+-- step and draws the same number of bytes.
 use Rattle.std.proofs.Common.{◌≡◌, ◌≤◌, ◌+◌, ◌-◌, ◌∙◌, ℕ, zero, suc, Bool, true, false, List, [], ◌∷◌, length, take, drop, Option, Result, Ok, Err, refl, ap, arith}
 use Rattle.std.proofs.lemmas.List.{length-drop}
 use Rattle.std.specs.Prelude.{if◌then◌else◌}
@@ -26,7 +26,7 @@ use Rattle.tpm_journal.proofs.draw_laws.Rows.{row_alike}
 abbrev row_drawn : Accepted → ℕ
 row_drawn a = a.success.answer.drawn
 
--- with other random bytes, only the request differs
+-- an accepted command with other random bytes: only its request differs
 abbrev pub with_other : List ℕ → Accepted → Accepted
 with_other other a = record a { request = record a.request { random = other } }
 
@@ -53,7 +53,7 @@ accepted_alike r buffer locality random other =
 
 -- ---- the nonces of its entries
 
--- at most as many bytes remain as before
+-- new nonces never increase the number of random bytes left
 fewer_left : (r : Record) (es : List Entry) (left : List ℕ) → length (entries_rolled r es left).left ≤ length left
 unfolding entry_rolled
 fewer_left r [] left = omega arith
@@ -91,8 +91,8 @@ answer_alike : (c : Whole) (grants : List (Option Grant)) (a : Written) (effect 
 unfolding answer_to
 answer_alike c grants a effect random other same = rw same refl
 
--- A success draws the same bytes with other random bytes: first those of its row, then those of
--- the nonces.
+-- Facts about a success with other random bytes that agree on all bytes drawn: those of the row,
+-- then those of the nonces.
 module _ (a : Accepted) (random other : List ℕ) (as_long : length other ≡ length random) where
   abbrev drawn : ℕ
   drawn = bytes_drawn random a.success.after a.command.entries (row_drawn a)
@@ -111,7 +111,8 @@ module _ (a : Accepted) (random other : List ℕ) (as_long : length other ≡ le
       rw (answer_alike a.command a.grants (written_of a.success.answer) a.success.after random other (nonces_alike same).after) refl
 
 module _ (r : Record) (random other : List ℕ) (as_long : length other ≡ length random) where
-  -- a step is the same with other random bytes, whether or not an allocation fails
+  -- a step is the same with other random bytes that agree on those drawn, whether or not an
+  -- allocation fails
   pub where_alike : (refused : Bool) (a b : Result Accepted RefusedCommand) → AcceptedAlike random other a b
       → take (drawn_by_command random a 0) other ≡ take (drawn_by_command random a 0) random
       → answer_where refused r other b ≡ answer_where refused r random a
@@ -123,7 +124,7 @@ module _ (r : Record) (random other : List ℕ) (as_long : length other ≡ leng
   where_alike false (Err e) b alike same = ap (answer_where false r other) alike
   where_alike true (Err e) b alike same = ap (answer_where true r other) alike
 
-  -- with other random bytes, the number of bytes drawn is the same
+  -- a command draws the same number of bytes with other random bytes that agree on those drawn
   pub drawn_alike : (check : ℕ) (a b : Result Accepted RefusedCommand) → AcceptedAlike random other a b
       → take (drawn_by_command random a 0) other ≡ take (drawn_by_command random a 0) random
       → drawn_by_command other b check ≡ drawn_by_command random a check

@@ -1,4 +1,4 @@
--- Entries that are executed again one after another, and retold.
+-- Entries that are executed again and converted, one after another.
 use Rattle.std.proofs.Common.{◌≡◌, ◌≢◌, ℕ, ◌+◌, ◌≤◌, Bool, List, [], ◌∷◌, ◌++◌, length, take, drop, Option, Some, None, refl, ap, sym, subst, ◌∙◌, append_assoc, append-nil, arith, length-append}
 use Rattle.std.specs.Prelude.{codes, flat_map}
 use Rattle.std.specs.Io.KnownBytes.{Appends}
@@ -46,7 +46,7 @@ long_enough can before old left size one after Holds p =
 
 -- ---- what was retold so far, and one more entry
 
--- A performance was retold.
+-- The output for an executed entry was written.
 abbrev pub Tells : Telling → (size : ℕ) (left : List ℕ) → Performance → (at holds : Option (List ℕ)) → Type 0
 Tells form size left one at holds = Appends at holds (retold_by form (comment_of one) one.seen.step.response (take size left))
 

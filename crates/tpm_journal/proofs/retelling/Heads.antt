@@ -1,4 +1,4 @@
--- The head of a journal is retold first, and then its entries.
+-- The conversion of a journal begins with its head, and continues with its entries.
 use Rattle.std.proofs.Common.{◌≡◌, ℕ, Bool, false, List, Option, length, take, drop, ap, subst, ◌∙◌}
 use Rattle.std.specs.Io.KnownBytes.{Appends}
 use Rattle.std.proofs.KnownBytes.{Appends-trans}
@@ -11,7 +11,7 @@ use Rattle.tpm_journal.specs.declared.retelling.Telling.{Telling}
 use Rattle.tpm_journal.proofs.ReadHeads.{split_head}
 use Rattle.tpm_record.specs.Record.{Record}
 
--- the entries in the rest of a text are retold
+-- the entries after the head are converted, if no allocation can fail
 abbrev pub from_head : (form : Telling) (can : Bool) (start : Start) (rest left : List ℕ) (followed : Followed) (after : Journal) (new : Record)
     (held holds : Option (List ℕ)) → can ≡ false → left ≡ rest → RetellsEntries form can start.journal start.device left held holds followed after new
     → RetellsEntries form false start.journal start.device rest held holds followed after new

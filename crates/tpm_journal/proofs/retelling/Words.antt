@@ -1,5 +1,4 @@
--- The answer to an entry can be put in words, and the lines that retell it are written piece by
--- piece.
+-- The answer to an entry can be put in words, and its output is written piece by piece.
 use Rattle.std.proofs.Common.{ℕ, Bool, true, false, List, ◌++◌, Option}
 use Rattle.std.specs.Io.KnownBytes.{Appends}
 use Rattle.std.proofs.KnownBytes.{Appends-trans}

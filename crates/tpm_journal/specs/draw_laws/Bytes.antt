@@ -1,4 +1,4 @@
--- An event's effect does not change if other bytes follow the random bytes that it draws.
+-- An event's effect depends only on the random bytes that it draws, and not on those after them.
 use Rattle.std.specs.Prelude.{◌≡◌, ◌-◌, ℕ, List, ◌++◌, length, replicate, take, Result, Ok, Err}
 use Rattle.tpm_record.specs.rows.Request.{Request}
 use Rattle.tpm_record.specs.rows.Rows.{Success}
@@ -11,14 +11,15 @@ use Rattle.tpm_types.specs.declared.refused.Refused.{Refused}
 abbrev pub with_random : Request → List ℕ → Request
 with_random q other = record q { random = other }
 
--- A row acts in the same way with other random bytes: its success is the same if these agree on all
--- bytes that the row draws. A refusal draws none.
+-- A row has the same result with other random bytes: the same success, if these agree on all bytes
+-- that the row draws, and always the same refusal, since it draws none.
 abbrev pub ActsAlike : (random other : List ℕ) → (acts acts_other : Result Success Refused) → Type 0
 ActsAlike random other (Ok s) acts_other =
     take s.answer.drawn other ≡ take s.answer.drawn random → acts_other ≡ Ok s
 ActsAlike random other (Err e) acts_other = acts_other ≡ Err e
 
--- The list of other random bytes is as long, and agrees on all bytes that the command draws.
+-- The two lists of random bytes have the same length, and agree on all bytes that the command
+-- draws.
 abbrev pub AgreeOnDrawn : Record → (buffer : List ℕ) → (locality elapsed : ℕ)
     → (random other : List ℕ) → Type 0
 AgreeOnDrawn r buffer locality elapsed random other =
@@ -29,8 +30,8 @@ AgreeOnDrawn r buffer locality elapsed random other =
 abbrev pub zeros_behind : (drawn : ℕ) → (random : List ℕ) → List ℕ
 zeros_behind drawn random = take drawn random ++ replicate (256 - drawn) 0
 
--- the event with only the random bytes that it drew, according to the reported check, followed by
--- zeros; a power cycle and a placed object have no random bytes
+-- the event with only the random bytes that it drew, followed by zeros; the reported check
+-- determines how many it drew. A power cycle and a placed object have no random bytes.
 abbrev pub replayed : Record → PlainEvent → (check : ℕ) → PlainEvent
 replayed r (Given buffer locality elapsed random) check =
     let drawn = drawn_by r (Given buffer locality elapsed random) check in

@@ -15,13 +15,13 @@ use tpm_hex::encode;
 use tpm_journal_text::Entry;
 use tpm_step::Outcome;
 
-/// The size of the first line of an entry, which contains its sums.
+/// The size of the first line of an entry, which contains its checksums.
 const MARK_LINE_SIZE: usize = 72;
 
 /// The largest number of hex digits in a response.
 const DIGITS_LIMIT: usize = 8_192;
 
-/// Writes the lines for a head. Only a script contains it.
+/// Writes the output for a head: the head itself in a script, nothing among answers.
 pub fn put_head<W: Write>(writer: &mut Tap<W>, form: Telling, head: &[u8]) -> Result<(), Failed>
     ensures written { OnOk result (Appends (W.contents (device_of writer.old))
         (W.contents (device_of writer.new)) (retold_head form head.now)) }

@@ -4,7 +4,7 @@ use Rattle.tpm_machine.specs.State.{state_of}
 use Rattle.tpm_journal.specs.Retelling.{Retells}
 use Rattle.tpm_journal.proofs.retelling.retell_entries.Given as goal
 
--- The entries before this one were executed and retold.
+-- All entries before the current position were executed and converted.
 abbrev pub invariant-loop-entry : goal.invariant-loop-entry
 invariant-loop-entry g l =
     let record_of = g.K.Keep.record_of in

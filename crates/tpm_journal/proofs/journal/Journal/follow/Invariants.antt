@@ -3,7 +3,7 @@ use Rattle.tpm_machine.specs.State.{state_of}
 use Rattle.tpm_journal.specs.Replay.{Repeats}
 use Rattle.tpm_journal.proofs.journal.Journal.follow.Given as goal
 
--- The entries before this one were executed.
+-- All entries before the current position were executed.
 abbrev pub invariant-loop-size : goal.invariant-loop-size
 invariant-loop-size g l =
     let record_of = g.K.Keep.record_of in
