@@ -33,6 +33,7 @@ impl<'a> Model for Cursor<'a> {
 }
 
 impl<'a> Cursor<'a> {
+    /// A cursor at the start of a text.
     pub fn new(text: &'a [u8]) -> Cursor<'a>
         ensures value { result ≡ text.now }
         ensures bytes { AreBytes text.now }
@@ -47,12 +48,14 @@ impl<'a> Cursor<'a> {
         self.left
     }
 
+    /// The number of bytes that are left.
     pub fn len(&self) -> usize
         ensures { result ≡ length self.now }
     {
         self.left.len()
     }
 
+    /// Whether no bytes are left.
     pub fn is_empty(&self) -> bool
         ensures { result ≡ (length self.now == 0) }
     {
@@ -71,6 +74,7 @@ impl<'a> Cursor<'a> {
         Ok(front)
     }
 
+    /// Reads a byte. Fails if none is left, and then reads nothing.
     pub fn u8(&mut self) -> Result<u8, Short>
         ensures { Reads (λ n. n) (number_at w8 self.old) self.old result self.new }
     {
@@ -78,6 +82,7 @@ impl<'a> Cursor<'a> {
         Ok(u8::from_be_bytes([front[0]]))
     }
 
+    /// Reads a big-endian number of two bytes. Fails if fewer are left, and then reads nothing.
     pub fn u16(&mut self) -> Result<u16, Short>
         ensures { Reads (λ n. n) (number_at w16 self.old) self.old result self.new }
     {
@@ -85,6 +90,7 @@ impl<'a> Cursor<'a> {
         Ok(u16::from_be_bytes([front[0], front[1]]))
     }
 
+    /// Reads a big-endian number of four bytes. Fails if fewer are left, and then reads nothing.
     pub fn u32(&mut self) -> Result<u32, Short>
         ensures { Reads (λ n. n) (number_at w32 self.old) self.old result self.new }
     {
@@ -92,6 +98,7 @@ impl<'a> Cursor<'a> {
         Ok(u32::from_be_bytes([front[0], front[1], front[2], front[3]]))
     }
 
+    /// Reads a big-endian number of eight bytes. Fails if fewer are left, and then reads nothing.
     pub fn u64(&mut self) -> Result<u64, Short>
         ensures { Reads (λ n. n) (number_at w64 self.old) self.old result self.new }
     {

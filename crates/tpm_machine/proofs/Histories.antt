@@ -7,34 +7,16 @@ use Rattle.tpm_step.specs.Execution.{Executes}
 use Rattle.tpm_step.specs.Run.{Runs}
 use Rattle.tpm_step.specs.Step.{Stepped}
 use Rattle.tpm_step.specs.declared.event.Outcome.{Outcome}
-use Rattle.tpm_step.specs.DeviceAuthValues.{HasAuthValues}
-use Rattle.tpm_step.specs.DeviceCounters.{HasCounters}
-use Rattle.tpm_step.specs.DevicePcrs.{HasPcrs}
-use Rattle.tpm_step.specs.DeviceSessions.{HasSessions}
-use Rattle.tpm_step.specs.Follows.{After, Follows, RunFollows}
-use Rattle.tpm_step.specs.Grounds.{AllHaveGrounds}
+use Rattle.tpm_step.specs.Follows.{After, Follows, FollowsOn, RunFollows}
 use Rattle.tpm_step.specs.History.{History}
-use Rattle.tpm_step.specs.PolicyUses.{AllMeetPolicies}
-use Rattle.tpm_step.specs.Replays.{ReplaysRepeat}
 use Rattle.tpm_step.proofs.Following.{execution_follows, manufactured_follows, run_follows}
 
 pub new_follows : (r : Record) (random : List ℕ) → r ≡ manufactured random → Follows r []
 new_follows r random is = subst (λ (x : Record). Follows x []) (sym is) (manufactured_follows random)
 
--- Each part of the state that agreed with a history before an execution agrees with the extended
--- history afterwards.
-pub record TellsHistory (old : Record) (event : PlainEvent) (x : Stepped) : Type 0 where
-  pub history : After Follows old event x
-  pub counters : After HasCounters old event x
-  pub pcrs : After HasPcrs old event x
-  pub auth_values : After HasAuthValues old event x
-  pub sessions : After HasSessions old event x
-  pub replays : After (λ r. ReplaysRepeat) old event x
-  pub grounds : After (λ r. AllHaveGrounds) old event x
-  pub policies : After (λ r. AllMeetPolicies) old event x
-
-pub execution_tells : (can : Bool) (old : Record) (event : PlainEvent) (x : Stepped) → Executes can old event x → TellsHistory old event x
-execution_tells can old event x executes =
+-- An execution on a device that follows a history leads to a device that follows it on.
+pub follows_on : (can : Bool) (old : Record) (event : PlainEvent) (x : Stepped) → Executes can old event x → FollowsOn old event x
+follows_on can old event x executes =
     let next : After Follows old event x = λ history follows. execution_follows can old event x history executes follows in
     record {
       history = next;

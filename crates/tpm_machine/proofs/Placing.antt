@@ -12,18 +12,11 @@ use Rattle.tpm_record.specs.Objects.{object_handle}
 use Rattle.tpm_record.specs.Record.{Record}
 use Rattle.tpm_step.specs.Events.{Placed}
 use Rattle.tpm_step.specs.Execution.{Executes}
-use Rattle.tpm_step.specs.DeviceAuthValues.{HasAuthValues}
-use Rattle.tpm_step.specs.DeviceCounters.{HasCounters}
-use Rattle.tpm_step.specs.DevicePcrs.{HasPcrs}
-use Rattle.tpm_step.specs.DeviceSessions.{HasSessions}
-use Rattle.tpm_step.specs.Follows.{After, Follows}
-use Rattle.tpm_step.specs.Grounds.{AllHaveGrounds}
-use Rattle.tpm_step.specs.PolicyUses.{AllMeetPolicies}
-use Rattle.tpm_step.specs.Replays.{ReplaysRepeat}
+use Rattle.tpm_step.specs.Follows.{FollowsOn}
 use Rattle.tpm_step.specs.Placing.{placed, placed_at}
 use Rattle.tpm_step.proofs.Placing.{placed_executes}
 use Rattle.tpm_machine.specs.Placing.{IfMemory, Places, placing_seen}
-use Rattle.tpm_machine.proofs.Histories.{TellsHistory, execution_tells}
+use Rattle.tpm_machine.proofs.Histories.{follows_on}
 
 places : (can : Bool) (old : Record) (object : Object) (result : Result Handle SlotFault) (new : Record) → AddsObject can old object result new → Places can old result new
 places can old object (Ok handle) new (adds, is) = ap (option_map object_handle) adds.1 ∙ ap (λ (h : Handle). let found : Option Handle = Some h in found) (sym adds.2)
@@ -59,31 +52,15 @@ if_memory P Q (Err NoMemory) so holds = tt
 pub record Tells (can : Bool) (old : Record) (object : Object) (result : Result Handle SlotFault) (new : Record) : Type 0 where
   pub places : Places can old result new
   pub executes : IfMemory result (Executes can old (Placed object) (placing_seen new))
-  pub history : IfMemory result (After Follows old (Placed object) (placing_seen new))
-  pub counters : IfMemory result (After HasCounters old (Placed object) (placing_seen new))
-  pub pcrs : IfMemory result (After HasPcrs old (Placed object) (placing_seen new))
-  pub auth_values : IfMemory result (After HasAuthValues old (Placed object) (placing_seen new))
-  pub sessions : IfMemory result (After HasSessions old (Placed object) (placing_seen new))
-  pub replays : IfMemory result (After (λ r. ReplaysRepeat) old (Placed object) (placing_seen new))
-  pub grounds : IfMemory result (After (λ r. AllHaveGrounds) old (Placed object) (placing_seen new))
-  pub policies : IfMemory result (After (λ r. AllMeetPolicies) old (Placed object) (placing_seen new))
+  pub follows : IfMemory result (FollowsOn old (Placed object) (placing_seen new))
 
 pub place_tells : (can : Bool) (old : Record) (object : Object) (result : Result Handle SlotFault) (new : Record) → IsObject object → IsRecord old → AddsObject can old object result new → Tells can old object result new
 place_tells can old object result new is record_is adds = record {
   places = places can old object result new adds;
   executes = executes;
-  history = so _ (λ tells. tells.history);
-  counters = so _ (λ tells. tells.counters);
-  pcrs = so _ (λ tells. tells.pcrs);
-  auth_values = so _ (λ tells. tells.auth_values);
-  sessions = so _ (λ tells. tells.sessions);
-  replays = so _ (λ tells. tells.replays);
-  grounds = so _ (λ tells. tells.grounds);
-  policies = so _ (λ tells. tells.policies);
+  follows = if_memory (Executes can old (Placed object) (placing_seen new)) (FollowsOn old (Placed object) (placing_seen new)) result
+      (follows_on can old (Placed object) (placing_seen new)) executes;
 }
   where
     executes : IfMemory result (Executes can old (Placed object) (placing_seen new))
     executes = place_executes can old object result new is record_is adds
-
-    so : (Q : Type 0) → (TellsHistory old (Placed object) (placing_seen new) → Q) → IfMemory result Q
-    so Q tells = if_memory (Executes can old (Placed object) (placing_seen new)) Q result (λ done. tells (execution_tells can old (Placed object) (placing_seen new) done)) executes

@@ -12,15 +12,8 @@ ghost use Rattle.tpm_step.specs.Execution.{Executes};
 ghost use Rattle.tpm_step.specs.Safe.{IsModestIfAccepted};
 ghost use Rattle.tpm_machine.specs.State.{state_of};
 ghost use Rattle.tpm_step.specs.Step.{Steps, outcome_step};
-ghost use Rattle.tpm_step.specs.DeviceAuthValues.{HasAuthValues};
-ghost use Rattle.tpm_step.specs.DeviceCounters.{HasCounters};
-ghost use Rattle.tpm_step.specs.DevicePcrs.{HasPcrs};
-ghost use Rattle.tpm_step.specs.DeviceSessions.{HasSessions};
-ghost use Rattle.tpm_step.specs.Follows.{After, Follows, RunFollows};
-ghost use Rattle.tpm_step.specs.Grounds.{AllHaveGrounds};
+ghost use Rattle.tpm_step.specs.Follows.{Follows, FollowsOn, RunFollows};
 ghost use Rattle.tpm_step.specs.History.{History};
-ghost use Rattle.tpm_step.specs.PolicyUses.{AllMeetPolicies};
-ghost use Rattle.tpm_step.specs.Replays.{ReplaysRepeat};
 
 mod placing;
 
@@ -122,27 +115,10 @@ impl<K: Keep> Machine<K> {
             (plain_event event.now) (outcome_step (state_of K.record_of self.new) result) }
 
         // If the device followed a history, it now follows that history, extended by this event if
-        // it was accepted: the history determines its counters, PCRs, authorization values and
-        // sessions. In the history, every replay repeats a nonce or an HMAC, and every use of a
-        // handle that needs authorization was authorized by a password, an HMAC session or a policy
-        // session. In the last case, the use satisfies each policy whose digest is the entity's
-        // authPolicy, unless the hash is broken.
-        ensures history { After Follows (state_of K.record_of self.old) (plain_event event.now)
+        // it was accepted. `FollowsOn` says what the history then determines, and what it proves of
+        // each use and each replay.
+        ensures follows { FollowsOn (state_of K.record_of self.old) (plain_event event.now)
             (outcome_step (state_of K.record_of self.new) result) }
-        ensures counters { After HasCounters (state_of K.record_of self.old)
-            (plain_event event.now) (outcome_step (state_of K.record_of self.new) result) }
-        ensures pcrs { After HasPcrs (state_of K.record_of self.old)
-            (plain_event event.now) (outcome_step (state_of K.record_of self.new) result) }
-        ensures auth_values { After HasAuthValues (state_of K.record_of self.old)
-            (plain_event event.now) (outcome_step (state_of K.record_of self.new) result) }
-        ensures sessions { After HasSessions (state_of K.record_of self.old)
-            (plain_event event.now) (outcome_step (state_of K.record_of self.new) result) }
-        ensures replays { After (λ r. ReplaysRepeat) (state_of K.record_of self.old)
-            (plain_event event.now) (outcome_step (state_of K.record_of self.new) result) }
-        ensures grounds { After (λ r. AllHaveGrounds) (state_of K.record_of self.old)
-            (plain_event event.now) (outcome_step (state_of K.record_of self.new) result) }
-        ensures policies { After (λ r. AllMeetPolicies) (state_of K.record_of self.old)
-            (plain_event event.now) (outcome_step (state_of K.record_of self.new) result) }
     {
         let mut outcome = Outcome::empty();
         self.execute_into(event, &mut outcome);
@@ -160,27 +136,10 @@ impl<K: Keep> Machine<K> {
             (plain_event event.now) outcome.new.row.check }
 
         // If the device followed a history, it now follows that history, extended by this event if
-        // it was accepted: the history determines its counters, PCRs, authorization values and
-        // sessions. In the history, every replay repeats a nonce or an HMAC, and every use of a
-        // handle that needs authorization was authorized by a password, an HMAC session or a policy
-        // session. In the last case, the use satisfies each policy whose digest is the entity's
-        // authPolicy, unless the hash is broken.
-        ensures history { After Follows (state_of K.record_of self.old) (plain_event event.now)
+        // it was accepted. `FollowsOn` says what the history then determines, and what it proves of
+        // each use and each replay.
+        ensures follows { FollowsOn (state_of K.record_of self.old) (plain_event event.now)
             (outcome_step (state_of K.record_of self.new) outcome.new) }
-        ensures counters { After HasCounters (state_of K.record_of self.old)
-            (plain_event event.now) (outcome_step (state_of K.record_of self.new) outcome.new) }
-        ensures pcrs { After HasPcrs (state_of K.record_of self.old)
-            (plain_event event.now) (outcome_step (state_of K.record_of self.new) outcome.new) }
-        ensures auth_values { After HasAuthValues (state_of K.record_of self.old)
-            (plain_event event.now) (outcome_step (state_of K.record_of self.new) outcome.new) }
-        ensures sessions { After HasSessions (state_of K.record_of self.old)
-            (plain_event event.now) (outcome_step (state_of K.record_of self.new) outcome.new) }
-        ensures replays { After (λ r. ReplaysRepeat) (state_of K.record_of self.old)
-            (plain_event event.now) (outcome_step (state_of K.record_of self.new) outcome.new) }
-        ensures grounds { After (λ r. AllHaveGrounds) (state_of K.record_of self.old)
-            (plain_event event.now) (outcome_step (state_of K.record_of self.new) outcome.new) }
-        ensures policies { After (λ r. AllMeetPolicies) (state_of K.record_of self.old)
-            (plain_event event.now) (outcome_step (state_of K.record_of self.new) outcome.new) }
     {
         outcome.response.clear();
         outcome.row = self.advance(event, &mut outcome.response);

@@ -73,6 +73,22 @@ After Holds old event x =
     (history : History) → Follows old history
     → Holds x.after (recorded old event x.row.check history)
 
+-- If the device followed a history before this event, it now follows that history, extended by the
+-- event if it was accepted: the history determines its counters, PCRs, authorization values and
+-- sessions. In the history, every replay repeats a nonce or an HMAC, and every use of a handle that
+-- needs authorization was authorized by a password, an HMAC session or a policy session. In the last
+-- case, the use satisfies each policy whose digest is the entity's authPolicy, unless the hash is
+-- broken.
+pub record FollowsOn (old : Record) (event : PlainEvent) (x : Stepped) : Type 0 where
+  pub history : After Follows old event x
+  pub counters : After HasCounters old event x
+  pub pcrs : After HasPcrs old event x
+  pub auth_values : After HasAuthValues old event x
+  pub sessions : After HasSessions old event x
+  pub replays : After (λ r. ReplaysRepeat) old event x
+  pub grounds : After (λ r. AllHaveGrounds) old event x
+  pub policies : After (λ r. AllMeetPolicies) old event x
+
 -- ---- a stretch of events on a device that follows a history
 
 -- The executions led from a device that follows a history to a device that follows the history

@@ -4,16 +4,9 @@
 ghost use Rattle.std.specs.Prelude.{◌≡◌};
 ghost use Rattle.tpm_machine.specs.Placing.{IfMemory, Places, placing_seen};
 ghost use Rattle.tpm_machine.specs.State.{state_of};
-ghost use Rattle.tpm_step.specs.DeviceAuthValues.{HasAuthValues};
-ghost use Rattle.tpm_step.specs.DeviceCounters.{HasCounters};
-ghost use Rattle.tpm_step.specs.DevicePcrs.{HasPcrs};
-ghost use Rattle.tpm_step.specs.DeviceSessions.{HasSessions};
 ghost use Rattle.tpm_step.specs.Events.{Placed};
 ghost use Rattle.tpm_step.specs.Execution.{Executes};
-ghost use Rattle.tpm_step.specs.Follows.{After, Follows};
-ghost use Rattle.tpm_step.specs.Grounds.{AllHaveGrounds};
-ghost use Rattle.tpm_step.specs.PolicyUses.{AllMeetPolicies};
-ghost use Rattle.tpm_step.specs.Replays.{ReplaysRepeat};
+ghost use Rattle.tpm_step.specs.Follows.{FollowsOn};
 
 use crate::machine::Machine;
 use tpm_containers::{Sizes, SlotFault};
@@ -38,26 +31,8 @@ impl<K: Keep> Machine<K> {
 
         // If the device followed a history, it now follows that history, extended by the placed
         // object. Therefore all laws about histories apply to it.
-        ensures history { IfMemory result (After Follows (state_of K.record_of self.old)
+        ensures follows { IfMemory result (FollowsOn (state_of K.record_of self.old)
             (Placed object) (placing_seen (state_of K.record_of self.new))) }
-        ensures counters { IfMemory result (After HasCounters (state_of K.record_of self.old)
-            (Placed object) (placing_seen (state_of K.record_of self.new))) }
-        ensures pcrs { IfMemory result (After HasPcrs (state_of K.record_of self.old)
-            (Placed object) (placing_seen (state_of K.record_of self.new))) }
-        ensures auth_values { IfMemory result (After HasAuthValues
-            (state_of K.record_of self.old) (Placed object)
-            (placing_seen (state_of K.record_of self.new))) }
-        ensures sessions { IfMemory result (After HasSessions (state_of K.record_of self.old)
-            (Placed object) (placing_seen (state_of K.record_of self.new))) }
-        ensures replays { IfMemory result (After (λ r. ReplaysRepeat)
-            (state_of K.record_of self.old) (Placed object)
-            (placing_seen (state_of K.record_of self.new))) }
-        ensures grounds { IfMemory result (After (λ r. AllHaveGrounds)
-            (state_of K.record_of self.old) (Placed object)
-            (placing_seen (state_of K.record_of self.new))) }
-        ensures policies { IfMemory result (After (λ r. AllMeetPolicies)
-            (state_of K.record_of self.old) (Placed object)
-            (placing_seen (state_of K.record_of self.new))) }
     {
         object.read_sizes();
         read_widths(&self.keep);

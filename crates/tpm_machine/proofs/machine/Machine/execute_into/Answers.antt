@@ -1,6 +1,6 @@
 use Rattle.tpm_step.specs.Events.{plain_event}
 use Rattle.tpm_machine.specs.State.{state_of}
-use Rattle.tpm_machine.proofs.Histories.{execution_tells}
+use Rattle.tpm_machine.proofs.Histories.{follows_on}
 use Rattle.tpm_machine.proofs.Modesty.{accepts_modestly}
 use Rattle.tpm_machine.proofs.Refusals.{steps_harmless}
 use Rattle.tpm_machine.proofs.Running.{exactly}
@@ -26,16 +26,4 @@ returns g c =
       modest = λ zero. accepts_modestly can old event x steps zero (done.ensures.modest zero);
       fits = done.ensures.fits;
     } in
-    let tells = execution_tells can old event x executes in
-    record {
-      executes = executes;
-      drawn = done.ensures.drawn;
-      history = tells.history;
-      counters = tells.counters;
-      pcrs = tells.pcrs;
-      auth_values = tells.auth_values;
-      sessions = tells.sessions;
-      replays = tells.replays;
-      grounds = tells.grounds;
-      policies = tells.policies;
-    }
+    record { executes = executes; drawn = done.ensures.drawn; follows = follows_on can old event x executes }

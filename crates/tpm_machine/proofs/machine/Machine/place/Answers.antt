@@ -11,12 +11,5 @@ returns g c =
       places = tells.places;
       executes = tells.executes;
       drawn = refl;
-      history = tells.history;
-      counters = tells.counters;
-      pcrs = tells.pcrs;
-      auth_values = tells.auth_values;
-      sessions = tells.sessions;
-      replays = tells.replays;
-      grounds = tells.grounds;
-      policies = tells.policies;
+      follows = tells.follows;
     }
