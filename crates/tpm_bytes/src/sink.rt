@@ -31,6 +31,7 @@ impl<const N: usize> Model for Sink<N> {
 impl<const N: usize> Sink<N> {
     ghost use Rattle.tpm_bytes.specs.Lends.{lends_bytes};
 
+    /// An empty sink.
     pub fn new() -> Sink<N>
         ensures { result ≡ [] }
     {
@@ -39,6 +40,7 @@ impl<const N: usize> Sink<N> {
         }
     }
 
+    /// The number of bytes in the sink.
     pub fn len(&self) -> usize
         ensures value { result ≡ length self.now }
         ensures fits { result ≤ N }
@@ -46,6 +48,7 @@ impl<const N: usize> Sink<N> {
         self.bytes.len()
     }
 
+    /// The bytes in the sink.
     pub fn as_slice(&self) -> &[u8]
         ensures value { result.now ≡ self.now }
         ensures fits { length result.now ≤ N }
@@ -69,6 +72,7 @@ impl<const N: usize> Sink<N> {
         self.bytes.clear();
     }
 
+    /// Returns the bytes, and consumes the sink.
     pub fn into_bytes(self) -> ArrayVec<u8, N>
         ensures value { result.items ≡ self.entry }
         ensures fits { length result.items ≤ N }
@@ -76,6 +80,7 @@ impl<const N: usize> Sink<N> {
         self.bytes
     }
 
+    /// Appends bytes. Fails if they do not fit, and then appends nothing.
     pub fn put(&mut self, bytes: &[u8]) -> Result<(), Full>
         ensures { Puts N bytes.now self.old result self.new }
     {
@@ -85,24 +90,28 @@ impl<const N: usize> Sink<N> {
         }
     }
 
+    /// Appends a byte. Fails if the sink is full.
     pub fn put_u8(&mut self, number: u8) -> Result<(), Full>
         ensures { Puts N (to_be_bytes w8 number) self.old result self.new }
     {
         self.put(&number.to_be_bytes())
     }
 
+    /// Appends a number as two bytes, big-endian. If they do not fit, appends nothing and fails.
     pub fn put_u16(&mut self, number: u16) -> Result<(), Full>
         ensures { Puts N (to_be_bytes w16 number) self.old result self.new }
     {
         self.put(&number.to_be_bytes())
     }
 
+    /// Appends a number as four bytes, big-endian. If they do not fit, appends nothing and fails.
     pub fn put_u32(&mut self, number: u32) -> Result<(), Full>
         ensures { Puts N (to_be_bytes w32 number) self.old result self.new }
     {
         self.put(&number.to_be_bytes())
     }
 
+    /// Appends a number as eight bytes, big-endian. If they do not fit, appends nothing and fails.
     pub fn put_u64(&mut self, number: u64) -> Result<(), Full>
         ensures { Puts N (to_be_bytes w64 number) self.old result self.new }
     {
@@ -129,6 +138,7 @@ impl<const N: usize> Sink<N> {
         append(&mut self.bytes, bytes);
     }
 
+    /// Appends a byte, which has to fit.
     pub fn append_u8(&mut self, number: u8)
         requires { length self.old + 1 ≤ N }
         ensures { self.new ≡ self.old ++ to_be_bytes w8 number }
@@ -136,6 +146,7 @@ impl<const N: usize> Sink<N> {
         self.append(&number.to_be_bytes());
     }
 
+    /// Appends a number as two bytes, big-endian, which have to fit.
     pub fn append_u16(&mut self, number: u16)
         requires { length self.old + 2 ≤ N }
         ensures { self.new ≡ self.old ++ to_be_bytes w16 number }
@@ -143,6 +154,7 @@ impl<const N: usize> Sink<N> {
         self.append(&number.to_be_bytes());
     }
 
+    /// Appends a number as four bytes, big-endian, which have to fit.
     pub fn append_u32(&mut self, number: u32)
         requires { length self.old + 4 ≤ N }
         ensures { self.new ≡ self.old ++ to_be_bytes w32 number }
@@ -150,6 +162,7 @@ impl<const N: usize> Sink<N> {
         self.append(&number.to_be_bytes());
     }
 
+    /// Appends a number as eight bytes, big-endian, which have to fit.
     pub fn append_u64(&mut self, number: u64)
         requires { length self.old + 8 ≤ N }
         ensures { self.new ≡ self.old ++ to_be_bytes w64 number }

@@ -40,6 +40,7 @@ pub struct Asked {
 }
 
 impl Asked {
+    /// Reads the parameters of TPM2_GetCapability. Fails if they are truncated.
     #[tactic(auto, unfolding(crate::specs::Capability::asked_at))]
     pub fn read(parameters: &[u8]) -> Result<Asked, Short>
         ensures { result ≡ asked_at parameters.now }

@@ -31,6 +31,7 @@ pub struct ContextHead {
 }
 
 impl SavedHandle {
+    /// The number that encodes this savedHandle.
     pub fn number(self) -> u32
         ensures { result ≡ saved_number self }
     {

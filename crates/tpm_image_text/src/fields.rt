@@ -41,6 +41,7 @@ pub const TEXT_LIMIT: usize = LIMITS_SIZE
 /// A body that is being written.
 pub type Text = Sink<TEXT_LIMIT>;
 
+/// Reads a byte.
 pub fn read_u8(text: &mut Cursor) -> Result<u8, Malformed>
     ensures { Reads (λ number. number) (number_in w8 text.old) text.old result text.new }
 {
@@ -50,6 +51,7 @@ pub fn read_u8(text: &mut Cursor) -> Result<u8, Malformed>
     }
 }
 
+/// Reads a big-endian number of two bytes.
 pub fn read_u16(text: &mut Cursor) -> Result<u16, Malformed>
     ensures { Reads (λ number. number) (number_in w16 text.old) text.old result text.new }
 {
@@ -59,6 +61,7 @@ pub fn read_u16(text: &mut Cursor) -> Result<u16, Malformed>
     }
 }
 
+/// Reads a big-endian number of four bytes.
 pub fn read_u32(text: &mut Cursor) -> Result<u32, Malformed>
     ensures { Reads (λ number. number) (number_in w32 text.old) text.old result text.new }
 {
@@ -68,6 +71,7 @@ pub fn read_u32(text: &mut Cursor) -> Result<u32, Malformed>
     }
 }
 
+/// Reads a big-endian number of eight bytes.
 pub fn read_u64(text: &mut Cursor) -> Result<u64, Malformed>
     ensures { Reads (λ number. number) (number_in w64 text.old) text.old result text.new }
 {
@@ -77,6 +81,7 @@ pub fn read_u64(text: &mut Cursor) -> Result<u64, Malformed>
     }
 }
 
+/// Reads a byte that is 0 (no) or 1 (yes). Any other byte is malformed.
 pub fn read_bool(text: &mut Cursor) -> Result<bool, Malformed>
     ensures { Reads (λ is_yes. is_yes) (yes_no_in text.old) text.old result text.new }
 {
@@ -86,6 +91,7 @@ pub fn read_bool(text: &mut Cursor) -> Result<bool, Malformed>
     }
 }
 
+/// Reads this many bytes.
 pub fn read_bytes<'a>(text: &mut Cursor<'a>, count: usize) -> Result<&'a [u8], Malformed>
     ensures exact { Reads (λ bytes. bytes.now) (bytes_in count text.old) text.old result text.new }
     ensures size { IfOk result (λ bytes. length bytes.now ≡ count) }
@@ -125,6 +131,7 @@ pub fn is_trimmed(bytes: &[u8]) -> bool
     trimmed(bytes) == bytes
 }
 
+/// Reads an authorization value. One with trailing zeros is malformed.
 #[tactic(auto, unfolding(crate::specs::Fields::auth_value_in))]
 pub fn read_auth_value(text: &mut Cursor) -> Result<AuthValue, Malformed>
     ensures { Reads (λ value. value) (auth_value_in text.old) text.old result text.new }
@@ -150,6 +157,7 @@ pub fn read_structure<'a, T: Readable<'a, Fault = Rc> + Drop>(
     }
 }
 
+/// Writes the bytes of an array.
 pub fn write_array<const N: usize>(bytes: &[u8; N], text: &mut Text)
     requires { length text.old + N ≤ text_size }
     ensures written { text.new ≡ text.old ++ bytes.now }
@@ -158,6 +166,7 @@ pub fn write_array<const N: usize>(bytes: &[u8; N], text: &mut Text)
     text.append(bytes);
 }
 
+/// Writes a number as two bytes, big-endian.
 pub fn write_u16(number: u16, text: &mut Text)
     requires { length text.old + 2 ≤ text_size }
     ensures written { text.new ≡ text.old ++ to_be_bytes w16 number }
@@ -166,6 +175,7 @@ pub fn write_u16(number: u16, text: &mut Text)
     text.append_u16(number);
 }
 
+/// Writes a number as four bytes, big-endian.
 pub fn write_u32(number: u32, text: &mut Text)
     requires { length text.old + 4 ≤ text_size }
     ensures written { text.new ≡ text.old ++ to_be_bytes w32 number }
@@ -174,6 +184,7 @@ pub fn write_u32(number: u32, text: &mut Text)
     text.append_u32(number);
 }
 
+/// Writes a number as eight bytes, big-endian.
 pub fn write_u64(number: u64, text: &mut Text)
     requires { length text.old + 8 ≤ text_size }
     ensures written { text.new ≡ text.old ++ to_be_bytes w64 number }
@@ -182,6 +193,7 @@ pub fn write_u64(number: u64, text: &mut Text)
     text.append_u64(number);
 }
 
+/// Writes 1 for yes and 0 for no, as one byte.
 pub fn write_bool(is_yes: bool, text: &mut Text)
     requires { length text.old + 1 ≤ text_size }
     ensures written { text.new ≡ text.old ++ yes_no_text is_yes }

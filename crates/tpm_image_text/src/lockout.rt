@@ -10,6 +10,7 @@ use crate::fields::{Text, read_bool, read_u32, write_bool, write_u32};
 use tpm_bytes::Cursor;
 use tpm_lockout::LockoutFields;
 
+/// Reads the fields of the lockout state.
 #[tactic(auto, unfolding(crate::specs::Body::lockout_in))]
 pub fn read_lockout(text: &mut Cursor) -> Result<LockoutFields, Malformed>
     ensures { Reads (λ fields. fields) (lockout_in text.old) text.old result text.new }

@@ -56,6 +56,7 @@ fn read_values(text: &mut Cursor) -> Result<SavedPcrs, Malformed>
     Ok(values)
 }
 
+/// Reads what the latest TPM2_Shutdown saved.
 #[tactic(auto, unfolding(crate::specs::Body::saved_in))]
 pub fn read_saved(text: &mut Cursor) -> Result<Saved, Malformed>
     ensures { Reads (λ saved. saved) (saved_in text.old) text.old result text.new }

@@ -42,6 +42,7 @@ pub enum PcrUse {
 }
 
 impl PcrUse {
+    /// The group to which a PCR belongs.
     pub fn of(pcr: PcrIndex) -> PcrUse
         ensures { result ≡ use_of pcr }
     {
@@ -53,6 +54,7 @@ impl PcrUse {
         }
     }
 
+    /// Whether this locality may extend the PCRs of the group.
     pub fn may_extend(self, locality: Locality) -> bool
         ensures { result ≡ may_extend self (locality_number locality) }
     {
@@ -62,6 +64,7 @@ impl PcrUse {
         }
     }
 
+    /// Whether this locality may reset the PCRs of the group.
     pub fn may_reset(self, locality: Locality) -> bool
         ensures { result ≡ may_reset self (locality_number locality) }
     {

@@ -41,6 +41,7 @@ pub struct DigestValues {
 impl DigestValue {
     ghost use Rattle.tpm_types.specs.DigestValues.{digest_of, hash_of_value};
 
+    /// The hash algorithm of the digest.
     pub fn hash(&self) -> HashAlg
         ensures { result ≡ hash_of_value self.now }
     {
@@ -50,6 +51,7 @@ impl DigestValue {
         }
     }
 
+    /// The bytes of the digest.
     pub fn digest(&self) -> &[u8]
         ensures value { result.now ≡ digest_of self.now }
         ensures fits { length result.now ≤ 32 }

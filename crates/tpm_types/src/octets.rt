@@ -62,6 +62,7 @@ impl<const N: usize> Octets<N> {
         self.bytes.as_slice()
     }
 
+    /// The number of bytes.
     pub fn len(&self) -> usize
         ensures value { result ≡ length self.now }
         ensures fits { result ≤ N }

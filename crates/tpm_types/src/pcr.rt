@@ -41,6 +41,7 @@ impl PcrIndex {
         }
     }
 
+    /// The number of the PCR, 0 to 23.
     pub fn number(self) -> u8
         ensures value { result ≡ self }
         ensures in_range { result < 24 }

@@ -33,6 +33,7 @@ impl Model for Scratch {
 }
 
 impl Scratch {
+    /// An empty buffer.
     pub fn new() -> Scratch {
         Scratch { text: Text::new() }
     }

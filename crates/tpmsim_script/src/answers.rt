@@ -28,6 +28,7 @@ impl Answers {
     ghost use Rattle.tpm_bytes.specs.Tap.{device_of, marks_of};
     ghost use Rattle.tpmsim_script.specs.Answers.{CutOff, backlog, printout};
 
+    /// An empty buffer of responses.
     pub fn new(alloc: Global) -> Result<Answers, AllocError>
         ensures { IfOk result (λ answers. backlog answers ≡ []) }
     {

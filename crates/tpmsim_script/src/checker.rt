@@ -23,6 +23,7 @@ pub struct Checker {
 impl Checker {
     ghost use Rattle.tpmsim_script.specs.Checker.{waited_of};
 
+    /// A checker before the first line of a script.
     pub fn new(alloc: Global) -> Result<Checker, AllocError>
         ensures { IfOk result (λ checker. waited_of checker ≡ 0) }
     {

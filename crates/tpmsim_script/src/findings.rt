@@ -24,6 +24,7 @@ pub struct Findings {
 }
 
 impl Findings {
+    /// No findings.
     pub fn new(alloc: Global) -> Findings
         ensures text { result.text.bytes.items ≡ [] }
         ensures first { result.first ≡ None }

@@ -24,6 +24,7 @@ pub struct Room {
 }
 
 impl Room {
+    /// A buffer without any decoded bytes.
     pub fn new(alloc: Global) -> Result<Room, AllocError> {
         let decoded = vec![in alloc; 0u8; DECODED_LIMIT]?;
         Ok(Room {

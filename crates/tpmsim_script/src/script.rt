@@ -37,6 +37,7 @@ impl Script {
         }
     }
 
+    /// Sets the locality of the following commands.
     pub fn set_locality(&mut self, locality: Locality)
         ensures { self.new ≡ record self.old { locality = locality } }
     {
