@@ -1,5 +1,5 @@
--- Looking up a number on the wire finds a command with that number, and each command is found by
--- its number.
+-- A lookup by command code finds the command with that code, and each command is found by its own
+-- code.
 use Rattle.std.proofs.Common.{◌≡◌, ℕ, ◌<◌, ◌^◌, Bool, true, false, cond, List, [], ◌∷◌, Option, Some, None, refl, sym, subst, arith}
 use Rattle.std.specs.Prelude.{◌==◌, IfSome}
 use Rattle.std.specs.List.{find}

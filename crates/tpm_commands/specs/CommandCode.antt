@@ -27,7 +27,7 @@ code_name code = (command_facts code).name
 abbrev pub part_of : CommandCode → Part
 part_of code = (command_facts code).part
 
--- the shape of a command: all other facts about it
+-- the shape of a command: every fact about it except its number, its name and its effect
 unfoldable pub shape_of : CommandCode → Facts
 shape_of code = (command_facts code).shape
 
@@ -58,7 +58,7 @@ role_at code place =
     (slice_get (shape_of code).handles place) role.User
 
 -- how a command uses the NV index that authorizes it. This depends on the role in which the index
--- is authorized, and on whether the command reads it
+-- authorizes, and on whether the command reads the index
 abbrev pub nv_use : Role → (reads : Bool) → NvUse
 nv_use role.Admin reads = does.Administer
 nv_use role.User true = does.Read

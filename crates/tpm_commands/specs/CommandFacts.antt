@@ -36,7 +36,7 @@ facts number name part shape = record {
 abbrev pub answering : Facts → Facts
 answering shape = record shape { sized_answer = true }
 
--- the shape of a command whose success preserves the state that TPM2_Shutdown saved
+-- the shape of a command that preserves the state that TPM2_Shutdown saved
 abbrev pub keeping : Facts → Facts
 keeping shape = record shape { keeps_shutdown = true }
 
@@ -57,11 +57,12 @@ without_sessions shape = record shape { forbids_sessions = true }
 abbrev pub making : Facts → Facts
 making shape = record shape { sized_answer = true; answers_handle = true; grows = true }
 
--- the shape of a command whose only handle is an object, authorized in the role USER
+-- the shape of a command whose only handle names an object, authorized in the role USER, and whose
+-- answer starts with a sized buffer
 abbrev pub on_object : List ParameterKind → Facts
 on_object parameters = answering (shape_with (user kind.Object ∷ []) parameters)
 
--- the shape of a command with a policy session as its only handle
+-- the shape of a command whose only handle names a policy session
 abbrev pub on_policy : List ParameterKind → Facts
 on_policy parameters = shape_with (unauthorized kind.PolicySession ∷ []) parameters
 

@@ -1,4 +1,4 @@
--- The handles of a command, each of which must be allowed by its rule. TPM 2.0 Library, Part 3,
+-- The handles of a command. The rule for each handle must allow it. TPM 2.0 Library, Part 3,
 -- section 5.4 (handle area validation).
 use Rattle.std.specs.Prelude.{ℕ, not, List, Result, Ok}
 use Rattle.std.specs.Int.{w32}
@@ -28,7 +28,7 @@ allowed_handle_at n rule text = do
   allowed ← refused_if (not (is_of_kind rule.kind (numbered number.0))) (handle_fault n code.Value)
   Ok (numbered number.0, number.1)
 
--- the handles of a command at the start of a text, one for each of its rules, and the rest of the
--- text
+-- the handles of a command at the start of a text, one for each handle rule of the command, and the
+-- rest of the text
 abbrev pub allowed_handles_at : CommandCode → List ℕ → Result (List Handle × List ℕ) Rc
 allowed_handles_at code text = each_at allowed_handle_at 1 (shape_of code).handles text

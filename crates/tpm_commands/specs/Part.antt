@@ -1,5 +1,5 @@
--- The parts of a device's state that commands change. TPM 2.0 Library, Part 3, the detailed actions
--- in each command's section.
+-- The parts of a device's state that commands may change. TPM 2.0 Library, Part 3, the detailed
+-- actions in each command's section.
 
 -- A part of a device's state that a successful command may change. In order: nothing; the sessions;
 -- the transient objects; the sessions and the transient objects; the persistent objects; five

@@ -175,7 +175,7 @@ macro_rules! holds {
     ($fact:ident:) => { false };
 }
 
-/// A shape with these handles and parameters, in which only the listed other facts are true.
+/// A shape with these handles and parameters. Of the other facts, only the listed ones are true.
 macro_rules! shape {
     ([$($handle:expr),*], $parameters:expr $(, $fact:ident)*) => {
         Shape {
@@ -305,7 +305,7 @@ impl CommandCode {
     #[tactic(auto, using(crate::proofs::Codes::codes), unfolding(crate::specs::CommandCode::code_named))]
     pub fn named(number: u32) -> Option<CommandCode>
         ensures value { result ≡ code_named number }
-        // The command that was found has this number.
+        // The returned command has this number.
         ensures found { IfSome result (λ code. code_number code ≡ number) }
     {
         facts!(code of number)
@@ -372,8 +372,8 @@ impl CommandCode {
         }
     }
 
-    /// How the command uses the NV index that authorizes it, if the handle at this position
-    /// (counted from 0) names one.
+    /// If the handle at this position (counted from 0) names an NV index that authorizes the
+    /// command, how the command uses that index.
     pub fn nv_use_at(self, place: usize) -> NvUse
         ensures { result ≡ nv_use_at self place }
     {

@@ -1,5 +1,5 @@
-//! Reads a command's handles, and refuses each handle of a kind that the command's [`Shape`] does
-//! not allow (TPM 2.0 Library, Part 3, section 5.4).
+//! Reads a command's handles, and refuses a handle whose kind the command's [`Shape`] does not
+//! allow (TPM 2.0 Library, Part 3, section 5.4).
 
 ghost use Rattle.std.specs.Prelude.{◌≡◌, IfOk, length};
 ghost use Rattle.tpm_bytes.specs.Reading.{Reads};

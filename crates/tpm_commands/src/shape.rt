@@ -81,8 +81,8 @@ impl HandleKind {
     }
 }
 
-/// The kind of a command's handle, and the role in which it is authorized, or None if it needs no
-/// authorization.
+/// The kind of a command's handle, and its role: the role in which the handle is authorized, or
+/// None if it needs no authorization.
 #[derive(Clone, Copy, PartialEq, Eq)]
 pub struct HandleRule {
     pub kind: HandleKind,
@@ -110,7 +110,7 @@ pub enum ParameterKind {
     HashOrNull,
     /// A symmetric definition: TPMT_SYM_DEF.
     Symmetric,
-    /// A selection of PCRs: TPML_PCR_SELECTION.
+    /// A PCR selection: TPML_PCR_SELECTION.
     Selection,
     /// A list of digests with their algorithms: TPML_DIGEST_VALUES.
     Digests,
@@ -176,10 +176,10 @@ pub struct Shape {
     pub forbids_sessions: bool,
     /// Whether the command may allocate memory, and therefore can run out of memory.
     pub grows: bool,
-    /// Whether the command reads the NV index that authorizes it, if there is one. Any other
+    /// Whether the command reads the NV index that authorizes it, if there is one. If false, the
     /// command writes that index, or administers it in the role ADMIN.
     pub reads_nv: bool,
-    /// Whether the command, if it succeeds, preserves the state that TPM2_Shutdown saved. Any other
-    /// command discards that state if it succeeds.
+    /// Whether the command, if it succeeds, preserves the state that TPM2_Shutdown saved. If false,
+    /// the command's success discards that state.
     pub keeps_shutdown: bool,
 }

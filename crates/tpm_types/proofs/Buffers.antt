@@ -1,4 +1,4 @@
--- A sized buffer that was read successfully does not exceed its limit.
+-- If a sized buffer is read successfully, its size is within the limit.
 use Rattle.std.proofs.Common.{◌≡◌, ℕ, ◌≤◌, ltb, cond, List, length, take, drop, Result, Ok, Err, subst, arith}
 use Rattle.std.specs.Prelude.{IfOk}
 use Rattle.std.specs.Int.{w16}

@@ -1,4 +1,4 @@
--- Looking up a number from the wire finds a value with that number, and each value is found by its
+-- A lookup by wire number finds a value with that number, and each value is found by its own
 -- number.
 use Rattle.std.proofs.Common.{◌≡◌, ℕ, ◌<◌, ◌^◌, Bool, true, false, cond, List, Option, Some, None, Ok, refl, ap, subst, ◌∙◌, arith}
 use Rattle.std.specs.Prelude.{◌==◌, ok_or}

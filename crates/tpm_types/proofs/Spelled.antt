@@ -11,9 +11,8 @@ pub record Spelled {A E : Type 0} (text : A → List ℕ) (Is : A → Type 0) (a
   pub taken : IsTaken text Is at
   pub again : IsAgain text Is at
 
--- After some fields were read, the read of the remaining ones returns the whole value exactly when
--- the value contains the fields already read and the text starts with the encoding of the remaining
--- ones.
+-- After the first fields were read, reading the other fields returns a value exactly when the value
+-- contains those first fields and the text starts with the encoding of the other fields.
 pub record Behind {B C E : Type 0} (seen : B → C) (text : B → List ℕ) (Is : B → Type 0) (at : C → List ℕ → Result (B × List ℕ) E) : Type 0 where
   pub taken : (before : C) (bytes : List ℕ) (x : B × List ℕ) → AreBytes bytes → at before bytes ≡ Ok x → Takes bytes (text x.0) x.1 × Is x.0 × (seen x.0 ≡ before)
   pub again : (x : B) (rest : List ℕ) → Is x → at (seen x) (text x ++ rest) ≡ Ok (x, rest)
@@ -61,7 +60,7 @@ first {A} {B} {E} {text} {Is} {at} {seen} {others} {Are} {behind} field next = r
       ∙ next.again x rest are.1;
 }
 
--- If `Spelled` holds for the remaining fields whatever the fields already read contain, then
+-- If `Spelled` holds for the remaining fields, no matter what the fields before them contain, then
 -- `Behind` holds for the remaining fields.
 pub for_each : {B C E : Type 0} (seen : B → C) (text : B → List ℕ) (Is : B → Type 0) (at : C → List ℕ → Result (B × List ℕ) E) → ((c : C) → Spelled text (λ x. Is x × (seen x ≡ c)) (at c)) → Behind seen text Is at
 for_each seen text Is at each = record {
@@ -88,7 +87,7 @@ rest_fits front rest fits = subst AreBytes (drop_at front rest (length front) re
     later : AreBytes (drop (length front) (front ++ rest))
     later i = rw get_or-drop (fits (length front + i))
 
--- if the bytes consist of a text and a rest, then reading the text leaves the rest
+-- if the bytes are a text followed by a rest, then reading the text leaves the rest
 pub takes : (bytes text rest : List ℕ) → AreBytes bytes → bytes ≡ text ++ rest → Takes bytes text rest
 takes bytes text rest fits parts = record { parts = parts; rest_fits = rest_fits text rest (subst AreBytes parts fits) }
 

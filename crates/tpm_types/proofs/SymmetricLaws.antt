@@ -49,8 +49,8 @@ aes_again rest =
     ap aes_at (append_assoc (to_be_bytes w16 0x0080) (to_be_bytes w16 0x0043) rest)
     ∙ rw (number_or_again w16 (2 ^ 16) wide16 f 0x0080 (to_be_bytes w16 0x0043 ++ rest) (omega arith), number_or_again w16 (2 ^ 16) wide16 f 0x0043 rest (omega arith)) refl
 
--- If the field after the number of XOR can be read, it encodes a hash, and the definition is XOR
--- with that hash.
+-- If the field after the algorithm XOR can be read, it encodes a hash algorithm, and the symmetric
+-- definition is XOR with that algorithm.
 xor_takes : (bytes : List ℕ) (x : SymmetricDefinition × List ℕ) → AreBytes bytes → xor_at bytes ≡ Ok x → (hash : HashAlg) × (bytes ≡ to_be_bytes w16 (hash_number hash) ++ x.1) × (x.0 ≡ Xor hash)
 unfolding xor_at
 xor_takes bytes x fits e =

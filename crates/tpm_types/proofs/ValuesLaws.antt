@@ -1,5 +1,5 @@
--- A read returns a digest with its algorithm, or a list of them, exactly when the text starts with
--- its encoding.
+-- Digests with their algorithms, and lists of such digests: a read returns one exactly when the
+-- text starts with its encoding.
 use Rattle.std.proofs.Common.{◌≡◌, ℕ, ltb, List, ◌++◌, Ok, refl, sym, ap, subst, ◌∙◌, append_assoc, arith}
 use Rattle.std.specs.Int.{w16, to_be_bytes}
 use Rattle.std.proofs.lemmas.Bool.{ltb-false, le-ltb}

@@ -14,7 +14,7 @@ action_number action.Fifth = 5
 action_number action.Sixth = 6
 action_number action.Seventh = 7
 
--- the check with this number, or the seventh check if there is none
+-- the check with this number, or the seventh check if no check has this number
 abbrev pub action_named : ℕ → ActionCheck
 action_named number =
     if number == 1 then action.First

@@ -7,7 +7,7 @@ use Rattle.tpm_types.specs.declared.rc.Place.TheVariants as place
 use Rattle.tpm_types.specs.declared.rc.ResponseCode.{ResponseCode}
 use Rattle.tpm_types.specs.Rc.{at, plain}
 
--- a fault that is not in a handle, parameter or session
+-- a fault whose response code names no handle, parameter or session
 abbrev pub plain_fault : ActionCheck → ResponseCode → ActionFault
 plain_fault check code = record { check = check; rc = plain code }
 

@@ -37,8 +37,8 @@ abbrev pub hash_or_null_number : Option HashAlg → ℕ
 hash_or_null_number (Some algorithm) = hash_number algorithm
 hash_or_null_number None = 0x0010
 
--- the hash algorithm with this number, or Some None if it is the number of NULL, or None if the
--- algorithm is not supported
+-- the hash algorithm with this number. The result is `Some None` for TPM_ALG_NULL, and None for an
+-- algorithm that is not supported
 abbrev pub hash_or_null_named : ℕ → Option (Option HashAlg)
 hash_or_null_named number =
     if number == 0x0010 then Some None else option_map Some (hash_named number)

@@ -1,4 +1,4 @@
--- Attributes, which are the bits of a 32-bit number; some bits are reserved. TPM 2.0 Library, Part
+-- Attributes, stored as the bits of a 32-bit number. Some bits are reserved. TPM 2.0 Library, Part
 -- 2, section 8.3 (TPMA_OBJECT) and section 13.4 (TPMA_NV).
 use Rattle.std.specs.Prelude.{◌≡◌, ℕ, ◌<◌, ◌^◌, ◌==◌, not, bit_and, List, Result, Ok}
 use Rattle.std.specs.Int.{w32}

@@ -1,5 +1,5 @@
--- The numbers of the checks, which a row reports. The number 0 in a row means that no check
--- refused, or that the event is a power cycle.
+-- The check numbers that a row reports. The number 0 in a row means that no check refused, or that
+-- the event is a power cycle.
 use Rattle.std.specs.Prelude.{ℕ, ◌+◌}
 use Rattle.tpm_types.specs.ActionCheck.{action_number}
 use Rattle.tpm_types.specs.declared.check.Check.{Check}

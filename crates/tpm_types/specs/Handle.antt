@@ -1,4 +1,5 @@
--- Handles. TPM 2.0 Library, Part 2, sections 7.2 (TPM_HT, the highest byte) and 7.4 (TPM_RH).
+-- Handles. TPM 2.0 Library, Part 2, sections 7.2 (TPM_HT, the most significant byte) and 7.4
+-- (TPM_RH).
 use Rattle.std.specs.Prelude.{◌≡◌, ℕ, ◌==◌, ◌/◌, ◌^◌, ◌||◌, nat_lt, Bool, if◌then◌else◌}
 use Rattle.std.specs.Prelude.{Option, Some, None}
 use Rattle.tpm_types.specs.declared.handle.Handle.{Handle}
@@ -14,12 +15,12 @@ use Rattle.tpm_types.specs.declared.handle.SessionKind.TheVariants.{Password, Se
 abbrev pub numbered : ℕ → Handle
 numbered number = record { number = number }
 
--- the highest byte of a handle, which is the type of the entity (TPM_HT)
+-- the most significant byte of a handle, which is the type of the entity (TPM_HT)
 abbrev pub handle_type : Handle → ℕ
 handle_type handle = handle.number / 2 ^ 24
 
--- whether a handle has the type of an NV index (01), a session (02 for HMAC, 03 for policy and
--- trial), a transient object (80) or a persistent object (81). The entity need not exist
+-- tests of a handle's type: an NV index (01), a session (02 for HMAC, 03 for policy and trial), a
+-- transient object (80) or a persistent object (81). The entity need not exist
 abbrev pub is_nv_index : Handle → Bool
 is_nv_index handle = handle_type handle == 0x01
 

@@ -10,8 +10,8 @@ abbrev pub SomePcr : ℕ → Option PcrIndex → Type 0
 SomePcr number (Some pcr) = (number < 24) × (pcr ≡ number)
 SomePcr number None = 24 ≤ number
 
--- the number that the three octets of a selection encode after a zero octet extends them to 32
--- bits, and the octets that encode a number
+-- conversions between the three octets of a selection and a number. A zero octet appended to them
+-- makes a 32-bit little-endian number
 abbrev pub select_of : List ℕ → ℕ
 select_of octets = from_le_bytes w32 (octets ++ 0 ∷ [])
 

@@ -12,7 +12,8 @@ use Rattle.tpm_types.specs.Algorithm.{hash_at, hash_number}
 use Rattle.tpm_types.specs.Pcr.{select_of, select_text}
 use Rattle.tpm_types.specs.Rc.{plain}
 
--- the encoding of a bank's selection: its hash algorithm, the number of octets, and the octets
+-- the encoding of the PCR selection for one bank: its hash algorithm, the number of octets, and the
+-- octets
 unfoldable pub bank_text : BankSelection → List ℕ
 bank_text bank =
     to_be_bytes w16 (hash_number bank.hash) ++ to_be_bytes w8 3 ++ select_text bank.select
@@ -20,11 +21,11 @@ bank_text bank =
 unfoldable pub banks_text : List BankSelection → List ℕ
 banks_text banks = flat_map bank_text banks
 
--- the encoding of a selection: the number of banks, then each bank's selection
+-- the encoding of a selection: the number of banks, then the PCR selection for each bank
 unfoldable pub selection_text : List BankSelection → List ℕ
 selection_text banks = to_be_bytes w32 (length banks) ++ banks_text banks
 
--- A bank's selection contains only PCRs below 24.
+-- The PCR selection for a bank contains only PCRs below 24.
 abbrev pub IsBank : BankSelection → Type 0
 IsBank bank = bank.select < 2 ^ 24
 

@@ -3,7 +3,7 @@
 use Rattle.std.specs.Prelude.{ℕ, ◌==◌, not, bit_and, Bool}
 use Rattle.tpm_types.specs.declared.session_attributes.SessionAttributes.{SessionAttributes}
 
--- whether any of these bits of the attributes is set
+-- whether any of these bits is set in the attributes
 abbrev pub has_bits : ℕ → SessionAttributes → Bool
 has_bits bits attributes = not (bit_and attributes.octet bits == 0)
 

@@ -20,8 +20,8 @@ type_named number =
     else (if number == 0x01 then Some Policy
     else (if number == 0x03 then Some Trial else None))
 
--- the highest byte of a session's handle: 02 for an HMAC session, 03 for a policy session or a
--- trial session
+-- the most significant byte of a session's handle: 02 for an HMAC session, 03 for a policy session
+-- or a trial session
 abbrev pub type_byte : SessionType → ℕ
 type_byte Hmac = 0x02
 type_byte Policy = 0x03

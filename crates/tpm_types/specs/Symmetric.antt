@@ -24,7 +24,7 @@ symmetric_text Aes128Cfb =
     to_be_bytes w16 0x0006 ++ to_be_bytes w16 0x0080 ++ to_be_bytes w16 0x0043
 symmetric_text (Xor hash) = to_be_bytes w16 0x000a ++ to_be_bytes w16 (hash_number hash)
 
--- the fields of a symmetric definition that follow the number of AES: a key size of 128 bits, and
+-- the fields of a symmetric definition that follow the algorithm AES: a key size of 128 bits, and
 -- the mode CFB
 unfoldable pub aes_at : List ℕ → Result (SymmetricDefinition × List ℕ) Rc
 aes_at text = do
@@ -34,14 +34,14 @@ aes_at text = do
   feedback ← refused_if (not (mode.0 == 0x0043)) (plain code.Mode)
   Ok (Aes128Cfb, mode.1)
 
--- the field of a symmetric definition that follows the number of XOR: a hash algorithm
+-- the field of a symmetric definition that follows the algorithm XOR: a hash algorithm
 unfoldable pub xor_at : List ℕ → Result (SymmetricDefinition × List ℕ) Rc
 xor_at text = do
   hash ← hash_at text
   Ok (Xor hash.0, hash.1)
 
--- the symmetric definition whose algorithm has this number, and whose other fields are at the start
--- of a text
+-- the symmetric definition with this algorithm number, and the rest of the text. The other fields
+-- of the definition are at the start of the text
 abbrev pub behind_at : ℕ → List ℕ → Result (SymmetricDefinition × List ℕ) Rc
 behind_at number text =
     if number == 0x0010 then Ok (Null, text)

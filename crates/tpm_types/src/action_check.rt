@@ -24,7 +24,7 @@ impl ActionCheck {
         self as u8
     }
 
-    /// The check with this number, or the seventh check if there is none.
+    /// The check with this number, or the seventh check if no check has this number.
     pub fn named(number: u8) -> ActionCheck
         ensures { result ≡ action_named number }
     {

@@ -15,7 +15,7 @@ pub struct ActionFault {
 impl ActionFault {
     ghost use Rattle.tpm_types.specs.ActionFault.{parameter_fault, plain_fault};
 
-    /// A fault that is not in a handle, parameter or session.
+    /// A fault whose response code names no handle, parameter or session.
     pub fn plain(check: ActionCheck, code: ResponseCode) -> ActionFault
         ensures { result ≡ plain_fault check code }
     {

@@ -59,7 +59,7 @@ pub fn read_hash(text: &mut Cursor) -> Result<HashAlg, Rc>
     Ok(algorithm)
 }
 
-/// The number of a hash algorithm, or of NULL for None.
+/// The wire number of a hash algorithm. For None, it is TPM_ALG_NULL.
 pub fn hash_or_null_number(algorithm: Option<HashAlg>) -> u16
     ensures { result ≡ hash_or_null_number algorithm }
 {
@@ -69,8 +69,8 @@ pub fn hash_or_null_number(algorithm: Option<HashAlg>) -> u16
     }
 }
 
-/// The hash algorithm with this number, or `Some(None)` if it is the number of NULL, or None if the
-/// algorithm is not supported.
+/// The hash algorithm with this number. The result is `Some(None)` for TPM_ALG_NULL, and None for
+/// an algorithm that is not supported.
 pub fn hash_or_null_named(number: u16) -> Option<Option<HashAlg>>
     ensures { result ≡ hash_or_null_named number }
 {

@@ -1,5 +1,5 @@
-//! Reads attributes, which are the bits of a 32-bit number (TPMA_OBJECT and TPMA_NV; TPM 2.0
-//! Library, Part 2, sections 8.3 and 13.4).
+//! Reads attributes that are stored as the bits of a 32-bit number (TPMA_OBJECT and TPMA_NV; TPM
+//! 2.0 Library, Part 2, sections 8.3 and 13.4).
 
 ghost use Rattle.std.specs.Prelude.{◌≡◌, bit_and, IfOk};
 ghost use Rattle.tpm_bytes.specs.Reading.{Reads};

@@ -62,7 +62,7 @@ impl DigestList {
         // The result is the decoded digests, or the first fault.
         ensures exact { Reads (λ list. digests_of list.digests.items) (digest_list_at text.old)
             text.old result text.new }
-        // Decoding succeeds only on the encoding of the value that it returns.
+        // If decoding succeeds, the text starts with the encoding of the returned value.
         ensures found { IfOk result (λ list. IsDigestList (digests_of list.digests.items)
             × (text.old ≡ digest_list_text (digests_of list.digests.items) ++ text.new)) }
         // The encoding of a value decodes to that value, whatever follows it.

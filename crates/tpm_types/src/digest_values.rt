@@ -136,7 +136,7 @@ impl DigestValues {
         // The result is the decoded digests, or the first fault.
         ensures exact { Reads (λ digests. digests.values.items) (digest_values_at text.old)
             text.old result text.new }
-        // Decoding succeeds only on the encoding of the value that it returns.
+        // If decoding succeeds, the text starts with the encoding of the returned value.
         ensures found { IfOk result (λ digests. IsDigestValues digests.values.items
             × (text.old ≡ digest_values_text digests.values.items ++ text.new)) }
         // The encoding of a value decodes to that value, whatever follows it.

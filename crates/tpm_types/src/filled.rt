@@ -23,8 +23,8 @@ fn within_buffer(fault: Rc) -> Rc
 }
 
 /// Reads a structure that fills a sized buffer (TPM2B, Part 2, section 10.4.1). Fails with
-/// INSUFFICIENT if the buffer is truncated, or with SIZE if it is shorter or longer than the
-/// structure. A fault in the structure has priority over surplus bytes.
+/// INSUFFICIENT if the buffer is truncated, or with SIZE if the buffer is shorter or longer than
+/// the structure. A fault in the structure has priority over surplus bytes.
 #[tactic(auto, unfolding(crate::specs::Filled::filled_by))]
 pub fn read_filled<'a, T: Readable<'a, Fault = Rc> + Drop>(text: &mut Cursor<'a>) -> Result<T, Rc>
     ensures exact { Reads T.seen (filled_by T.at text.old) text.old result text.new }

@@ -5,8 +5,8 @@ ghost use Rattle.std.specs.Prelude.{◌≡◌};
 
 use crate::pcr::{PCR_COUNT, PcrIndex};
 
-/// The handle of an entity: TPM_HANDLE (Part 2, section 7.1). Its highest byte is the type of the
-/// entity (TPM_HT, section 7.2).
+/// The handle of an entity: TPM_HANDLE (Part 2, section 7.1). Its most significant byte is the type
+/// of the entity (TPM_HT, section 7.2).
 #[derive(Clone, Copy, PartialEq, Eq, Default)]
 pub struct Handle {
     pub number: u32,
@@ -147,7 +147,7 @@ impl Handle {
         }
     }
 
-    /// The highest byte of the handle, which is the type of the entity (TPM_HT).
+    /// The most significant byte of the handle, which is the type of the entity (TPM_HT).
     fn type_byte(self) -> u32
         ensures { result ≡ handle_type self }
     {

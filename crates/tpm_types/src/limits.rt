@@ -38,8 +38,8 @@ pub const NV_SPACE_LIMIT: usize = 16_384;
 /// The largest size in bytes of the data of one ordinary NV index.
 pub const NV_DATA_LIMIT: usize = 2_048;
 
-/// Each constant equals its definition. This function is only a proof: it has no effect at run
-/// time.
+/// Each constant equals the number in `specs/Limits.antt`. This function is only a proof: it has no
+/// effect at run time.
 #[inline(always)]
 pub fn limit_laws()
     ensures buffer { BUFFER_LIMIT ≡ buffer_limit }

@@ -1,4 +1,5 @@
-//! An owned copy of the bytes of a sized buffer (TPM2B). The type's parameter is its largest size.
+//! An owned copy of the bytes of a sized buffer (TPM2B). The type parameter `N` is the largest
+//! size.
 
 ghost use Rattle.std.specs.Prelude.{◌≡◌, ◌≤◌, [], length};
 ghost use Rattle.std.specs.Str.{bytes_eq};

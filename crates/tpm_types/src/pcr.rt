@@ -1,4 +1,4 @@
-//! The numbers of PCRs, 0 to 23, and selections of PCRs of one bank (TPM 2.0 Library, Part 2,
+//! The numbers of PCRs, 0 to 23, and selections of PCRs in one bank (TPM 2.0 Library, Part 2,
 //! section 10.6.2).
 
 ghost use Rattle.std.specs.Prelude.{◌≡◌, ◌<◌, ◌^◌, ℕ};

@@ -37,8 +37,8 @@ impl Default for BankSelection {
 impl BankSelection {
     ghost use Rattle.tpm_types.specs.PcrSelection.{bank_at, bank_text};
 
-    /// Reads the selection of one bank. Fails with INSUFFICIENT if it is truncated, with HASH if
-    /// its algorithm is not supported, or with VALUE if it is not three octets long.
+    /// Reads the PCR selection for one bank. Fails with INSUFFICIENT if it is truncated, with HASH
+    /// if its algorithm is not supported, or with VALUE if it is not three octets long.
     #[tactic(auto, unfolding(crate::specs::PcrSelection::bank_at))]
     pub fn read(text: &mut Cursor) -> Result<BankSelection, Rc>
         ensures { Reads (λ bank. bank) (bank_at text.old) text.old result text.new }
@@ -111,13 +111,13 @@ impl PcrSelection {
     ghost use Rattle.std.specs.Prelude.{Ok};
     ghost use Rattle.tpm_types.specs.PcrSelection.{IsSelection, selection_at, selection_text};
 
-    /// Reads a selection. Fails with INSUFFICIENT if it is truncated, with SIZE if it names more
-    /// than sixteen banks, or else with the first fault of a bank.
+    /// Reads a PCR selection. Fails with INSUFFICIENT if it is truncated, with SIZE if it names
+    /// more than sixteen banks, or else with the first fault of a bank.
     pub fn read(text: &mut Cursor) -> Result<PcrSelection, Rc>
         // The result is the decoded value, or the first fault.
         ensures exact { Reads (λ selection. selection.banks.items) (selection_at text.old)
             text.old result text.new }
-        // Decoding succeeds only on the encoding of the value that it returns.
+        // If decoding succeeds, the text starts with the encoding of the returned value.
         ensures found { IfOk result (λ selection. IsSelection selection.banks.items
             × (text.old ≡ selection_text selection.banks.items ++ text.new)) }
         // The encoding of a value decodes to that value, whatever follows it.
@@ -173,7 +173,7 @@ impl PcrSelection {
 
 ghost use Rattle.tpm_types.specs.PcrSelection.{banks_text, selection_text};
 
-/// Appends the number of banks, then the selection of each bank.
+/// Appends the number of banks, then the PCR selection for each bank.
 #[tactic(auto, using(crate::proofs::BanksLemmas::writing_banks))]
 fn append_selection<const N: usize>(banks: &[BankSelection], sink: &mut Sink<N>)
     requires few { length banks.now ≤ 16 }

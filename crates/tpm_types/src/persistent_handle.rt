@@ -9,7 +9,7 @@ use crate::rc::{Rc, ResponseCode};
 use tpm_bytes::Cursor;
 
 /// Reads the handle of a persistent object (TPMI_DH_PERSISTENT, Part 2, section 9.5). Fails with
-/// INSUFFICIENT if it is truncated, or with VALUE if its highest byte is not 0x81.
+/// INSUFFICIENT if it is truncated, or with VALUE if its most significant byte is not 0x81.
 #[tactic(auto, unfolding(crate::specs::PersistentHandle::persistent_handle_at))]
 pub fn read_persistent_handle(text: &mut Cursor) -> Result<Handle, Rc>
     ensures { Reads (λ handle. handle) (persistent_handle_at text.old) text.old result text.new }

@@ -1,4 +1,4 @@
-//! Refusals by any part of the device, and how they count for the protection against dictionary
+//! Refusals by any part of the device, and how they affect the protection against dictionary
 //! attacks.
 
 ghost use Rattle.std.specs.Prelude.{◌≡◌};
@@ -6,19 +6,19 @@ ghost use Rattle.std.specs.Prelude.{◌≡◌};
 use crate::check::Check;
 use crate::rc::Rc;
 
-/// How a refusal counts for the protection against dictionary attacks (TPM 2.0 Library, Part 1,
+/// How a refusal affects the protection against dictionary attacks (TPM 2.0 Library, Part 1,
 /// section 19.8).
 #[derive(Clone, Copy, PartialEq, Eq)]
 pub enum Counted {
     None,
-    /// The refusal counts as a failed authorization of a protected entity.
+    /// The refusal is a failed authorization of a protected entity, and counts as a failed try.
     Try,
     /// The refusal is a failed authorization with lockoutAuth, which becomes disabled.
     Lockout,
 }
 
-/// A refusal: the response code, the check that failed, and how the refusal counts for the
-/// protection against dictionary attacks.
+/// A refusal: the response code, the check that failed, and how the refusal affects the protection
+/// against dictionary attacks.
 #[derive(Clone, Copy, PartialEq, Eq)]
 pub struct Refused {
     pub rc: Rc,

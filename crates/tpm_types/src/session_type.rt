@@ -43,7 +43,8 @@ impl SessionType {
         }
     }
 
-    /// The highest byte of the handle of a session with this type (TPM_HT, Part 2, section 7.2).
+    /// The most significant byte of the handle of a session of this type (TPM_HT, Part 2, section
+    /// 7.2).
     pub fn handle_byte(self) -> u32
         ensures { result ≡ type_byte self }
     {

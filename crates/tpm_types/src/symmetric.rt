@@ -32,7 +32,7 @@ impl SymmetricDefinition {
         // The result is the decoded definition, or the first fault.
         ensures exact { Reads (λ definition. definition) (symmetric_at text.old) text.old
             result text.new }
-        // Decoding succeeds only on the encoding of the value that it returns.
+        // If decoding succeeds, the text starts with the encoding of the returned value.
         ensures found { IfOk result (λ definition.
             text.old ≡ symmetric_text definition ++ text.new) }
         // The encoding of a value decodes to that value, whatever follows it.
@@ -63,7 +63,7 @@ impl SymmetricDefinition {
         Ok(definition)
     }
 
-    /// Reads the fields that follow the algorithm number of AES in a symmetric definition.
+    /// Reads the fields that follow the algorithm AES in a symmetric definition.
     #[tactic(auto, unfolding(crate::specs::Symmetric::aes_at))]
     fn read_aes(text: &mut Cursor) -> Result<SymmetricDefinition, Rc>
         ensures { Reads (λ definition. definition) (aes_at text.old) text.old result text.new }
@@ -85,7 +85,7 @@ impl SymmetricDefinition {
         Ok(SymmetricDefinition::Aes128Cfb)
     }
 
-    /// Reads the field that follows the algorithm number of XOR in a symmetric definition.
+    /// Reads the field that follows the algorithm XOR in a symmetric definition.
     #[tactic(auto, unfolding(crate::specs::Symmetric::xor_at))]
     fn read_xor(text: &mut Cursor) -> Result<SymmetricDefinition, Rc>
         ensures { Reads (λ definition. definition) (xor_at text.old) text.old result text.new }

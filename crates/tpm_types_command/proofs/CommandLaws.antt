@@ -25,7 +25,8 @@ header_or_rc_ok (Err f) x e = absurd cc
 
 -- ---- the authorization area, if there are sessions
 
--- These entries were read after a header with this tag.
+-- The bytes start with these entries, each valid and at most three. The tag shows whether there are
+-- any.
 pub record AreSessions (tag : Tag) (bytes : List ℕ) (x : List Entry × List ℕ) : Type 0 where
   pub text : Takes bytes (sessions_text x.0) x.1
   pub tag_is : tag_for x.0 ≡ tag
@@ -116,7 +117,7 @@ command_found old (Err fault) new fits reads = tt
 pub size_is : (c : Whole) (handles sessions : ℕ) → handles ≡ length c.handles → sessions ≡ length (sessions_text c.entries) → 10 + 4 * handles + sessions + length c.parameters ≡ command_size c
 size_is c handles sessions e f = omega (arith, command_size-is c, length-body c)
 
--- If a command fits in the buffer, the other parts still fit after its header was written.
+-- If a command fits in the buffer, its other parts still fit after its header was written.
 pub room_behind_header : (c : Whole) (capacity size : ℕ) (tag : Tag) (old one : List ℕ) → one ≡ old ++ header_text tag size c.code → length old + command_size c ≤ capacity → length one + 4 * length c.handles + length (sessions_text c.entries) + length c.parameters ≤ capacity
 room_behind_header c capacity size tag old one is room = rw is (omega (arith, command_size-is c, length-body c, length-append old (header_text tag size c.code), length-header_text tag size c.code))
 

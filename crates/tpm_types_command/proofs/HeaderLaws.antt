@@ -24,8 +24,8 @@ neither : (a b : Bool) → (a || b) ≡ false → (a ≡ false) × (b ≡ false)
 neither true b e = absurd cc
 neither false b e = (refl, e)
 
--- If a text is long enough for a number, it starts with the encoding of the number that it decodes
--- to.
+-- If a text is long enough for a number, it starts with the encoding of the number that its first
+-- bytes decode to.
 field_takes : (w : Width) (limit : ℕ) (wide : IsWide w limit) (bytes : List ℕ) → AreBytes bytes → byte_len w ≤ length bytes → Takes bytes (to_be_bytes w (from_be_bytes w (take (byte_len w) bytes))) (drop (byte_len w) bytes)
 field_takes w limit wide bytes fits long =
     let there : ltb (length bytes) (byte_len w) ≡ false = le-ltb _ _ long in
@@ -44,8 +44,8 @@ fields_take bytes fits long =
     let t01 = Takes-then bytes (to_be_bytes w16 (tag_field bytes)) (drop 2 bytes) (to_be_bytes w32 (size_field bytes)) (drop 6 bytes) t0 t1' in
     Takes-then bytes (to_be_bytes w16 (tag_field bytes) ++ to_be_bytes w32 (size_field bytes)) (drop 6 bytes) (to_be_bytes w32 (code_field bytes)) (drop 10 bytes) t01 t2'
 
--- The bytes start with this header, whose commandSize is their length, and they fit in a command
--- buffer.
+-- The bytes start with this header, and fit in a command buffer. Its commandSize is the length of
+-- the bytes.
 pub record IsHeader (bytes : List ℕ) (x : Header × List ℕ) : Type 0 where
   pub text : Takes bytes (header_text x.0.tag (length bytes) x.0.code) x.1
   pub least : 10 ≤ length bytes

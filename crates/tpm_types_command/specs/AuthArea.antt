@@ -37,7 +37,7 @@ area_at text = do
   entries ← entries_in 3 bytes.0
   Ok (entries, bytes.1)
 
--- The result of reading these bytes is all entries in them, or the fault of reading them.
+-- The result of reading these bytes: all entries in them, or the fault.
 abbrev pub AreEntries : List ℕ → Result (ArrayVec AuthEntry) Rc → Type 0
 AreEntries bytes (Ok entries) = entries_in 3 bytes ≡ Ok (map entry_of entries.items)
 AreEntries bytes (Err fault) = entries_in 3 bytes ≡ Err fault

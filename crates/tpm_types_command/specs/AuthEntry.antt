@@ -33,7 +33,7 @@ auth_entry_text e =
     to_be_bytes w32 e.session.number ++ sized_text e.nonce
     ++ to_be_bytes w8 e.attributes.octet ++ sized_text e.hmac
 
--- An entry can be encoded if each number fits its field.
+-- An entry can be encoded if each of its numbers fits its field.
 pub record IsEntry (e : Entry) : Type 0 where
   pub session : e.session.number < 2 ^ 32
   pub nonce : length e.nonce < 2 ^ 16

@@ -26,7 +26,7 @@ impl<'a> AuthEntry<'a> {
     pub fn read(text: &mut Cursor<'a>) -> Result<AuthEntry<'a>, Rc>
         // The result is the decoded value, or the fault.
         ensures exact { Reads entry_of (entry_at text.old) text.old result text.new }
-        // Decoding succeeds only on the encoding of the value that it returns.
+        // If decoding succeeds, the text starts with the encoding of the returned value.
         ensures found { IfOk result (λ entry. IsEntry (entry_of entry)
             × (text.old ≡ auth_entry_text (entry_of entry) ++ text.new)) }
         // The encoding of a value decodes to that value, whatever follows it.
@@ -64,7 +64,7 @@ impl<'a> AuthEntry<'a> {
         })
     }
 
-    /// The size of the entry's encoding, or None if it cannot be encoded.
+    /// The size of the entry's encoding, or None if the entry cannot be encoded.
     #[tactic(auto, using(crate::proofs::EntryLaws::entry_sizes))]
     pub fn text_len(&self) -> Option<usize>
         ensures { SomeIff result (HasSizes (entry_of self.now))
@@ -93,8 +93,8 @@ impl<'a> AuthEntry<'a> {
         Ok(())
     }
 
-    /// Appends the encoded entry. Its sizes must fit in two bytes each, and the sink must have room
-    /// for the entry.
+    /// Appends the encoded entry. Each of its sizes must fit in two bytes, and the sink must have
+    /// room for the entry.
     #[tactic(auto, using(crate::proofs::EntryLaws::entry_sizes))]
     pub fn append_to<const N: usize>(&self, sink: &mut Sink<N>)
         requires sizes { HasSizes (entry_of self.now) }

@@ -68,7 +68,8 @@ impl Name {
         Name { bytes }
     }
 
-    /// The qualified Name of an object with this Name, whose parent has this qualified Name.
+    /// The qualified Name of an object, from its nameAlg, its parent's qualified Name, and its own
+    /// Name.
     #[tactic(auto, unfolding(crate::specs::Name::qualified_name))]
     pub fn qualified(alg: HashAlg, parent: &[u8], name: &[u8]) -> Name
         ensures { result ≡ qualified_name alg parent.now name.now }

@@ -12,7 +12,7 @@ use Rattle.tpm_types_nv.specs.NvType.{nv_type_named, nv_type_number}
 use Rattle.tpm_types.specs.AttributeBits.{AreAttributeBits, attribute_bits_at}
 use Rattle.tpm_types.specs.declared.rc.Rc.{Rc}
 
--- the number of an attribute's bit, counted from 0
+-- the bit number of an attribute, counted from 0
 abbrev pub attribute_bit : NvAttribute → ℕ
 attribute_bit attribute.PpWrite = 0
 attribute_bit attribute.OwnerWrite = 1
@@ -40,7 +40,7 @@ attribute_bit attribute.ReadStClear = 31
 abbrev pub has : NvAttributes → NvAttribute → Bool
 has attributes attribute = bit_at attributes.bits (attribute_bit attribute) == 1
 
--- the attributes with this one set, and with this one cleared; all other bits are unchanged
+-- the attributes after one of them is set, or cleared; all other bits are unchanged
 abbrev pub with_attribute : NvAttributes → NvAttribute → NvAttributes
 with_attribute attributes attribute =
     record { bits = bit_or attributes.bits (2 ^ attribute_bit attribute) }
@@ -49,7 +49,7 @@ abbrev pub without_attribute : NvAttributes → NvAttribute → NvAttributes
 without_attribute attributes attribute =
     record { bits = bit_and attributes.bits (bit_not w32 (2 ^ attribute_bit attribute)) }
 
--- the number of an index's type, in bits 4 to 7
+-- the type number of an index, which is in bits 4 to 7 of its attributes
 abbrev pub type_number : NvAttributes → ℕ
 type_number attributes = attributes.bits / 2 ^ 4 % 2 ^ 4
 

@@ -1,5 +1,5 @@
 -- The public areas of NV indices. TPM 2.0 Library, Part 2, sections 13.5 (TPMS_NV_PUBLIC) and 13.6
--- (TPM2B_NV_PUBLIC), and section 7.2 (TPM_HT_NV_INDEX: a handle whose highest byte is 01).
+-- (TPM2B_NV_PUBLIC), and section 7.2 (TPM_HT_NV_INDEX: a handle whose most significant byte is 01).
 use Rattle.std.specs.Prelude.{◌≡◌, ℕ, ◌==◌, ◌<◌, ◌≤◌, ◌^◌, not, Bool, true, List, ◌++◌, length}
 use Rattle.std.specs.Prelude.{Result, Ok}
 use Rattle.std.specs.Int.{w16, w32, to_be_bytes}
@@ -32,12 +32,12 @@ nv_public_text p =
     nv_index_text p.nv_index ++ to_be_bytes w16 (hash_number p.name_alg)
     ++ nv_attributes_text p.attributes ++ sized_text p.auth_policy ++ to_be_bytes w16 p.data_size
 
--- The handle of an index fits in four bytes, and its highest byte is 01.
+-- The handle of an index fits in four bytes, and its most significant byte is 01.
 pub record IsNvIndex (handle : Handle) : Type 0 where
   pub fits : handle.number < 2 ^ 32
   pub named : is_nv_index handle ≡ true
 
--- A public area of an index can be encoded if each of its fields is valid.
+-- The public area of an index can be encoded if each of its fields is valid.
 pub record IsNvPublic (p : NvPublic) : Type 0 where
   pub nv_index : IsNvIndex p.nv_index
   pub attributes : IsNvAttributes p.attributes

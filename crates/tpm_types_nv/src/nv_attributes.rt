@@ -11,7 +11,7 @@ use tpm_types::{Rc, read_attribute_bits};
 /// The bits that are used neither for an attribute nor for the type: 8, 9 and 20 to 24.
 const RESERVED_BITS: u32 = 0x01f0_0300;
 
-/// An attribute of an NV index (TPMA_NV, Part 2, section 13.4). Its value is the number of its bit.
+/// An attribute of an NV index (TPMA_NV, Part 2, section 13.4). Its value is its bit number.
 #[derive(Clone, Copy, PartialEq, Eq)]
 pub enum NvAttribute {
     PpWrite = 0,
@@ -40,7 +40,7 @@ pub enum NvAttribute {
 impl NvAttribute {
     ghost use Rattle.tpm_types_nv.specs.NvAttributes.{attribute_bit};
 
-    /// The number of the attribute's bit.
+    /// The bit number of the attribute.
     pub fn bit(self) -> u32
         ensures value { result ≡ attribute_bit self }
         ensures small { result < 32 }
@@ -66,7 +66,7 @@ impl NvAttributes {
         (self.bits >> attribute.bit()) & 1 == 1
     }
 
-    /// The attributes with this one set.
+    /// The attributes with this attribute set.
     pub fn with(self, attribute: NvAttribute) -> NvAttributes
         ensures { result ≡ with_attribute self attribute }
     {
@@ -75,7 +75,7 @@ impl NvAttributes {
         }
     }
 
-    /// The attributes with this one cleared.
+    /// The attributes with this attribute cleared.
     pub fn without(self, attribute: NvAttribute) -> NvAttributes
         ensures { result ≡ without_attribute self attribute }
     {

@@ -32,7 +32,7 @@ impl NvPublic {
     pub fn read(text: &mut Cursor) -> Result<NvPublic, Rc>
         // The result is the decoded value, or the first fault.
         ensures exact { Reads (λ public. public) (nv_public_at text.old) text.old result text.new }
-        // Decoding succeeds only on the encoding of the value that it returns.
+        // If decoding succeeds, the text starts with the encoding of the returned value.
         ensures found { IfOk result (λ public. IsNvPublic public
             × (text.old ≡ nv_public_text public ++ text.new)) }
         // The encoding of a value decodes to that value, whatever follows it.
@@ -58,7 +58,7 @@ impl NvPublic {
     }
 
     /// Reads the handle of an index. Fails with INSUFFICIENT if it is truncated, or with VALUE if
-    /// its highest byte is not 0x01.
+    /// its most significant byte is not 0x01.
     #[tactic(auto, unfolding(crate::specs::NvPublic::nv_index_at))]
     fn read_index(text: &mut Cursor) -> Result<Handle, Rc>
         ensures { Reads (λ handle. handle) (nv_index_at text.old) text.old result text.new }

@@ -13,12 +13,12 @@ pub enum NvType {
     Counter,
     /// An eight-byte number whose bits can be set.
     Bits,
-    /// A digest that is extended.
+    /// A digest that can be extended.
     Extend,
 }
 
 impl NvType {
-    /// The number of the type in the attributes.
+    /// The number that encodes the type in the attributes of an index.
     pub fn number(self) -> u32
         ensures { result ≡ nv_type_number self }
     {

@@ -1,5 +1,5 @@
--- A read returns the type of an object, or its attributes, exactly when the text starts with their
--- encoding.
+-- The type and the attributes of an object: a read returns one of these fields exactly when the
+-- text starts with its encoding.
 use Rattle.std.proofs.Common.{◌≡◌, ℕ, ◌^◌, ◌<◌, Some, None, refl, arith}
 use Rattle.tpm_types.specs.declared.rc.ResponseCode.TheVariants as code
 use Rattle.tpm_types.proofs.Named.{link, named_spelled, none}

@@ -1,5 +1,5 @@
--- A read returns a sensitive area, or the values that a caller provides for a new one, exactly when
--- the text starts with their encoding.
+-- A read returns a sensitive area exactly when the text starts with its encoding. The same is true
+-- of the values that a caller provides for a new sensitive area.
 use Rattle.std.proofs.Common.{ℕ, ◌^◌, ◌<◌, List, ◌++◌, length, refl, arith, length-append}
 use Rattle.tpm_bytes.specs.Writing.{sized_text}
 use Rattle.tpm_types_object.specs.declared.public.ObjectType.{ObjectType}

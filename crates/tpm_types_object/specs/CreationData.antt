@@ -20,7 +20,7 @@ creation_data_text c =
     ++ to_be_bytes w16 (hash_or_null_number c.parent_name_alg) ++ sized_text c.parent_name
     ++ sized_text c.parent_qualified_name ++ sized_text c.outside_info
 
--- Creation data that can be encoded.
+-- Creation data can be encoded if each of their fields is valid.
 pub record IsCreationData (c : CreationData) : Type 0 where
   pub pcr_select : IsSelection c.pcr_select.banks.items
   pub pcr_digest : length c.pcr_digest ≤ 32

@@ -7,7 +7,7 @@ use Rattle.tpm_types_object.specs.declared.object_attributes.ObjectAttribute.The
 use Rattle.tpm_types.specs.AttributeBits.{AreAttributeBits, attribute_bits_at}
 use Rattle.tpm_types.specs.declared.rc.Rc.{Rc}
 
--- the number of an attribute's bit, counted from 0
+-- the bit number of an attribute, counted from 0
 abbrev pub attribute_bit : ObjectAttribute → ℕ
 attribute_bit attribute.FixedTpm = 1
 attribute_bit attribute.StClear = 2

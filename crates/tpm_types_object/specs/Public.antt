@@ -1,7 +1,7 @@
 -- The public areas of objects. TPM 2.0 Library, Part 2, section 12.2.4 (TPMT_PUBLIC). For their
 -- parameters: sections 12.2.3.7 (TPMU_PUBLIC_PARMS), 11.1.9 (TPMS_SYMCIPHER_PARMS), 11.1.23
 -- (TPMT_KEYEDHASH_SCHEME) and 6.3 (TPM_ALG_ID: KEYEDHASH 0008, SYMCIPHER 0025, NULL 0010, HMAC
--- 0005). Using the response code SCHEME for any other scheme is this device's own choice.
+-- 0005). For any other scheme, this implementation chooses the response code SCHEME.
 use Rattle.std.specs.Prelude.{ℕ, ◌==◌, ◌≤◌, List, ◌++◌, length, if◌then◌else◌}
 use Rattle.std.specs.Prelude.{Option, Some, None, Result, Ok, Err, ok_or}
 use Rattle.std.specs.Int.{w16, to_be_bytes}
@@ -57,8 +57,8 @@ hmac_at text = do
   hash ← hash_at text
   Ok (Hmac hash.0, hash.1)
 
--- the scheme of a KEYEDHASH object with this scheme number, whose other fields are at the start of
--- a text, and the rest of the text
+-- the scheme of a KEYEDHASH object, given its scheme number, and the rest of the text. The other
+-- fields of the scheme are at the start of the text
 abbrev pub behind_scheme_at : ℕ → List ℕ → Result (KeyedHashScheme × List ℕ) Rc
 behind_scheme_at number text =
     if number == 0x0010 then Ok (Null, text)

@@ -27,7 +27,7 @@ pub record IsSensitiveCreate (s : SensitiveValues) : Type 0 where
   pub user_auth : length s.user_auth ≤ 32
   pub «data» : length s.«data» ≤ sensitive_limit
 
--- the values that a caller provides at the start of a text, and the rest of the text
+-- the values for a new sensitive area at the start of a text, and the rest of the text
 unfoldable pub sensitive_create_at : List ℕ → Result (SensitiveValues × List ℕ) Rc
 sensitive_create_at text = do
   user_auth ← buffer_at 32 text

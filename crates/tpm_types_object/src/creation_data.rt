@@ -16,7 +16,7 @@ use tpm_types::{
 #[derive(Drop)]
 pub struct CreationData {
     pub pcr_select: PcrSelection,
-    /// The digest of the selected PCRs.
+    /// The digest of the values of the selected PCRs.
     pub pcr_digest: Octets<32>,
     /// The locality of the creation, as a bit field (TPMA_LOCALITY, section 8.5).
     pub locality: u8,
@@ -39,7 +39,7 @@ impl CreationData {
         // The result is the decoded value, or the first fault.
         ensures exact { Reads (λ creation. creation) (creation_data_at text.old)
             text.old result text.new }
-        // Decoding succeeds only on the encoding of the value that it returns.
+        // If decoding succeeds, the text starts with the encoding of the returned value.
         ensures found { IfOk result (λ creation. IsCreationData creation
             × (text.old ≡ creation_data_text creation ++ text.new)) }
         // The encoding of a value decodes to that value, whatever follows it.

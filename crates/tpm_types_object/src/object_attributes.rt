@@ -10,8 +10,7 @@ use tpm_types::{Rc, read_attribute_bits};
 /// The bits of the 32-bit field that are not used for attributes.
 const RESERVED_BITS: u32 = 0xfff8_f309;
 
-/// An attribute of an object (TPMA_OBJECT, Part 2, section 8.3). Its value is the number of its
-/// bit.
+/// An attribute of an object (TPMA_OBJECT, Part 2, section 8.3). Its value is its bit number.
 #[derive(Clone, Copy, PartialEq, Eq)]
 pub enum ObjectAttribute {
     FixedTpm = 1,
@@ -30,7 +29,7 @@ pub enum ObjectAttribute {
 impl ObjectAttribute {
     ghost use Rattle.tpm_types_object.specs.ObjectAttributes.{attribute_bit};
 
-    /// The number of the attribute's bit.
+    /// The bit number of the attribute.
     pub fn bit(self) -> u32
         ensures value { result ≡ attribute_bit self }
         ensures small { result < 32 }

@@ -216,7 +216,7 @@ impl Public {
     pub fn read(text: &mut Cursor) -> Result<Public, Rc>
         // The result is the decoded value, or the first fault.
         ensures exact { Reads (λ public. public) (public_at text.old) text.old result text.new }
-        // Decoding succeeds only on the encoding of the value that it returns.
+        // If decoding succeeds, the text starts with the encoding of the returned value.
         ensures found { IfOk result (λ public. IsPublic public
             × (text.old ≡ public_text public ++ text.new)) }
         // The encoding of a value decodes to that value, whatever follows it.

@@ -15,8 +15,8 @@ pub struct Sensitive {
     pub object_type: ObjectType,
     /// The authorization value as it is encoded, including its trailing zeros.
     pub auth_value: Octets<32>,
-    /// In a storage key, its seed. In any other object, the value that hides `sensitive` in the
-    /// public area.
+    /// For a storage key, its seed. For any other object, the obfuscation value, which hides
+    /// `sensitive` in the public area.
     pub seed_value: Octets<32>,
     /// The key or the sealed data.
     pub sensitive: Octets<SENSITIVE_LIMIT>,
@@ -32,7 +32,7 @@ impl Sensitive {
     pub fn read(text: &mut Cursor) -> Result<Sensitive, Rc>
         // The result is the decoded value, or the first fault.
         ensures exact { Reads (λ area. area) (sensitive_at text.old) text.old result text.new }
-        // Decoding succeeds only on the encoding of the value that it returns.
+        // If decoding succeeds, the text starts with the encoding of the returned value.
         ensures found { IfOk result (λ area. IsSensitive area
             × (text.old ≡ sensitive_text area ++ text.new)) }
         // The encoding of a value decodes to that value, whatever follows it.
@@ -92,7 +92,7 @@ impl Sensitive {
     #[tactic(auto, unfolding(crate::specs::Sensitive::sensitive_text))]
     pub fn text(&self) -> Sink<200>
         ensures value { result ≡ sensitive_text self.now }
-        // No buffer of the area exceeds its limit.
+        // Each buffer of the area is within its size limit.
         ensures fits { IsSensitive self.now }
     {
         let mut text = Sink::new();

@@ -31,7 +31,7 @@ impl<'a> SensitiveCreate<'a> {
         ensures exact { Reads sensitive_values_of (sensitive_create_at text.old) text.old
             result text.new }
         ensures fits { IfOk result (λ given. IsSensitiveCreate (sensitive_values_of given)) }
-        // Decoding succeeds only on the encoding of the value that it returns.
+        // If decoding succeeds, the text starts with the encoding of the returned value.
         ensures found { IfOk result (λ given.
             text.old ≡ sensitive_create_text (sensitive_values_of given) ++ text.new) }
         // The encoding of a value decodes to that value, whatever follows it.

@@ -30,7 +30,7 @@ impl Command<'_> {
         }
     }
 
-    /// The size of the command's encoding, which is commandSize, or None if it cannot be encoded.
+    /// The size of the command's encoding (commandSize), or None if the command cannot be encoded.
     pub fn text_len(&self) -> Option<usize>
         ensures { SomeIff result (HasText (whole_of self.now)) (command_size (whole_of self.now)) }
     {
