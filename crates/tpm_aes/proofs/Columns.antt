@@ -1,4 +1,4 @@
--- The steps of a round, and of the key expansion, on words.
+-- The steps of an AES round and of the key expansion, computed on 32-bit words.
 use Rattle.std.proofs.Common.{◌≡◌, ℕ, ◌-◌, ◌<◌, ◌≤◌, List, [], ◌∷◌, ◌++◌, ap, ap₂, arith, bit_xor, length, map, refl, slice_index_or, sym, ◌∙◌}
 use Rattle.std.proofs.lemmas.List.FromFn.{get_or-map-range_with_len}
 use Rattle.std.specs.Int.{to_le_bytes, w32}
@@ -10,7 +10,7 @@ use Rattle.tpm_aes.specs.Field.{times_power}
 use Rattle.tpm_aes.specs.Words.{bytes_of}
 use Rattle.tpm_aes.specs.declared.key_schedule.TheConstants.{ROUND_CONSTANTS}
 
--- the column whose row r comes from the r-th of these four columns
+-- the column whose row r is row r of the r-th of these four columns, counted from 0
 abbrev pub shifted_column : (a b c d : List ℕ) → List ℕ
 shifted_column a b c d =
     slice_index_or a 0 0 ∷ slice_index_or b 1 0 ∷ slice_index_or c 2 0 ∷ slice_index_or d 3 0 ∷ []
@@ -29,8 +29,8 @@ columns_made : (g : List ℕ → List ℕ) (p q r s : ℕ)
 unfolding shift_rows
 columns_made g p q r s = refl
 
--- If each of the words v, w, x and y is g applied to one column of the state after SubBytes and
--- ShiftRows, then together they are g applied to all columns of that state.
+-- Let v, w, x and y be the results of applying g to the four columns of the state after SubBytes
+-- and ShiftRows. Together they are the result of applying g to all columns of that state.
 columns_words : (g : List ℕ → List ℕ) (state a b c d : List ℕ) (v w x y : ℕ) → length state ≡ 4
     → a ≡ to_le_bytes w32 (slice_index_or state 0 0) → b ≡ to_le_bytes w32 (slice_index_or state 1 0)
     → c ≡ to_le_bytes w32 (slice_index_or state 2 0) → d ≡ to_le_bytes w32 (slice_index_or state 3 0)
@@ -98,8 +98,8 @@ turned bytes =
     sub_bytes (slice_index_or bytes 1 0 ∷ slice_index_or bytes 2 0 ∷ slice_index_or bytes 3 0
     ∷ slice_index_or bytes 0 0 ∷ [])
 
--- If a word's rotated and substituted bytes are XORed with the round's constant, the result is the
--- scheduled word.
+-- Rotating and substituting the bytes of a word, and XORing them with the round's constant, yields
+-- the scheduled word.
 pub scheduled_sum : (n word sum constant added : ℕ) (bytes : List ℕ) → bytes ≡ to_le_bytes w32 word
     → to_le_bytes w32 sum ≡ turned bytes → added ≡ constant → constant < 256 → constant ≡ times_power 1 (n - 1)
     → to_le_bytes w32 (bit_xor sum added) ≡ scheduled_word n (to_le_bytes w32 word)

@@ -21,8 +21,8 @@ s_box_at i a same byte =
     ap (λ (t : List ℕ). slice_index_or t i 0) s_box_values
     ∙ get_or-map-range_with_len sub_byte 0 256 i a 0 (omega arith) (omega arith)
 
--- If each word of a table is f applied to the S-box entry at the same index, then entry a is f
--- applied to the S-box value of a.
+-- If each word of a table is f applied to the S-box entry with the same index, then entry a of the
+-- table is f applied to the S-box value of a.
 word_at : (f : ℕ → List ℕ) (table : List ℕ) → length table ≡ 256
     → map (to_le_bytes w32) table ≡ map f S_BOX
     → (i a : ℕ) → i ≡ a → a < 256 → to_le_bytes w32 (slice_index_or table i 0) ≡ f (sub_byte a)
@@ -32,7 +32,7 @@ word_at f table size values i a same byte =
     ∙ get_or-map f S_BOX i 0 [] (omega arith)
     ∙ ap f (s_box_at i a same byte)
 
--- the lookup table for a row
+-- the lookup table for row r
 abbrev mixed_table : ℕ → List ℕ
 mixed_table r = slice_index_or MIXED r []
 

@@ -38,7 +38,8 @@ get_or-expanded_key : (key : List ℕ) (n : ℕ) → n < 11
 unfolding expanded_key
 get_or-expanded_key key n within = get_or-map-range_with_len (round_key key) 0 11 n n [] within (omega arith)
 
--- If 11 keys have the bytes of the round keys, together these keys are the expanded key.
+-- If the bytes of 11 keys are those of the round keys 0 to 10, then these keys together are the
+-- expanded key.
 pub expanded_key_from : (keys : List (List ℕ)) (key : List ℕ) → length keys ≡ 11
     → ((k : ℕ) → k < 11 → bytes_of (slice_index_or keys k []) ≡ round_key key k)
     → map bytes_of keys ≡ expanded_key (bytes_of (slice_index_or keys 0 []))
@@ -49,13 +50,13 @@ expanded_key_from keys key size each =
     λ k low. get_or-map bytes_of keys k [] [] (omega arith) ∙ each k low in
     rw first (fill_by_all (round_key key) (map bytes_of keys) 11 [] (simp length-map size) all)
 
--- Entry k of the list is the key for round k, for each k below n.
+-- For each k below n, entry k of the list is the key for round k. The list has 11 entries.
 pub record HasKeysBelow (keys : List (List ℕ)) (key : List ℕ) (n : ℕ) : Type 0 where
   pub size : length keys ≡ 11
   pub each : (k : ℕ) → k < n → bytes_of (slice_index_or keys k []) ≡ round_key key k
 
--- If entry k is the key for round k for each k below n, and the key for round n is stored at index
--- n, then entry k is the key for round k for each k up to n.
+-- If entries 0 to n - 1 are the keys for rounds 0 to n - 1, and the key for round n is stored at
+-- index n, then entries 0 to n are the keys for rounds 0 to n.
 pub round_keys_more : (keys : List (List ℕ)) (key next : List ℕ) (n : ℕ) → 1 ≤ n → n < length keys
     → ((k : ℕ) → k < n → bytes_of (slice_index_or keys k []) ≡ round_key key k)
     → bytes_of next ≡ next_round_key n (bytes_of (slice_index_or keys (n - 1) []))

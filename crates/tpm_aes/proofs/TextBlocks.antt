@@ -1,4 +1,4 @@
--- Texts that are replaced block by block, from the start.
+-- Replacing the blocks of a text one after another, from the start.
 use Rattle.std.proofs.Common.{◌≡◌, ℕ, zero, suc, ◌+◌, ◌-◌, ◌*◌, ◌<◌, ◌≤◌, List, [], ◌∷◌, ◌++◌, add-one, add-zero, ap, append_assoc, arith, drop, length, length-append, length-drop, min, refl, sym, take, ◌∙◌, inl, inr}
 use Rattle.std.proofs.lemmas.Bool.{cases_lt}
 use Rattle.std.proofs.lemmas.Grind.{div_ceil_times, flat_map-append}
@@ -36,7 +36,7 @@ pieces_to-suc piece n =
 pub pieces_to-add-one : (piece : ℕ → List ℕ) (n : ℕ) → pieces_to piece (n + 1) ≡ pieces_to piece n ++ piece n
 pieces_to-add-one piece n = ap (pieces_to piece) (add-one n) ∙ pieces_to-suc piece n
 
--- The blocks of a text before block i were replaced by pieces of the same sizes.
+-- The blocks of a text before block i are replaced by pieces of the same sizes.
 pub record IsDoneTo (piece : ℕ → List ℕ) (old now : List ℕ) (i : ℕ) : Type 0 where
   pub size : length now ≡ length old
   pub value : now ≡ pieces_to piece i ++ drop (16 * i) old
@@ -82,8 +82,8 @@ block_left piece old now i start end done at within stop =
     let size : end - start ≡ min 16 (length rest) = omega (arith, length-drop (16 * i) old) in
     ap (take (end - start)) left ∙ ap (λ (k : ℕ). take k rest) size ∙ take_min 16 rest
 
--- If the blocks before block i were replaced and block i is replaced by its piece, then the first i
--- + 1 blocks are replaced.
+-- If the first i blocks were replaced, and block i is then replaced by its piece, the first i + 1
+-- blocks are replaced.
 pub done_to_more : (piece : ℕ → List ℕ) (old now new part : List ℕ) (i start end : ℕ) → IsDoneTo piece old now i
     → start ≡ 16 * i → start ≤ length old → end ≡ start + min 16 (length old - start)
     → part ≡ piece i → length part ≡ end - start
@@ -124,7 +124,7 @@ length-block_at text i = length-take 16 (drop (16 * i) text) ∙ ap (min 16) (le
 pub block_count-covers : (text : List ℕ) → length text ≤ 16 * block_count text
 block_count-covers text = omega (arith, (div_ceil_times (length text) 16 (omega arith)).0)
 
--- after the last block, the whole text consists of pieces
+-- after the last block is replaced, the text is the concatenation of all pieces
 pub done_to_all : (piece : ℕ → List ℕ) (old now : List ℕ) (i : ℕ) → IsDoneTo piece old now i
     → i ≡ block_count old → now ≡ pieces_to piece (block_count old)
 done_to_all piece old now i done last =

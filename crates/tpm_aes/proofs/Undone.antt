@@ -10,7 +10,7 @@ use Rattle.tpm_aes.specs.Cipher.{aes_of, next_round_key, round_key, scheduled_wo
 
 -- ---- lengths
 
--- an XOR is as long as the first list, if the second is not shorter
+-- if the second list is not shorter than the first, their XOR is as long as the first
 length-xor_of-whole : (xs ys : List ℕ) → length xs ≤ length ys → length (xor_of xs ys) ≡ length xs
 length-xor_of-whole [] ys fits = refl
 length-xor_of-whole (x ∷ xs) [] fits = absurd (omega arith)
@@ -60,7 +60,7 @@ length-joined piece text like =
 
 -- ---- pieces and their blocks
 
--- XORing twice leaves the text unchanged
+-- XORing a list twice with the same bytes yields the list again
 xor_of-twice : (xs ys : List ℕ) → length (xor_of xs ys) ≡ length xs → xor_of (xor_of xs ys) ys ≡ xs
 xor_of-twice [] ys whole = refl
 xor_of-twice (x ∷ xs) [] whole = absurd (omega arith)
@@ -121,22 +121,23 @@ joined_again piece text other whole each =
 
 -- ---- encryption
 
--- C(i + 1) is computed from C(i)
+-- block C(i + 1) of the ciphertext is computed from C(i)
 pub cipher_block_more : (key iv text : List ℕ) (i : ℕ) → cipher_block key iv text (i + 1)
     ≡ xor_of (block_at text i) (aes_of key (cipher_block key iv text i))
 unfolding cipher_block
 cipher_block_more key iv text i = rw (add-one i) refl
 
--- C(0) is the IV
+-- block C(0), before the ciphertext, is the IV
 pub cipher_block_none : (key iv text : List ℕ) → cipher_block key iv text 0 ≡ iv
 unfolding cipher_block
 cipher_block_none key iv text = refl
 
--- piece i of a ciphertext: C(i + 1)
+-- piece i of a ciphertext: its block C(i + 1)
 abbrev pub cipher_piece : (key iv text : List ℕ) → ℕ → List ℕ
 cipher_piece key iv text i = cipher_block key iv text (i + 1)
 
--- If the blocks of a ciphertext are C(1), C(2) and so on, the block before block i is C(i).
+-- If the blocks of a ciphertext, from block 0, are C(1), C(2) and so on, the block before block i
+-- is C(i).
 block_before-cipher : (key iv text cipher : List ℕ) (i : ℕ)
     → ((j : ℕ) → j < i → block_at cipher j ≡ cipher_block key iv text (j + 1))
     → block_before iv cipher i ≡ cipher_block key iv text i

@@ -52,7 +52,7 @@ bytes-byte a small =
 abbrev pub xored_front : List ℕ → List ℕ → ℕ → List ℕ
 xored_front old other i = xor_of (take i old) (take i other) ++ drop i old
 
--- Byte i of a list whose first i bytes are XORed is still unchanged.
+-- If only the first i bytes of a list are XORed, byte i (counted from 0) is unchanged.
 get_or-xored_front : (old other : List ℕ) (i : ℕ) → i < length old → length old ≤ length other
     → slice_index_or (xored_front old other i) i 0 ≡ slice_index_or old i 0
 get_or-xored_front [] other i within fits = absurd (omega arith)

@@ -19,8 +19,8 @@ word_of block c = map (λ r. slice_index block (r + 4 * c)) (range_with_len 0 4)
 abbrev pub sub_bytes : List ℕ → List ℕ
 sub_bytes state = map sub_byte state
 
--- ShiftRows: each row r is rotated left by r columns. Its new column c is its old column c + r
--- (FIPS 197, 5.1.2)
+-- ShiftRows: each row r is rotated left by r columns. Column c of the new row is column c + r of
+-- the old row (FIPS 197, 5.1.2)
 unfoldable pub shift_rows : List ℕ → List ℕ
 shift_rows state =
     map (λ i. slice_index state (i % 4 + 4 * ((i / 4 + i % 4) % 4))) (range_with_len 0 16)

@@ -1,4 +1,4 @@
--- Words of four bytes, as numbers whose lowest byte comes first.
+-- Words of four bytes, as little-endian numbers.
 use Rattle.std.specs.Prelude.{ℕ, List}
 use Rattle.std.specs.Int.{to_le_bytes, w32}
 use Rattle.std.specs.List.{flat_map}

@@ -9,7 +9,7 @@ ghost use Rattle.tpm_aes.specs.Words.{bytes_of};
 pub(crate) type Block = [u8; 16];
 
 /// The four words of a block: the columns of a state, or the words of a round key. Byte r of a
-/// word, counted from the lowest byte, is row r of its column.
+/// word, counted from the least significant byte, is row r of its column.
 pub(crate) type Words = [u32; 4];
 
 /// The words of a block.

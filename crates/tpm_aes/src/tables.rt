@@ -33,7 +33,7 @@ fn sub_byte(a: u8) -> u8
     S_BOX[usize::from(a)]
 }
 
-/// Each single table entry matches the standard, and not only the sum of the entries for a column.
+/// Not only the sum of the entries for a column, but each single table entry matches the standard.
 /// The definition of the S-box is checked against two values that the standard prints (FIPS 197,
 /// 5.1.1, figure 7). This function is only a proof: it has no effect at run time.
 #[inline(always)]

@@ -10,8 +10,8 @@ behind front read = do
   others ← read
   Ok (front ++ others.0, others.1)
 
--- The result is the same whether an item is the last one already read or the first one still to be
--- read.
+-- Counting an item as the last one already read, or as the first one still to be read, gives the
+-- same whole list.
 pub moved : {A E : Type 0} (front : List A) (x : A) (read : Result (List A × List ℕ) E) → behind (front ++ x ∷ []) read ≡ behind front (read >>= λ others. Ok (x ∷ others.0, others.1))
 moved front x (Err e) = refl
 moved front x (Ok y) = ap (λ l. Ok (l, y.1)) (append_assoc front (x ∷ []) y.0)
@@ -19,8 +19,8 @@ moved front x (Ok y) = ap (λ l. Ok (l, y.1)) (append_assoc front (x ∷ []) y.0
 pub map_push : {X Y : Type 0} (f : X → Y) (xs : List X) (x : X) → map f (xs ++ x ∷ []) ≡ map f xs ++ f x ∷ []
 map_push f xs x = map-append f xs (x ∷ [])
 
--- After one more item is read, the items read so far, followed by those still to be read, are still
--- the whole list.
+-- Reading one more item does not change the whole list: the items already read, followed by the
+-- items still to be read.
 pub one_more : {X A E : Type 0} (view : X → A) (at : List ℕ → Result (A × List ℕ) E) (so_far : List X) (m n : ℕ) (x : X) (text rest : List ℕ) → m ≡ suc n → at text ≡ Ok (view x, rest) → behind (map view (so_far ++ x ∷ [])) (many_at at n rest) ≡ behind (map view so_far) (many_at at m text)
 one_more {X} {A} {E} view at so_far m n x text rest e is =
     let front = map view so_far in

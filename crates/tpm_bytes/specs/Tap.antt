@@ -1,4 +1,5 @@
--- A tap wraps a reader or a writer, which is called its device, and records these marks about it.
+-- A tap wraps a reader or a writer, which is called its device. Its marks record what the device
+-- did.
 use Rattle.std.specs.Prelude.{◌≡◌, ℕ, ◌+◌, ◌-◌, ◌^◌, ◌==◌, min, List, ◌++◌}
 use Rattle.std.specs.Prelude.{Bool, true, false, Option, Result, Ok, Err, if◌then◌else◌}
 use Rattle.std.specs.Io.KnownBytes.{Appends}

@@ -90,28 +90,28 @@ impl<const N: usize> Sink<N> {
         }
     }
 
-    /// Appends a byte. Fails if the sink is full.
+    /// Appends a byte. If the sink is full, appends nothing and fails.
     pub fn put_u8(&mut self, number: u8) -> Result<(), Full>
         ensures { Puts N (to_be_bytes w8 number) self.old result self.new }
     {
         self.put(&number.to_be_bytes())
     }
 
-    /// Appends a number as two bytes, big-endian. If they do not fit, appends nothing and fails.
+    /// Appends a number as two big-endian bytes. If they do not fit, appends nothing and fails.
     pub fn put_u16(&mut self, number: u16) -> Result<(), Full>
         ensures { Puts N (to_be_bytes w16 number) self.old result self.new }
     {
         self.put(&number.to_be_bytes())
     }
 
-    /// Appends a number as four bytes, big-endian. If they do not fit, appends nothing and fails.
+    /// Appends a number as four big-endian bytes. If they do not fit, appends nothing and fails.
     pub fn put_u32(&mut self, number: u32) -> Result<(), Full>
         ensures { Puts N (to_be_bytes w32 number) self.old result self.new }
     {
         self.put(&number.to_be_bytes())
     }
 
-    /// Appends a number as eight bytes, big-endian. If they do not fit, appends nothing and fails.
+    /// Appends a number as eight big-endian bytes. If they do not fit, appends nothing and fails.
     pub fn put_u64(&mut self, number: u64) -> Result<(), Full>
         ensures { Puts N (to_be_bytes w64 number) self.old result self.new }
     {
@@ -119,7 +119,7 @@ impl<const N: usize> Sink<N> {
     }
 
     /// Writes a sized buffer: the size of `bytes` as two bytes, followed by `bytes`. More than
-    /// 65,535 bytes never fit.
+    /// 65,535 bytes never fit, because of the two-byte size.
     pub fn put_sized(&mut self, bytes: &[u8]) -> Result<(), Full>
         ensures { PutsSized N bytes.now self.old result self.new }
     {
@@ -138,7 +138,7 @@ impl<const N: usize> Sink<N> {
         append(&mut self.bytes, bytes);
     }
 
-    /// Appends a byte, which has to fit.
+    /// Appends a byte, which must fit.
     pub fn append_u8(&mut self, number: u8)
         requires { length self.old + 1 ≤ N }
         ensures { self.new ≡ self.old ++ to_be_bytes w8 number }
@@ -146,7 +146,7 @@ impl<const N: usize> Sink<N> {
         self.append(&number.to_be_bytes());
     }
 
-    /// Appends a number as two bytes, big-endian, which have to fit.
+    /// Appends a number as two big-endian bytes, which must fit.
     pub fn append_u16(&mut self, number: u16)
         requires { length self.old + 2 ≤ N }
         ensures { self.new ≡ self.old ++ to_be_bytes w16 number }
@@ -154,7 +154,7 @@ impl<const N: usize> Sink<N> {
         self.append(&number.to_be_bytes());
     }
 
-    /// Appends a number as four bytes, big-endian, which have to fit.
+    /// Appends a number as four big-endian bytes, which must fit.
     pub fn append_u32(&mut self, number: u32)
         requires { length self.old + 4 ≤ N }
         ensures { self.new ≡ self.old ++ to_be_bytes w32 number }
@@ -162,7 +162,7 @@ impl<const N: usize> Sink<N> {
         self.append(&number.to_be_bytes());
     }
 
-    /// Appends a number as eight bytes, big-endian, which have to fit.
+    /// Appends a number as eight big-endian bytes, which must fit.
     pub fn append_u64(&mut self, number: u64)
         requires { length self.old + 8 ≤ N }
         ensures { self.new ≡ self.old ++ to_be_bytes w64 number }

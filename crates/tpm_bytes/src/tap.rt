@@ -9,7 +9,7 @@ ghost use Rattle.tpm_bytes.specs.Tap.{AppendsFront, after_read, after_write, dev
 use std::io;
 use std::io::{Read, Write};
 
-/// The reader or writer inside a tap failed, as the tap's marks show.
+/// The reader or writer inside a tap failed. The tap's marks record this.
 #[derive(Clone, Copy, PartialEq, Eq)]
 pub struct Failed;
 
@@ -151,7 +151,7 @@ impl<D: Write> Tap<D> {
         Ok(())
     }
 
-    /// Flushes the device's buffered bytes.
+    /// Flushes the bytes that the device has buffered.
     pub fn flush(&mut self) -> Result<(), Failed>
         ensures kept { Keeps (D.contents (device_of self.old)) (D.contents (device_of self.new)) }
         ensures unmarked { OnOk result (marks_of self.new ≡ marks_of self.old) }

@@ -36,7 +36,7 @@ facts number name part shape = record {
 abbrev pub answering : Facts → Facts
 answering shape = record shape { sized_answer = true }
 
--- the shape of a command that preserves the state that TPM2_Shutdown saved
+-- the shape of a command that, if it succeeds, preserves the state that TPM2_Shutdown saved
 abbrev pub keeping : Facts → Facts
 keeping shape = record shape { keeps_shutdown = true }
 

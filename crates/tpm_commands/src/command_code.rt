@@ -362,7 +362,8 @@ impl CommandCode {
             .count()
     }
 
-    /// The role in which the handle at this position (counted from 0) is authorized.
+    /// The role in which the handle at this position (counted from 0) is authorized, or USER if it
+    /// needs no authorization.
     pub fn role_at(self, place: usize) -> Role
         ensures { result ≡ role_at self place }
     {

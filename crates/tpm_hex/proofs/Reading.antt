@@ -1,4 +1,4 @@
--- A pair of hex digits decodes to a byte, or fails, depending on the values of its digits.
+-- Decoding a pair of hex digits yields a byte or fails, depending on the values of its digits.
 use Rattle.std.proofs.Common.{◌≡◌, ℕ, ◌+◌, ◌*◌, ◌%◌, ◌<◌, ◌≤◌, inl, inr, List, length, take, drop, max, slice_index, slice_set, unwrap_or, Option, Some, None, Ok, Err, ap, refl, sym, arith}
 use Rattle.std.proofs.lemmas.Bool.{cases_lt}
 use Rattle.hex.specs.Hex.{decode_pairs, hex_digit_value, pair_value}
@@ -6,7 +6,8 @@ use Rattle.hex.specs.declared.error.FromHexError.{FromHexError}
 use Rattle.hex.specs.declared.error.FromHexError.TheVariants.{InvalidHexCharacter}
 use Rattle.hex.proofs.Pairs.{decode_err, decode_step, prepend}
 
--- The pairs before index `place` have been decoded.
+-- If the largest digit value so far is below 16, the pairs before index `place` decode to the first
+-- bytes. Otherwise decoding fails.
 abbrev pub PairsTellSoFar : List ℕ → (largest : ℕ) → (place : ℕ) → (bytes : List ℕ) → Type 0
 PairsTellSoFar digits largest place bytes =
     (largest < 16 → decode_pairs 0 digits
@@ -28,7 +29,7 @@ digits_write : (first second high low index : ℕ)
 digits_write first second high low index e f small small' =
     rw (e, f) (ap Ok (omega (arith, small, small')))
 
--- If one byte of a pair is not a digit, decoding the pair fails at that byte.
+-- Decoding a pair of digits fails at the first byte that is not a digit.
 first_is_bad : (first second index : ℕ) → hex_digit_value first ≡ None
     → pair_value first second index ≡ Err (InvalidHexCharacter first index)
 first_is_bad first second index e = rw e refl
@@ -50,8 +51,8 @@ pair_is_bad first second high low index e f large =
       | inr not_small ↦ (_, first_is_bad first second index (large_is_none first high e not_small))
     ]
 
--- If the pairs before `place` were decoded and the next pair is decoded, then all pairs up to it
--- were decoded.
+-- If `PairsTellSoFar` holds for the pairs before `place`, it also holds after the next pair is
+-- decoded.
 pub pair_read : (digits bytes : List ℕ) (largest place high low next : ℕ)
     → 2 * place + 1 < length digits → place < length bytes
     → high ≡ unwrap_or (hex_digit_value (slice_index digits (2 * place))) 255

@@ -3,14 +3,14 @@ use Rattle.std.specs.Prelude.{ℕ, ◌<◌, ◌*◌, ◌^◌, false}
 use Rattle.tpm_lockout.specs.declared.fields.LockoutFields.{LockoutFields}
 
 -- the lockout state. The fields survive a power cycle: failedTries, the parameters of the
--- protection, and whether lockoutAuth is disabled. The times, in milliseconds, count towards
+-- protection, and whether lockoutAuth is disabled. The two times, in milliseconds, count towards
 -- forgiving the next failed try and towards enabling lockoutAuth again
 pub record LockoutState : Type 0 where
   pub fields : LockoutFields
   pub forgiving_time : ℕ
   pub closed_time : ℕ
 
--- this number of seconds in milliseconds
+-- this number of seconds, converted to milliseconds
 abbrev pub milliseconds : ℕ → ℕ
 milliseconds seconds = 1000 * seconds
 
@@ -47,8 +47,8 @@ with_parameters max_tries recovery_time lockout_recovery s = restored (record s.
   lockout_recovery = lockout_recovery;
 })
 
--- The conditions that every lockout state satisfies: each number fits its integer type, and each
--- time, counted in milliseconds, is less than 2^32 seconds.
+-- The conditions that every lockout state satisfies: each number fits its integer type, and each of
+-- the two times is less than 2^32 seconds.
 pub record IsLockout (s : LockoutState) : Type 0 where
   pub failed_tries : s.fields.failed_tries < 2 ^ 32
   pub max_tries : s.fields.max_tries < 2 ^ 32

@@ -20,8 +20,8 @@ closed_by_failure s =
 abbrev pub opens_by_time : LockoutFields → Bool
 opens_by_time f = f.closed && not (f.lockout_recovery == 0)
 
--- the lockout state once lockoutAuth has been disabled for this time: it is enabled again if
--- lockoutRecovery has passed
+-- the lockout state when lockoutAuth has been disabled for this time. If lockoutRecovery has
+-- passed, lockoutAuth is enabled again
 abbrev pub opened_at : (time : ℕ) → LockoutState → LockoutState
 opened_at time s =
     if nat_le (milliseconds s.fields.lockout_recovery) time

@@ -1,7 +1,7 @@
 -- Failed tries: how they are counted, when they lock out the protected entities, and how they are
 -- forgiven. TPM 2.0 Library, Part 1, section 19.8 (failedTries, maxTries, recoveryTime). Two rules
--- are this device's own. With a recoveryTime of 0, no failed try counts or locks out anything. With
--- any other recoveryTime, a maxTries of 0 locks out all protected entities.
+-- are choices of this implementation. With a recoveryTime of 0, no failed try counts or locks out
+-- anything. With any other recoveryTime, a maxTries of 0 locks out all protected entities.
 use Rattle.std.specs.Prelude.{ℕ, ◌+◌, ◌-◌, ◌/◌, ◌%◌, ◌==◌, ◌&&◌, ◌||◌, not, nat_le, Bool, if◌then◌else◌}
 use Rattle.tpm_lockout.specs.Lockout.{LockoutState, milliseconds}
 use Rattle.tpm_lockout.specs.declared.fields.LockoutFields.{LockoutFields}
@@ -17,21 +17,23 @@ is_locked f = counts_tries f && nat_le f.max_tries f.failed_tries
 abbrev pub with_tries : ℕ → LockoutState → LockoutState
 with_tries tries s = record s { fields = record s.fields { failed_tries = tries } }
 
--- the lockout state after a failed try: it is counted, and the time until a failed try is forgiven
--- restarts. Nothing changes if failed tries are not counted, or if the entities are locked out
+-- the lockout state after a failed try: failedTries is incremented, and the time until a failed try
+-- is forgiven restarts. Nothing changes if failed tries are not counted, or if the protected
+-- entities are locked out
 unfoldable pub after_failure : LockoutState → LockoutState
 after_failure s =
     if counts_tries s.fields && not (is_locked s.fields)
     then record (with_tries (s.fields.failed_tries + 1) s) { forgiving_time = 0 }
     else s
 
--- the number of failed tries left after this time: each full recoveryTime forgives one, until there
--- are none
+-- the number of failed tries left after this time: each full recoveryTime forgives one, down to
+-- zero
 abbrev pub tries_left : LockoutFields → (time : ℕ) → ℕ
 tries_left f time = f.failed_tries - time / milliseconds f.recovery_time
 
--- the lockout state after this time counted towards forgiving failed tries: each full recoveryTime
--- forgives one, and the remaining time counts towards forgiving the next one, if any is left
+-- the lockout state when this time has counted towards forgiving failed tries: each full
+-- recoveryTime forgives one. If any are left, the remaining time counts towards forgiving the next
+-- one
 abbrev pub forgiven_at : (time : ℕ) → LockoutState → LockoutState
 forgiven_at time s =
     let left = tries_left s.fields time in

@@ -13,7 +13,7 @@ pub struct LockoutFields {
     /// With 0, failed tries are not counted and lock out nothing.
     pub recovery_time: u32,
     /// The number of seconds for which a failed attempt to authorize with lockoutAuth disables it
-    /// (TPM_PT_LOCKOUT_RECOVERY). With 0, it stays disabled until a TPM Reset.
+    /// (TPM_PT_LOCKOUT_RECOVERY). With 0, lockoutAuth stays disabled until a TPM Reset.
     pub lockout_recovery: u32,
     /// Whether lockoutAuth is disabled.
     pub closed: bool,

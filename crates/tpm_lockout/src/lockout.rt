@@ -11,7 +11,8 @@ ghost use Rattle.tpm_lockout.specs.Tries.{after_failure, forgiven_after, is_lock
 use crate::fields::LockoutFields;
 use std::marker::Model;
 
-/// Dictionary attack protection: its fields and two times. Contracts represent it by these.
+/// Dictionary attack protection: its fields and two times. Contracts represent it by a
+/// `LockoutState`.
 #[derive(Drop)]
 pub struct Lockout {
     fields: LockoutFields,
@@ -35,7 +36,7 @@ impl Model for Lockout {
     } };
 }
 
-/// This number of seconds in milliseconds.
+/// This number of seconds, converted to milliseconds.
 fn milliseconds(seconds: u32) -> u64
     ensures { result ≡ milliseconds seconds }
 {
@@ -106,7 +107,7 @@ impl Lockout {
         self.closed_time
     }
 
-    /// The part that survives a power cycle.
+    /// The fields, which survive a power cycle.
     pub fn fields(&self) -> LockoutFields
         ensures value { result ≡ self.now.fields }
         // Each field and each time is within its range.

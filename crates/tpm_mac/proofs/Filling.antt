@@ -1,4 +1,4 @@
--- A list is filled from its start, byte by byte or block by block.
+-- Filling a list from its start, byte by byte or block by block.
 use Rattle.std.proofs.Common.{◌≡◌, ℕ, zero, suc, ◌+◌, ◌-◌, ◌<◌, ◌≤◌, List, [], ◌∷◌, ◌++◌, add-zero, ap, append_assoc, arith, bit_xor, drop, length, length-append, length-drop, refl, replicate, slice_index_or, slice_set, sym, take, ◌∙◌, inl, inr}
 use Rattle.std.proofs.lemmas.Bool.{cases_lt}
 use Rattle.std.proofs.lemmas.Grind.{get_or_default_zero}
@@ -28,8 +28,8 @@ masked_more key bytes pad i within so_far =
     map_over_more (λ (x : ℕ). bit_xor x pad) key bytes i byte within so_far
     (sym (get_or_default_zero bytes i byte (omega arith)))
 
--- If nothing follows a truncated block, then the start of the list, up to the size of the whole
--- block, is the truncated block.
+-- A list starts with a block, which is truncated only if nothing follows it. Then the first bytes
+-- of the list, up to the size of the whole block, are the block as it was written.
 take-cut_block : (block rest : List ℕ) (room : ℕ) → (room < length block → rest ≡ [])
     → take (length block) (take room block ++ rest) ≡ take room block
 take-cut_block block rest room none =
@@ -38,8 +38,8 @@ take-cut_block block rest room none =
       | inr fits ↦ rw (take_all room block fits) (take_at block rest (length block) refl)
     ]
 
--- If a block is written after some bytes, truncated to fit, then the list starts with these bytes
--- and the block.
+-- If a block is written after some bytes, truncated if it does not fit, then the list starts with
+-- these bytes and the block.
 pub take-block_written : (old before block : List ℕ) → length before ≤ length old
     → take (length before + length block)
     (before ++ take (length old - length before) block ++ drop (length before + length block) old)

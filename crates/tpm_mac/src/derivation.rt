@@ -63,7 +63,7 @@ fn take_text(
     mac.update(bits);
 }
 
-/// Writes the block at `start`, truncated to the end of `out`.
+/// Writes the block to `out` at `start`. Bytes past the end of `out` are dropped.
 fn write_front(out: &mut [u8], start: usize, block: &[u8])
     requires { start ≤ length out.old }
     ensures { out.new ≡ take start out.old ++ take (length out.old - start) block.now

@@ -11,8 +11,8 @@ use arrayvec::ArrayVec;
 use sha1::Sha1;
 use sha2::{Digest as _, Sha256};
 
-/// A hash in progress. Its state is that of the hash crate, which copies no bytes of the message
-/// except those of an incomplete block.
+/// A hash in progress. Its state is that of the hash crate, which copies only the bytes of an
+/// incomplete block.
 #[derive(Drop)]
 pub struct Hasher {
     state: State,

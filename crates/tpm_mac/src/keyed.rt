@@ -1,5 +1,5 @@
-//! Computes HMACs. If the key and the algorithm are the same as before, the key is not masked and
-//! hashed again.
+//! Computes HMACs. If the key and the algorithm are those of the previous HMAC, the key is not
+//! masked and hashed again.
 
 ghost use Rattle.std.specs.Prelude.{◌≡◌, length};
 ghost use Rattle.tpm_mac.specs.Digest.{digest_size, joined_text};
@@ -12,8 +12,8 @@ use arrayvec::ArrayVec;
 use std::marker::Model;
 
 /// An HMAC that was fed no text yet, and its key. The next HMAC with the same key starts from a
-/// copy, which saves hashing both blocks of the key. The contracts do not mention the stored key,
-/// because it does not change the result of any HMAC.
+/// copy of it, which saves hashing both blocks of the key. The contracts do not mention the stored
+/// key, because it does not change the result of any HMAC.
 #[derive(Drop)]
 pub struct KeyedMac {
     alg: HashAlg,
@@ -33,7 +33,7 @@ impl Model for KeyedMac {
 }
 
 impl KeyedMac {
-    /// An HMAC with the empty key.
+    /// An HMAC with SHA-256 and the empty key.
     pub fn new() -> KeyedMac {
         KeyedMac {
             alg: HashAlg::Sha256,

@@ -98,7 +98,7 @@ pub fn decimal(digits: &[u8]) -> Option<u32>
     }
 }
 
-/// Returns the locality with this decimal number, if it is 0 to 4.
+/// Returns the locality with this decimal number, or None if it is not 0 to 4.
 pub fn locality(digits: &[u8]) -> Option<Locality>
     ensures { option_map locality_number result
         ≡ option_and_then locality_of (decimal_of digits.now) }
