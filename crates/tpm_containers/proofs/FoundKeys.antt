@@ -1,5 +1,5 @@
--- How the value found by each key changes when a value is changed or removed, when only some values
--- are kept, or when all values are changed.
+-- How changes of a map affect the value found by each key: a value is changed or removed, only some
+-- values are kept, or all values are changed.
 use Rattle.std.proofs.Common.{◌≡◌, ◌⊎◌, ℕ, Bool, true, false, cond, [], ◌∷◌, map, Option, Some, None, option_map, ◌==◌, refl, sym, ap, ◌∙◌, inl, inr}
 use Rattle.std.proofs.lemmas.Bool.{cases_Bool, cases_eq}
 use Rattle.tpm_containers.specs.IsSortedMap.{IsSortedMap}
@@ -30,8 +30,8 @@ module _ {X : Type 0} where
             | inr bad ↦ inr (laws.kept_gone stays es key x up there bad)
           ]
 
-  -- if a value changes but a view of it does not, then the view of the value found by any key does
-  -- not change
+  -- if a change of a value does not change `shown` of it, then `shown` of the value found by any
+  -- key does not change
   pub changed_shows : {V : Type 0} (shown : X → V) (es : Entries X) (key : ℕ) (old new : X) → at_key es key ≡ Some old → shown new ≡ shown old → (other : ℕ) → option_map shown (at_key (changed_key es key new) other) ≡ option_map shown (at_key es other)
   changed_shows {V} shown es key old new there same other =
       elim (cases_eq other key) [

@@ -20,7 +20,7 @@ module _ {X : Type 0} where
   abbrev has : ℕ → ℕ × X → Bool
   has key e = e.0 == key
 
-  -- whether an entry's key is at least this one
+  -- whether an entry's key is at least this key
   abbrev is_from : ℕ → ℕ × X → Bool
   is_from key e = nat_le key e.0
 
@@ -64,7 +64,7 @@ module _ {X : Type 0} where
 
   -- ---- changes at the index of a key
 
-  -- The index is in the list, and its entry is the first one that passes a test.
+  -- Index i is in the list, and the entry there is the first one that passes a test.
   abbrev IsFirst : (ℕ × X → Bool) → Entries X → ℕ → ℕ × X → Type 0
   IsFirst test es i d =
       (i < length es) × (test (get_or es i d) ≡ true) × ((k : ℕ) → k < i → test (get_or es k d) ≡ false)

@@ -1,4 +1,4 @@
--- In slots that are stored in a growing list, the slots past the list's end are free.
+-- If slots are stored in a growing list, the slots past the end of the list are free.
 use Rattle.std.proofs.Common.{◌≡◌, ℕ, zero, suc, ◌+◌, ◌-◌, ◌<◌, ◌≤◌, Bool, true, false, cond, ltb, List, [], ◌∷◌, ◌++◌, length, get_or, Option, Some, None, slice_set, is_none, refl, sym, ap, ◌∙◌, arith}
 use Rattle.std.specs.List.{position, position_or_len}
 use Rattle.std.proofs.lemmas.Bool.{lt-ltb, ltb-false, ltb-true}
@@ -124,7 +124,7 @@ padded-grown most cells few = padded-push most cells None few ∙ padded-clear m
 
 -- ---- reading cells and writing them back
 
--- A cell that is read has the content of its slot.
+-- Reading a cell of the list yields the content of its slot.
 pub at_place-read : {X : Type 0} (cells : Cells X) (place : ℕ) (cell d : Option X) → place < length cells → get_or cells place d ≡ cell → at_place cells place ≡ cell
 at_place-read [] place cell d below is = absurd (omega arith)
 at_place-read (first ∷ cells) zero cell d below is = is

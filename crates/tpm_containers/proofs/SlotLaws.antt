@@ -61,7 +61,7 @@ all_taken places place is below =
 
 -- ---- the lowest free slot in a list that grows
 
--- the lowest free slot is one of the list's cells, or the first one past its end
+-- the lowest free slot is a cell of the list, or the first slot past the end of the list
 pub free_within : {X : Type 0} (most : ℕ) (cells : List (Option X)) (place : ℕ) → lowest_free (padded_to most cells) ≡ Some place → place ≤ length cells
 free_within most cells place is =
     elim (cases_lt (length cells) place) [

@@ -1,6 +1,6 @@
 -- Entries in ascending order of key form a map. These lemmas say which values are found after a
--- value is inserted, removed or changed, or after a choice keeps only some values. They also say
--- that the keys still ascend, how many keys there are, and which key is next.
+-- value is inserted, removed or changed, or after only some values are kept. They also say that the
+-- keys still ascend, how many keys there are, and which is the lowest key from a given key on.
 use Rattle.std.proofs.Common.{◌≡◌, ◌≢◌, ℕ, ◌<◌, ◌≤◌, ◌+◌, ◌⊎◌, Bool, false, true, cond, eqb, leb, [], ◌∷◌, length, Option, Some, None, is_some, refl, sym, ap, subst, ◌∙◌, arith, inl, inr}
 use Rattle.std.proofs.lemmas.Bool.{cases_eq, cases_lt, cond_both, cond-true, cond-false, eq-eqb, ne_eqb, eqb-true, leb-true, leb-false}
 use Rattle.tpm_containers.specs.SortedMap.{AllAbove, AreEach, Ascends, Entries, at_key, changed_key, kept_entries, key_from, with_key, without_key}
@@ -255,7 +255,7 @@ module _ {X : Type 0} where
 
   -- ---- the next key
 
-  -- the next key is the first one, or the next key of the rest
+  -- the lowest key that is at least `key` is the first key, or that of the rest
   from_first : (e : ℕ × X) (es : Entries X) (key : ℕ) (o : Option ℕ) → key_from (e ∷ es) key ≡ o → ((key ≤ e.0) × (Some e.0 ≡ o)) ⊎ ((e.0 < key) × (key_from es key ≡ o))
   from_first e es key o =
       cond_both (leb key e.0) _ _ (λ v. v ≡ o → ((key ≤ e.0) × (Some e.0 ≡ o)) ⊎ ((e.0 < key) × (key_from es key ≡ o)))

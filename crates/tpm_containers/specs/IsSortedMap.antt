@@ -2,7 +2,7 @@
 use Rattle.std.specs.Prelude.{◌≡◌, ◌≢◌, ℕ, ◌+◌, ◌<◌, ◌≤◌, Bool, false, true, length, Some, None, is_some}
 use Rattle.tpm_containers.specs.SortedMap.{Ascends, Entries, at_key, changed_key, kept_entries, key_from, with_key, without_key}
 
--- Ascending keys with values of this type form a map.
+-- Entries with ascending keys, and values of this type, form a map.
 pub record IsSortedMap (X : Type 0) : Type 0 where
   -- a value that is inserted under a free key is found by that key, and the other values are
   -- unchanged
@@ -44,7 +44,7 @@ pub record IsSortedMap (X : Type 0) : Type 0 where
       → Ascends (changed_key entries key x)
   pub changed_length : (entries : Entries X) (key : ℕ) (x : X)
       → length (changed_key entries key x) ≡ length entries
-  -- a choice leaves the values that it keeps unchanged, removes all others, and adds no value
+  -- keeping only some values leaves these unchanged, removes all others, and adds no value
   pub kept_found : (stays : X → Bool) (entries : Entries X) (key : ℕ) (x : X)
       → at_key entries key ≡ Some x → stays x ≡ true
       → at_key (kept_entries stays entries) key ≡ Some x
@@ -53,19 +53,20 @@ pub record IsSortedMap (X : Type 0) : Type 0 where
       → at_key (kept_entries stays entries) key ≡ None
   pub kept_absent : (stays : X → Bool) (entries : Entries X) (key : ℕ) → at_key entries key ≡ None
       → at_key (kept_entries stays entries) key ≡ None
-  -- after a choice keeps some values, the keys still ascend, and their number has not grown
+  -- after only some values are kept, the keys still ascend, and their number has not grown
   pub kept_ascends : (stays : X → Bool) (entries : Entries X) → Ascends entries
       → Ascends (kept_entries stays entries)
   pub kept_few : (stays : X → Bool) (entries : Entries X)
       → length (kept_entries stays entries) ≤ length entries
-  -- the next key for `key` is in the map and is at least `key`, and no key in between is in the map
+  -- `next`, the lowest key that is at least `key`, is in the map, and no key in between is in the
+  -- map
   pub next_there : (entries : Entries X) (key next : ℕ) → key_from entries key ≡ Some next
       → is_some (at_key entries next) ≡ true
   pub next_from : (entries : Entries X) (key next : ℕ) → key_from entries key ≡ Some next
       → key ≤ next
   pub next_lowest : (entries : Entries X) (key next other : ℕ) → Ascends entries
       → key_from entries key ≡ Some next → key ≤ other → other < next → at_key entries other ≡ None
-  -- if there is no next key for `key`, no key in the map is at least `key`
+  -- if `key_from` returns None for `key`, no key in the map is at least `key`
   pub next_none : (entries : Entries X) (key other : ℕ) → key_from entries key ≡ None → key ≤ other
       → at_key entries other ≡ None
   -- two lists of entries are equal if each key has the same value in both

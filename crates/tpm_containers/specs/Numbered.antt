@@ -1,5 +1,6 @@
--- Slots as a map keyed by number. The three lower bytes of a number identify a slot, and its
--- highest byte is the kind of the value there. A number of another kind does not find the value.
+-- Slots as a map keyed by number. The three least significant bytes of a number identify a slot,
+-- and its most significant byte is the kind of the value there. A number of another kind does not
+-- find the value.
 use Rattle.std.specs.Prelude.{◌≡◌, ◌≢◌, ℕ, ◌+◌, ◌*◌, ◌/◌, ◌%◌, ◌^◌, ◌==◌, ◌<◌, is_some, List, length, Option, Some, None, option_and_then, if◌then◌else◌, slice_set}
 use Rattle.std.specs.Option.{option_map_or}
 use Rattle.tpm_containers.specs.Slots.{at_place, lowest_free, taken_count}
@@ -22,7 +23,7 @@ module _ {X : Type 0} where
   at_number kind places number =
       option_and_then (if_of_kind kind number) (at_place places (place_of number))
 
-  -- the slots without the value that a number finds
+  -- the slots after the value that a number finds, if there is one, was removed
   unfoldable pub without_number : (X → ℕ) → List (Option X) → ℕ → List (Option X)
   without_number kind places number =
       if is_some (at_number kind places number) then slice_set places (place_of number) None else places
@@ -70,8 +71,8 @@ module _ {X : Type 0} where
     pub changed_others : (change : X → X) → ((x : X) → kind (change x) ≡ kind x)
         → (places : List (Option X)) (number other : ℕ) → other ≢ number
         → at_number kind (changed_at kind change places number) other ≡ at_number kind places other
-    -- the number of taken slots increases by one when a value is put in, decreases by one when a
-    -- value is removed, and stays the same when a value is changed
+    -- the number of taken slots increases by one when a value is put into a free slot, decreases by
+    -- one when a value is removed, and stays the same when a value is changed
     pub put_taken : (places : List (Option X)) (place : ℕ) (x : X)
         → lowest_free places ≡ Some place
         → taken_count (slice_set places place (Some x)) ≡ taken_count places + 1

@@ -3,7 +3,7 @@ use Rattle.std.specs.Prelude.{◌≡◌, ℕ, ◌==◌, ◌<◌, ◌≤◌, nat_
 use Rattle.tpm_containers.specs.declared.sorted_map.KeyFault.{KeyFault}
 use Rattle.tpm_containers.specs.declared.sorted_map.KeyFault.TheVariants.{Taken, Full, NoMemory}
 
--- entries: keys, each with its value
+-- entries, each of which is a key with its value
 abbrev pub Entries : Type 0 → Type 0
 Entries X = List (ℕ × X)
 
@@ -13,7 +13,7 @@ module _ {X : Type 0} where
   at_key [] key = None
   at_key (e ∷ es) key = if e.0 == key then Some e.1 else at_key es key
 
-  -- the first key that is at least `key`. Because the keys ascend, it is also the lowest of them
+  -- the first key that is at least `key`, which is also the lowest one because the keys ascend
   abbrev pub key_from : Entries X → ℕ → Option ℕ
   key_from [] key = None
   key_from (e ∷ es) key = if nat_le key e.0 then Some e.0 else key_from es key
@@ -33,11 +33,11 @@ module _ {X : Type 0} where
   without_key [] key = []
   without_key (e ∷ es) key = if e.0 == key then es else e ∷ without_key es key
 
-  -- the entries whose values the choice keeps
+  -- the entries whose values pass the test `stays`
   abbrev pub kept_entries : (X → Bool) → Entries X → Entries X
   kept_entries stays entries = filter (λ e. stays e.1) entries
 
-  -- Each key of these entries is above this one.
+  -- Each key of these entries is greater than `key`.
   abbrev pub AllAbove : ℕ → Entries X → Type 0
   AllAbove key [] = Unit {0}
   AllAbove key (e ∷ es) = (key < e.0) × AllAbove key es

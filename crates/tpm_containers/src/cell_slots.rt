@@ -9,7 +9,8 @@ use std::alloc::Global;
 use std::marker::{Model, PhantomData};
 
 /// `N` slots, numbered from 0. Only the slots up to the highest one used since the last `clear`
-/// have cells. Contracts represent the slots by a list of all of them, each free or with its value.
+/// have cells. Contracts represent the slots by a list of all `N`, each of which is free or
+/// contains a value.
 #[derive(Drop)]
 pub struct CellSlots<T: Drop, C: Items<N, Item = Option<T>>, const N: usize> {
     cells: C,

@@ -1,5 +1,5 @@
-//! Defines the trait of an ordered sequence with at most a fixed number of items, and the trait of
-//! a choice of the items to keep when others are removed.
+//! Defines two traits: an ordered sequence with a limited number of items, and a choice of the
+//! items to keep when others are removed.
 
 ghost use Rattle.std.specs.Prelude.{◌≡◌, ◌<◌, ◌≤◌, ℕ, [], Bool, IfNone, IfSome, List, OnErr, OnOk, filter, insert, length, remove, slice_index_or, slice_set, take, true};
 ghost use Rattle.std.specs.Borrow.{Array, Lends, LendsIf, sem};
@@ -75,7 +75,8 @@ pub trait Items<const N: usize>: Drop + Sized {
     fn truncate(&mut self, count: usize)
         ensures { items self.new ≡ take count (items self.old) };
 
-    /// After an item is written through its mutable reference, it is at its position.
+    /// After an item is written through the mutable reference to a position, it is at that
+    /// position.
     ghost written: { (all : Self) (place : ℕ) (item : Self.Item)
         → items (with_item all place item) ≡ slice_set (items all) place item };
 

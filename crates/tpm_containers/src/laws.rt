@@ -1,13 +1,14 @@
-//! Laws which show that ascending keys with their values form a map.
+//! Laws that show that entries with ascending keys form a map.
 
 ghost use Rattle.std.specs.Prelude.{◌≡◌, ◌⊎◌, ℕ, Bool, None, Some, map, option_map};
 ghost use Rattle.tpm_containers.specs.IsSortedMap.{IsSortedMap};
 ghost use Rattle.tpm_containers.specs.SortedMap.{Ascends, Entries, at_key, changed_key};
 ghost use Rattle.tpm_containers.specs.SortedMap.{kept_entries, without_key};
 
-/// Ascending keys with their values form a map. The laws say which values are found after a key was
+/// Entries with ascending keys form a map. The laws say which values are found after a key was
 /// inserted, removed or changed. They also say that the keys still ascend, how many there are, and
-/// which key is next. This function is only a proof: it has no effect at run time.
+/// which is the lowest key from a given key on. This function is only a proof: it has no effect at
+/// run time.
 #[inline(always)]
 #[tactic(auto, using(crate::proofs::SortedMapLaws::is_map))]
 pub fn sorted_map_laws<T>()
@@ -15,9 +16,10 @@ pub fn sorted_map_laws<T>()
 {}
 
 /// How a change of the map affects the value found by each key. If a key is removed, or only some
-/// values are kept, each value is unchanged or removed. If a value changes but a view of it does
-/// not, the view of the value found by any key does not change. If all values change, each key
-/// finds the changed value. This function is only a proof: it has no effect at run time.
+/// values are kept, each value is unchanged or removed. If a change of a value does not change a
+/// function of it, such as a view, then that function of the value found by any key does not
+/// change. If all values change, each key finds the changed value. This function is only a proof:
+/// it has no effect at run time.
 #[inline(always)]
 #[tactic(auto, using(crate::proofs::FoundKeys::removed_or_same, crate::proofs::FoundKeys::kept_or_gone, crate::proofs::FoundKeys::changed_shows, crate::proofs::FoundKeys::all_changed_found))]
 pub fn found_laws<T, V>()

@@ -1,4 +1,4 @@
-//! Searches in entries that are in ascending order of key. Both maps share this code.
+//! Searches in entries that are in ascending order of key. Both types of map share this code.
 
 ghost use Rattle.std.specs.Prelude.{◌≡◌, ◌<◌, ◌≤◌, ◌==◌, ℕ, IfNone, IfSome, Some, insert, is_some, length, nat_le, option_copied, position, remove, slice_index_or, slice_set};
 ghost use Rattle.tpm_containers.specs.SortedMap.{at_key, changed_key, key_from, with_key, without_key};

@@ -1,5 +1,5 @@
 //! Finds values in slots by number. A number consists of a kind and a slot, like a handle of a TPM.
-//! Laws show that this is a map.
+//! The laws in this file show that this is a map.
 
 ghost use Rattle.std.specs.Prelude.{◌≡◌, ◌<◌, ◌⊎◌, ℕ, List, None, Option, is_some, length, option_copied};
 ghost use Rattle.std.specs.Borrow.{LendsIf, sem};
@@ -9,7 +9,8 @@ ghost use Rattle.tpm_containers.specs.Slots.{AreAll, free};
 
 use crate::slots::Slots;
 
-/// A value that only numbers of its kind can find. The kind is the highest byte of a number.
+/// A value that only numbers of its kind can find. The kind is the most significant byte of a
+/// number.
 pub trait Kinded: Drop {
     ghost kind: { Self → ℕ };
 

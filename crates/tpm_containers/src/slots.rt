@@ -17,8 +17,8 @@ pub enum SlotFault {
     NoMemory,
 }
 
-/// `N` slots for values, numbered from 0. Contracts represent them by a list of the slots, each
-/// free or with its value.
+/// `N` slots for values, numbered from 0. Contracts represent them by a list of the slots, each of
+/// which is free or contains a value.
 pub trait Slots<T: Drop, const N: usize>: Drop + Sized {
     /// The slots.
     ghost places: { Self → List (Option T) };

@@ -47,7 +47,7 @@ pub trait SortedMap<T: Drop, const N: usize>: Drop + Sized {
     /// The value of a key, or None.
     fn get(&self, key: u32) -> Option<&T>
         ensures value { option_copied result ≡ at_key (entries self.now) key }
-        // The keys always ascend, and there are never more than `N`.
+        // The keys always ascend, and there are at most `N` of them.
         ensures ascends { Ascends (entries self.now) }
         ensures few { length (entries self.now) ≤ N };
 
@@ -79,7 +79,8 @@ pub trait SortedMap<T: Drop, const N: usize>: Drop + Sized {
     fn clear(&mut self)
         ensures { entries self.new ≡ [] };
 
-    /// After a value is written through a mutable reference, it is the value of its key.
+    /// After a value is written through the mutable reference for a key, it is the value of that
+    /// key.
     ghost written: { (map : Self) (key : ℕ) (value : T)
         → entries (with_value map key value) ≡ changed_key (entries map) key value };
 }
