@@ -10,7 +10,7 @@ use Rattle.tpm_aes.specs.Field.{times_power}
 use Rattle.tpm_aes.specs.Words.{bytes_of}
 use Rattle.tpm_aes.specs.declared.key_schedule.TheConstants.{ROUND_CONSTANTS}
 
--- the column whose row r is row r of the r-th of these four columns, counted from 0
+-- the column with row 0 of a, row 1 of b, row 2 of c and row 3 of d
 abbrev pub shifted_column : (a b c d : List ℕ) → List ℕ
 shifted_column a b c d =
     slice_index_or a 0 0 ∷ slice_index_or b 1 0 ∷ slice_index_or c 2 0 ∷ slice_index_or d 3 0 ∷ []

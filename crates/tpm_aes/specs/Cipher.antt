@@ -5,7 +5,7 @@ use Rattle.std.specs.Prelude.{List, [], ◌∷◌, ◌++◌, map, slice_index}
 use Rattle.std.specs.List.{flat_map, range_with_len}
 use Rattle.tpm_aes.specs.Field.{sub_byte, times, times_power}
 
--- the bytewise XOR of two lists, up to the shorter size (FIPS 197, 5.1.4, AddRoundKey)
+-- the bytewise XOR of two lists, up to the end of the shorter one (FIPS 197, 5.1.4, AddRoundKey)
 abbrev pub xor_of : List ℕ → List ℕ → List ℕ
 xor_of [] ys = []
 xor_of (x ∷ xs) [] = []
@@ -46,7 +46,7 @@ abbrev pub rot_word : List ℕ → List ℕ
 rot_word word =
     slice_index word 1 ∷ slice_index word 2 ∷ slice_index word 3 ∷ slice_index word 0 ∷ []
 
--- SubWord(RotWord(w)) xor Rcon[n], for the last word w of the round key before round n (FIPS 197,
+-- SubWord(RotWord(w)) xor Rcon[n], where w is the last word of the key for round n - 1 (FIPS 197,
 -- 5.2)
 unfoldable pub scheduled_word : ℕ → List ℕ → List ℕ
 scheduled_word n word =

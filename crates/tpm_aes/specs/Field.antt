@@ -24,8 +24,8 @@ times_terms a b (suc n) = bit_xor (times_terms a b n) (bit_at b n * times_power 
 abbrev pub times : ℕ → ℕ → ℕ
 times a b = times_terms a b 8
 
--- the inverse of a: the b for which a times b = 1. It is 0 if there is none, which is the case only
--- for 0 (FIPS 197, 4.2 and 5.1.1)
+-- the inverse of a: the b for which a times b is 1. Only 0 has no inverse; its result is 0 (FIPS
+-- 197, 4.2 and 5.1.1)
 unfoldable pub inverse : ℕ → ℕ
 inverse a = unwrap_or (find (λ b. times a b == 1) (range_with_len 0 256)) 0
 

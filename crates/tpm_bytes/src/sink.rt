@@ -11,7 +11,7 @@ use crate::copy::append;
 use arrayvec::ArrayVec;
 use std::marker::Model;
 
-/// The fault of a write that does not fit.
+/// The fault of a write whose bytes do not fit.
 #[derive(Clone, Copy, PartialEq, Eq)]
 pub struct Full;
 

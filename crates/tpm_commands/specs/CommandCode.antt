@@ -1,4 +1,4 @@
--- The facts about a command: its number, its name, and the use of its handles and of its first
+-- The facts about a command: its number, its name, and how it uses its handles and its first
 -- parameter. TPM 2.0 Library, Part 2, section 6.5.2 (TPM_CC), and Part 3.
 use Rattle.std.specs.Prelude.{ℕ, ◌==◌, nat_eq, is_some, count_by, Bool, true, false, List, [], ◌∷◌, length, Option, slice_get}
 use Rattle.std.specs.Cmp.Lexicographic.{pointwise}

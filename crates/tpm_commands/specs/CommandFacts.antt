@@ -57,7 +57,7 @@ without_sessions shape = record shape { forbids_sessions = true }
 abbrev pub making : Facts → Facts
 making shape = record shape { sized_answer = true; answers_handle = true; grows = true }
 
--- the shape of a command whose only handle names an object, authorized in the role USER, and whose
+-- the shape of a command whose only handle names an object and is authorized in the role USER. Its
 -- answer starts with a sized buffer
 abbrev pub on_object : List ParameterKind → Facts
 on_object parameters = answering (shape_with (user kind.Object ∷ []) parameters)
@@ -87,8 +87,8 @@ on_read_nv parameters = reading (on_nv parameters)
 abbrev pub start_handles : List HandleRule
 start_handles = unauthorized kind.Null ∷ unauthorized kind.Entity ∷ []
 
--- the parameters of TPM2_StartAuthSession: nonceCaller, encryptedSalt (limited to 32 bytes, since
--- no key can decrypt a salt), sessionType, symmetric, authHash
+-- the parameters of TPM2_StartAuthSession: nonceCaller, encryptedSalt (at most 32 bytes, because
+-- there is no key that can decrypt a salt), sessionType, symmetric, authHash
 abbrev pub start_parameters : List ParameterKind
 start_parameters =
     parameter.Buffer 32 ∷ parameter.Buffer 32 ∷ parameter.SessionType

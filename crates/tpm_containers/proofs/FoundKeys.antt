@@ -30,8 +30,8 @@ module _ {X : Type 0} where
             | inr bad ↦ inr (laws.kept_gone stays es key x up there bad)
           ]
 
-  -- if a change of a value does not change `shown` of it, then `shown` of the value found by any
-  -- key does not change
+  -- if replacing a value does not change what `shown` returns for it, it does not change what
+  -- `shown` returns for the value of any key
   pub changed_shows : {V : Type 0} (shown : X → V) (es : Entries X) (key : ℕ) (old new : X) → at_key es key ≡ Some old → shown new ≡ shown old → (other : ℕ) → option_map shown (at_key (changed_key es key new) other) ≡ option_map shown (at_key es other)
   changed_shows {V} shown es key old new there same other =
       elim (cases_eq other key) [
@@ -43,7 +43,7 @@ module _ {X : Type 0} where
         | inr apart ↦ ap (option_map shown) (laws.changed_others es key new other apart)
       ]
 
-  -- the entries after all values were changed. Each key finds the changed value
+  -- the entries after all values were changed. Each key then finds its changed value
   abbrev pub all_changed : (X → X) → Entries X → Entries X
   all_changed change es = map (λ e. (e.0, change e.1)) es
 

@@ -141,7 +141,7 @@ module _ {X : Type 0} where
     pub value : at_key es key ≡ Some e.1
     pub written : (x : X) → slice_set es i (e.0, x) ≡ changed_key es key x
 
-  -- An entry that is borrowed from a container's slice at the index of a key, shared or mutable,
+  -- If an entry is borrowed (shared or mutably) from a container's slice at the index of a key, it
   -- belongs to that key.
   pub lent_at : (shown es : Entries X) (key i : ℕ) (e : ℕ × X) → shown ≡ es → e ≡ get_or es i e → ((e : ℕ × X) → get_or shown i e ≡ e → at_key shown key ≡ Some e.1) → ((e : ℕ × X) (x : X) → get_or shown i e ≡ e → slice_set shown i (e.0, x) ≡ changed_key shown key x) → Lent es key i e
   lent_at shown es key i e same read value written =

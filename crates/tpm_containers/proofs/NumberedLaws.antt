@@ -192,7 +192,7 @@ module _ {X : Type 0} (kind : X → ℕ) where
       let there = taken_there places number x None is in
       rw (removed_some places number x is) (omega (arith, there))
 
-  -- A removal never increases the number of taken slots, even if there was no value.
+  -- A removal never increases the number of taken slots, even if there was no value to remove.
   pub removed_taken : (places : Slots) (number : ℕ) → taken_count (without_number kind places number) ≤ taken_count places
   removed_taken places number = by (at_number kind places number) refl
     where

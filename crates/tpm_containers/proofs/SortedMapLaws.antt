@@ -255,7 +255,7 @@ module _ {X : Type 0} where
 
   -- ---- the next key
 
-  -- the lowest key that is at least `key` is the first key, or that of the rest
+  -- the lowest key that is at least `key` is the first key of the list, or is found in the rest
   from_first : (e : ℕ × X) (es : Entries X) (key : ℕ) (o : Option ℕ) → key_from (e ∷ es) key ≡ o → ((key ≤ e.0) × (Some e.0 ≡ o)) ⊎ ((e.0 < key) × (key_from es key ≡ o))
   from_first e es key o =
       cond_both (leb key e.0) _ _ (λ v. v ≡ o → ((key ≤ e.0) × (Some e.0 ≡ o)) ⊎ ((e.0 < key) × (key_from es key ≡ o)))

@@ -44,7 +44,7 @@ module _ {X : Type 0} where
     pub put_others : (places : List (Option X)) (place : ℕ) (x : X) (other : ℕ) → place < 2 ^ 24
         → lowest_free places ≡ Some place → other ≢ number_of (kind x) place
         → at_number kind (slice_set places place (Some x)) other ≡ at_number kind places other
-    -- no number of the lowest free slot finds a value, and each lower slot is taken
+    -- no number that identifies the lowest free slot finds a value, and each lower slot is taken
     pub free : (places : List (Option X)) (k place : ℕ) → place < 2 ^ 24
         → lowest_free places ≡ Some place → at_number kind places (number_of k place) ≡ None
     pub lowest : (places : List (Option X)) (place below : ℕ)

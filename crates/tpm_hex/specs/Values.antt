@@ -1,5 +1,5 @@
--- The largest digit value shows whether a text is hex. Therefore a loop need not stop at the first
--- bad digit.
+-- A byte that is not a digit has the value 255. Therefore the largest value shows whether a text is
+-- hex, and a loop need not stop at the first bad byte.
 use Rattle.std.specs.Prelude.{◌≡◌, ℕ, ◌<◌, ◌≤◌, List, Ok, Err}
 use Rattle.hex.specs.Hex.{decode_pairs}
 use Rattle.hex.specs.declared.error.FromHexError.{FromHexError}

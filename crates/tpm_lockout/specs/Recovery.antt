@@ -28,7 +28,8 @@ opened_at time s =
     then record (with_closed false s) { closed_time = 0 }
     else record s { closed_time = time }
 
--- the lockout state after lockoutAuth and its time are updated for some elapsed milliseconds
+-- the lockout state after some milliseconds: if lockoutRecovery has passed, lockoutAuth is enabled
+-- again
 unfoldable pub opened_after : (elapsed : ℕ) → LockoutState → LockoutState
 opened_after elapsed s =
     if opens_by_time s.fields then opened_at (s.closed_time + elapsed) s

@@ -12,7 +12,7 @@ use Rattle.tpm_mac.specs.Kdf.{kdfa_of, kdfa_text}
 use Rattle.tpm_mac.specs.declared.algorithm.HashAlg.{HashAlg}
 use Rattle.tpm_mac.specs.declared.algorithm.HashAlg.TheVariants.{Sha1, Sha256}
 
--- blocks 1 to n, concatenated. `piece` returns the block for each counter
+-- blocks 1 to n, concatenated. `piece i` is block i
 abbrev pub pieces_to : (ℕ → List ℕ) → ℕ → List ℕ
 pieces_to piece n = flat_map piece (range_with_len 1 n)
 

@@ -54,7 +54,8 @@ impl Mac {
         }
     }
 
-    /// Feeds the key to the two hashes, masked for each of them.
+    /// Masks the key with `ipad` for the inner hash and with `opad` for the outer hash, and feeds
+    /// both results.
     #[inline(always)]
     #[tactic(auto, unfolding(crate::specs::Mac::MacHolds, crate::specs::Mac::IsUnkeyed))]
     pub(crate) fn take_key(&mut self, alg: HashAlg, key: &[u8])

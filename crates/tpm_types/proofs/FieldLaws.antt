@@ -29,7 +29,7 @@ buffer_spelled limit narrow = record {
   again = λ buffer rest few. ap or_sized_rc (or_fault_ok (sized_at limit (sized_text buffer ++ rest)) fault.Short (buffer, rest) (sized_again limit fault.Short buffer rest (omega (arith, few, narrow)) few));
 }
 
--- A read returns a selection of PCRs exactly when the text starts with its encoding.
+-- A read returns a PCR selection exactly when the text starts with its encoding.
 pub selection_spelled : Spelled selection_text IsSelection selection_at
 selection_spelled = record {
   taken = λ bytes x fits e. let t = selection_takes bytes x fits e in (takes bytes (selection_text x.0) x.1 fits t.0, t.1);

@@ -8,7 +8,7 @@ use Rattle.tpm_types.specs.declared.rc.Rc.{Rc}
 use Rattle.tpm_types.specs.declared.rc.ResponseCode.TheVariants as code
 use Rattle.tpm_types.specs.Rc.{plain}
 
--- the response code for a bad sized buffer: SIZE if it is over its limit, even if it is also
+-- the response code for a bad sized buffer: SIZE if its size is over the limit, even if it is also
 -- truncated; otherwise INSUFFICIENT
 abbrev pub sized_rc : SizedFault → Rc
 sized_rc fault.TooLong = plain code.Size

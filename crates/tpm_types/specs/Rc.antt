@@ -73,7 +73,7 @@ rc_number rc = code_number rc.code + place_number rc.place
 abbrev pub plain : ResponseCode → Rc
 plain code = record { code = code; place = place.Nowhere }
 
--- the same response code, but for this handle, parameter or session
+-- the same response code, but the fault is in this handle, parameter or session
 abbrev pub at : Place → Rc → Rc
 at place rc = record rc { place = place }
 

@@ -115,7 +115,7 @@ impl Rc {
         self.code.number() + place
     }
 
-    /// The same response code, but for the handle with this number.
+    /// The same response code, but the fault is in the handle with this number.
     pub fn at_handle(self, number: u8) -> Rc
         ensures { result ≡ at (place.Handle number) self }
     {
@@ -125,7 +125,7 @@ impl Rc {
         }
     }
 
-    /// The same response code, but for the parameter with this number.
+    /// The same response code, but the fault is in the parameter with this number.
     pub fn at_parameter(self, number: u8) -> Rc
         ensures { result ≡ at (place.Parameter number) self }
     {
@@ -135,7 +135,7 @@ impl Rc {
         }
     }
 
-    /// The same response code, but for the session with this number.
+    /// The same response code, but the fault is in the session with this number.
     pub fn at_session(self, number: u8) -> Rc
         ensures { result ≡ at (place.Session number) self }
     {

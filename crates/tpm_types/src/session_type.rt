@@ -9,9 +9,9 @@ use tpm_bytes::Cursor;
 /// The type of a session: TPM_SE (Part 2, section 6.11).
 #[derive(Clone, Copy, PartialEq, Eq)]
 pub enum SessionType {
-    /// The session authorizes by an HMAC with the entity's authorization value.
+    /// The session authorizes with an HMAC, whose key contains the entity's authorization value.
     Hmac,
-    /// The session authorizes by a policy.
+    /// The session authorizes with a policy.
     Policy,
     /// The session computes a policy digest and authorizes nothing.
     Trial,
