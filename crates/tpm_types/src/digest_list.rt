@@ -94,8 +94,8 @@ impl DigestList {
         })
     }
 
-    /// Appends the encoded list, at most 276 bytes. If it does not fit, writes nothing and returns
-    /// an error.
+    /// Appends the encoded list, which is at most 276 bytes long. If it does not fit, writes
+    /// nothing and returns an error.
     pub fn write<const N: usize>(&self, sink: &mut Sink<N>) -> Result<(), Full>
         ensures written { Puts N (digest_list_text (digests_of self.now.digests.items))
             sink.old result sink.new }

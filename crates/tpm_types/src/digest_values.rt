@@ -77,8 +77,8 @@ impl DigestValue {
         Ok(value)
     }
 
-    /// Appends the encoded digest, at most 34 bytes. If it does not fit, writes nothing and returns
-    /// an error.
+    /// Appends the encoded digest, which is at most 34 bytes long. If it does not fit, writes
+    /// nothing and returns an error.
     #[tactic(auto, unfolding(crate::specs::DigestValues::digest_value_text))]
     pub fn write<const N: usize>(&self, sink: &mut Sink<N>) -> Result<(), Full>
         ensures written { Puts N (digest_value_text self.now) sink.old result sink.new }
@@ -165,8 +165,8 @@ impl DigestValues {
         Ok(DigestValues { values })
     }
 
-    /// Appends the encoded list, at most 72 bytes. If it does not fit, writes nothing and returns
-    /// an error.
+    /// Appends the encoded list, which is at most 72 bytes long. If it does not fit, writes nothing
+    /// and returns an error.
     pub fn write<const N: usize>(&self, sink: &mut Sink<N>) -> Result<(), Full>
         ensures written { Puts N (digest_values_text self.now.values.items)
             sink.old result sink.new }

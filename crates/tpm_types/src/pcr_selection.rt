@@ -147,8 +147,8 @@ impl PcrSelection {
         Ok(PcrSelection { banks })
     }
 
-    /// Appends the encoded selection, at most 100 bytes. If it does not fit, writes nothing and
-    /// returns an error.
+    /// Appends the encoded selection, which is at most 100 bytes long. If it does not fit, writes
+    /// nothing and returns an error.
     pub fn write<const N: usize>(&self, sink: &mut Sink<N>) -> Result<(), Full>
         ensures written { Puts N (selection_text self.now.banks.items) sink.old result sink.new }
         ensures small { length (selection_text self.now.banks.items) ≤ 100 }

@@ -111,7 +111,7 @@ impl NvPublic {
         }
     }
 
-    /// The encoding of the public area, in a buffer that fits the longest encoding.
+    /// The encoding of the public area, in a buffer large enough for the longest encoding.
     #[tactic(auto, unfolding(crate::specs::NvPublic::nv_public_text))]
     pub fn text(&self) -> Sink<46>
         ensures { result ≡ nv_public_text self.now }
@@ -125,8 +125,8 @@ impl NvPublic {
         text
     }
 
-    /// Appends the encoded public area, at most 46 bytes. If it does not fit, writes nothing and
-    /// returns an error.
+    /// Appends the encoded public area, which is at most 46 bytes long. If it does not fit, writes
+    /// nothing and returns an error.
     pub fn write<const N: usize>(&self, sink: &mut Sink<N>) -> Result<(), Full>
         ensures written { Puts N (nv_public_text self.now) sink.old result sink.new }
         ensures small { length (nv_public_text self.now) ≤ 46 }
@@ -135,8 +135,8 @@ impl NvPublic {
         sink.put(text.as_slice())
     }
 
-    /// Appends the public area as a sized buffer (TPM2B_NV_PUBLIC), at most 48 bytes. If it does
-    /// not fit, writes nothing and returns an error.
+    /// Appends the public area as a sized buffer (TPM2B_NV_PUBLIC), which is at most 48 bytes long.
+    /// If it does not fit, writes nothing and returns an error.
     pub fn write_sized<const N: usize>(&self, sink: &mut Sink<N>) -> Result<(), Full>
         ensures written { Puts N (sized_text (nv_public_text self.now)) sink.old result sink.new }
         ensures small { length (sized_text (nv_public_text self.now)) ≤ 48 }

@@ -87,8 +87,8 @@ abbrev pub parameters_at : ObjectType → List ℕ → Result (PublicParameters 
 parameters_at object.KeyedHash text = keyed_hash_at text
 parameters_at object.SymCipher text = sym_cipher_at text
 
--- the encoding of an object's parameters: the scheme of a KEYEDHASH object; or AES, its key size in
--- bits and its mode for a SYMCIPHER object
+-- the encoding of an object's parameters. For a KEYEDHASH object: its scheme. For a SYMCIPHER
+-- object: AES, the key size in bits, and the mode
 abbrev pub parameters_text : PublicParameters → List ℕ
 parameters_text (parameters_of.KeyedHash scheme) = scheme_text scheme
 parameters_text parameters_of.SymCipher = symmetric_text symmetric.Aes128Cfb
@@ -110,7 +110,8 @@ public_text p =
     ++ attributes_text p.attributes ++ sized_text p.auth_policy
     ++ parameters_text p.parameters ++ sized_text p.unique
 
--- A public area can be encoded if its buffers are at most 32 bytes long and no reserved bit is set.
+-- A public area can be encoded if its buffers are at most 32 bytes long and no reserved bit of its
+-- attributes is set.
 pub record IsPublic (p : Public) : Type 0 where
   pub attributes : IsAttributes p.attributes
   pub auth_policy : length p.auth_policy ≤ 32

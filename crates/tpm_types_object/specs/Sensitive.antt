@@ -15,7 +15,7 @@ sensitive_text s =
     object_type_text s.object_type ++ sized_text s.auth_value ++ sized_text s.seed_value
     ++ sized_text s.sensitive
 
--- A sensitive area can be encoded if its buffers are within these limits.
+-- A sensitive area can be encoded if each of its buffers is within its size limit.
 pub record IsSensitive (s : Sensitive) : Type 0 where
   pub auth_value : length s.auth_value ≤ 32
   pub seed_value : length s.seed_value ≤ 32

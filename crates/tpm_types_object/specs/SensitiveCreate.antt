@@ -22,7 +22,7 @@ sensitive_values_of s = record { user_auth = s.user_auth.now; «data» = s.«dat
 abbrev pub sensitive_create_text : SensitiveValues → List ℕ
 sensitive_create_text s = sized_text s.user_auth ++ sized_text s.«data»
 
--- The values that a caller provides can be encoded if they are within these limits.
+-- The values that a caller provides can be encoded if each is within its size limit.
 pub record IsSensitiveCreate (s : SensitiveValues) : Type 0 where
   pub user_auth : length s.user_auth ≤ 32
   pub «data» : length s.«data» ≤ sensitive_limit

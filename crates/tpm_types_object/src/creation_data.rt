@@ -91,7 +91,7 @@ impl CreationData {
         })
     }
 
-    /// The encoding of the creation data, in a buffer that fits the longest encoding.
+    /// The encoding of the creation data, in a buffer large enough for the longest encoding.
     #[tactic(auto, unfolding(crate::specs::CreationData::creation_data_text))]
     pub fn text(&self) -> Sink<245>
         ensures { result ≡ creation_data_text self.now }
@@ -107,8 +107,8 @@ impl CreationData {
         text
     }
 
-    /// Appends the encoded creation data, at most 245 bytes. If they do not fit, writes nothing and
-    /// returns an error.
+    /// Appends the encoded creation data, which are at most 245 bytes long. If they do not fit,
+    /// writes nothing and returns an error.
     pub fn write<const N: usize>(&self, sink: &mut Sink<N>) -> Result<(), Full>
         ensures written { Puts N (creation_data_text self.now) sink.old result sink.new }
         ensures small { length (creation_data_text self.now) ≤ 245 }

@@ -95,8 +95,8 @@ impl KeyedHashScheme {
         Ok(scheme)
     }
 
-    /// Appends the encoded scheme, at most four bytes. If it does not fit, writes nothing and
-    /// returns an error.
+    /// Appends the encoded scheme, which is at most four bytes long. If it does not fit, writes
+    /// nothing and returns an error.
     #[tactic(auto, unfolding(crate::specs::Public::scheme_text))]
     pub fn write<const N: usize>(self, sink: &mut Sink<N>) -> Result<(), Full>
         ensures written { Puts N (scheme_text self) sink.old result sink.new }
@@ -168,8 +168,8 @@ impl PublicParameters {
         Ok(PublicParameters::SymCipher)
     }
 
-    /// Appends the encoded parameters, at most six bytes. If they do not fit, writes nothing and
-    /// returns an error.
+    /// Appends the encoded parameters, which are at most six bytes long. If they do not fit, writes
+    /// nothing and returns an error.
     #[tactic(auto, unfolding(tpm_types::specs::Symmetric::symmetric_text))]
     pub fn write<const N: usize>(self, sink: &mut Sink<N>) -> Result<(), Full>
         ensures written { Puts N (parameters_text self) sink.old result sink.new }
@@ -282,7 +282,7 @@ impl Public {
         }
     }
 
-    /// The encoding of the public area, in a buffer that fits the longest encoding.
+    /// The encoding of the public area, in a buffer large enough for the longest encoding.
     #[tactic(auto, unfolding(crate::specs::Public::public_text))]
     pub fn text(&self) -> Sink<82>
         ensures { result ≡ public_text self.now }
@@ -297,8 +297,8 @@ impl Public {
         text
     }
 
-    /// Appends the encoded public area, at most 82 bytes. If it does not fit, writes nothing and
-    /// returns an error.
+    /// Appends the encoded public area, which is at most 82 bytes long. If it does not fit, writes
+    /// nothing and returns an error.
     pub fn write<const N: usize>(&self, sink: &mut Sink<N>) -> Result<(), Full>
         ensures written { Puts N (public_text self.now) sink.old result sink.new }
         ensures small { length (public_text self.now) ≤ 82 }

@@ -87,7 +87,7 @@ impl Sensitive {
         }
     }
 
-    /// The encoding of the sensitive area, in a buffer that fits the longest encoding.
+    /// The encoding of the sensitive area, in a buffer large enough for the longest encoding.
     #[inline(never)]
     #[tactic(auto, unfolding(crate::specs::Sensitive::sensitive_text))]
     pub fn text(&self) -> Sink<200>
@@ -103,8 +103,8 @@ impl Sensitive {
         text
     }
 
-    /// Appends the encoded sensitive area, at most 200 bytes. If it does not fit, writes nothing
-    /// and returns an error.
+    /// Appends the encoded sensitive area, which is at most 200 bytes long. If it does not fit,
+    /// writes nothing and returns an error.
     pub fn write<const N: usize>(&self, sink: &mut Sink<N>) -> Result<(), Full>
         ensures written { Puts N (sensitive_text self.now) sink.old result sink.new }
         ensures small { length (sensitive_text self.now) ≤ 200 }

@@ -69,7 +69,7 @@ impl<'a> SensitiveCreate<'a> {
         Ok(SensitiveCreate { user_auth, data })
     }
 
-    /// The encoding of the values, in a buffer that fits the longest encoding.
+    /// The encoding of the values, in a buffer large enough for the longest encoding.
     pub fn text(&self) -> Sink<164>
         ensures { result ≡ sensitive_create_text (sensitive_values_of self.now) }
     {

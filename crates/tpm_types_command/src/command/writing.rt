@@ -77,7 +77,8 @@ fn entries_len(entries: &[AuthEntry]) -> Option<usize>
     Some(bytes)
 }
 
-/// The size of the encoded authorization area, which is present only if there are entries.
+/// The size of the encoded authorization area: 0 if there are no entries, and None if an entry
+/// cannot be encoded.
 fn sessions_len(entries: &[AuthEntry]) -> Option<usize>
     requires { length entries.now ≤ 3 }
     ensures value { SomeIff result (AllByRecursion HasSizes (map entry_of entries.now))
