@@ -43,7 +43,7 @@ module _ {X : Type 0} where
         | inr apart ↦ ap (option_map shown) (laws.changed_others es key new other apart)
       ]
 
-  -- the entries after all values were changed. Each key then finds its changed value
+  -- the entries, with all values changed. Each key then finds its changed value
   abbrev pub all_changed : (X → X) → Entries X → Entries X
   all_changed change es = map (λ e. (e.0, change e.1)) es
 

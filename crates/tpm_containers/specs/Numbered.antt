@@ -23,12 +23,12 @@ module _ {X : Type 0} where
   at_number kind places number =
       option_and_then (if_of_kind kind number) (at_place places (place_of number))
 
-  -- the slots after the value that a number finds, if there is one, was removed
+  -- the slots without the value that a number finds, or the same slots if it finds none
   unfoldable pub without_number : (X → ℕ) → List (Option X) → ℕ → List (Option X)
   without_number kind places number =
       if is_some (at_number kind places number) then slice_set places (place_of number) None else places
 
-  -- the slots after the value that a number finds, if there is one, was changed
+  -- the slots with the value that a number finds changed, or the same slots if it finds none
   abbrev pub changed_at : (X → ℕ) → (X → X) → List (Option X) → ℕ → List (Option X)
   changed_at kind change places number =
       option_map_or (λ (x : X). slice_set places (place_of number) (Some (change x)))

@@ -23,10 +23,10 @@ pub trait Items<const N: usize>: Drop + Sized {
     /// The items.
     ghost items: { Self → List Self.Item };
 
-    /// The items after one of them was replaced.
+    /// The items, with one of them replaced.
     ghost with_item: { Self → ℕ → Self.Item → Self };
 
-    /// The items after all of them were overwritten.
+    /// The items, with all of them overwritten.
     ghost with_items: { Self → List Self.Item → Self };
 
     /// Whether an allocation can fail.

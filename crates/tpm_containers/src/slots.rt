@@ -23,7 +23,7 @@ pub trait Slots<T: Drop, const N: usize>: Drop + Sized {
     /// The slots.
     ghost places: { Self → List (Option T) };
 
-    /// The slots after a value was put into one of them.
+    /// The slots, with a value put into one of them.
     ghost with_place: { Self → ℕ → T → Self };
 
     /// Whether an allocation can fail.

@@ -26,7 +26,7 @@ pub trait SortedMap<T: Drop, const N: usize>: Drop + Sized {
     /// The keys in ascending order, each with its value.
     ghost entries: { Self → List (ℕ × T) };
 
-    /// The map after the value of an existing key was replaced.
+    /// The map, with the value of an existing key replaced.
     ghost with_value: { Self → ℕ → T → Self };
 
     /// Whether an allocation can fail.

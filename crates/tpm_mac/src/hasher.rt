@@ -37,7 +37,7 @@ impl Hasher {
         Hasher { state }
     }
 
-    /// Feeds more bytes of the message to the hash.
+    /// Feeds more bytes of the message to the hasher.
     #[tactic(auto, unfolding(crate::specs::Hasher::Holds))]
     pub fn update(&mut self, bytes: &[u8])
         ensures { Takes self.old bytes.now self.new }

@@ -32,7 +32,7 @@ pub struct Mac {
 }
 
 impl Mac {
-    /// An HMAC with a key of any length, which was fed no text yet.
+    /// An HMAC with a key of any length. It was fed no text yet.
     pub fn new(alg: HashAlg, key: &[u8]) -> Mac
         ensures { MacHolds result alg key.now [] }
     {
