@@ -10,8 +10,8 @@ abbrev pub SomePcr : ℕ → Option PcrIndex → Type 0
 SomePcr number (Some pcr) = (number < 24) × (pcr ≡ number)
 SomePcr number None = 24 ≤ number
 
--- conversions between the three octets of a selection and a number: followed by a zero octet, they
--- encode it in little-endian order
+-- conversions between the three octets of a selection and a number: the octets, followed by a zero
+-- octet, are the little-endian encoding of the number
 abbrev pub select_of : List ℕ → ℕ
 select_of octets = from_le_bytes w32 (octets ++ 0 ∷ [])
 
