@@ -58,8 +58,8 @@ impl PolicyState {
         }
     }
 
-    /// Whether the policy requires a written or an unwritten NV index, but the entity is not an
-    /// index or is in the opposite state.
+    /// Whether the policy records that an NV index must be written, or that it must be unwritten,
+    /// but the entity is not an index or its state is the opposite.
     pub(crate) fn records_other_written(&self, found: Option<bool>) -> bool
         ensures { result ≡ is_other_written self.now.nv_written found }
     {

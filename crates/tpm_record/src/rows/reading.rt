@@ -9,7 +9,8 @@ ghost use Rattle.tpm_record.specs.rows.Rows.{all_read, parameter, parameter_refu
 use tpm_bytes::{Cursor, Short};
 use tpm_types::{Check, Rc, Refused, ResponseCode};
 
-/// The refusal of the parameter with this number.
+/// The integer that was read for the parameter at this position, or the refusal of the parameter.
+/// Reading an integer fails only if its bytes are truncated.
 fn at_parameter(number: u8, rc: Rc) -> Refused
     ensures { result ≡ parameter_refusal number rc }
 {
