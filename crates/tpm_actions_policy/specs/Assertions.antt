@@ -42,8 +42,8 @@ asserts command.PolicySecret = true
 asserts command.PolicyNv = true
 asserts _ = false
 
--- the handle of the session for a command's assertion; it follows the handles of the entity that
--- the command authorizes and of the index that it compares
+-- the handle of the session on which a command makes its assertion. It follows the handles of the
+-- authorizing entity and of the compared index, if the command has them
 abbrev pub session_handle : CommandCode → List Handle → Result Handle Refused
 session_handle command.PolicySecret handles = second_handle handles
 session_handle command.PolicyNv handles = third_handle handles

@@ -23,7 +23,7 @@ use tpm_record::rows::reading::{end, parameter};
 use tpm_session::Session;
 use tpm_types::{ActionFault, DIGEST_LIMIT, PcrSelection, Refused, read_buffer};
 
-/// The PCRs to compare, and the digest of their values from the command.
+/// The PCRs to compare, and the expected digest of their values, as given in the command.
 #[derive(Clone, Copy)]
 pub struct ComparedPcrs<'a> {
     given: &'a [u8],

@@ -114,8 +114,8 @@ abbrev pub is_other_hash : Option (List ℕ) → List ℕ → Bool
 is_other_hash None hash = false
 is_other_hash (Some recorded) hash = not (bytes_eq recorded hash)
 
--- whether the policy records that an NV index must be written, or that it must be unwritten, but
--- there is no index or its state is the opposite
+-- whether the policy requires a written or an unwritten index, but there is no index or it is in
+-- the opposite state
 abbrev pub is_other_written : Option Bool → Option Bool → Bool
 is_other_written None found = false
 is_other_written (Some recorded) None = true

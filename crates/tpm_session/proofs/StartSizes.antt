@@ -1,5 +1,4 @@
--- In a new session, nonceTPM, the key and the policy digest have sizes that its hash algorithm
--- allows.
+-- The hash of a new session allows the sizes of its nonceTPM, key and policy digest.
 use Rattle.std.proofs.Common.{◌≡◌, true, List, ℕ, length, Option, refl}
 use Rattle.std.proofs.lemmas.Bool.{eq-eqb}
 use Rattle.tpm_mac.specs.declared.algorithm.HashAlg.{HashAlg}
