@@ -1,5 +1,5 @@
--- If the heads and the area with their bytes change together, the indices that they represent
--- change accordingly.
+-- If the heads (the NV indices without their data) and the area with their data change together,
+-- the NV indices that they represent change accordingly.
 use Rattle.std.proofs.Common.{◌≡◌, ◌≢◌, ℕ, ◌+◌, ◌-◌, ◌<◌, ◌≤◌, cond, eqb, leb, zero, suc, List, [], ◌∷◌, ◌++◌, length, get_or, take, drop, replicate, Option, Some, None, refl, sym, ap, subst, ◌∙◌, arith, inl, inr, append_assoc, length-append, length-drop}
 use Rattle.std.proofs.Math.Seq.{drop-append-add, take-append-add}
 use Rattle.std.specs.List.{sum_by}

@@ -136,9 +136,8 @@ length_filled true start size byte area fits = refl
 length_filled false start size byte area fits =
     length_put start (replicate size byte) area (omega (arith, fits, length-replicate {A = ℕ} size byte))
 
--- Bytes can be written into a piece of the area in two ways, with the same result. The first fills
--- the piece, if it is unwritten, and then writes the bytes into it. The second does both in a copy
--- of the piece, which then replaces the piece.
+-- Filling a piece of the area, if it is unwritten, and then writing bytes into it has the same
+-- result as doing both in a copy of the piece, which then replaces the piece.
 filled_put : (is_written : Bool) (start size offset byte : ℕ) (bytes area : List ℕ) → start + size ≤ length area → offset + length bytes ≤ size → put_over (start + offset) bytes (filled is_written start size byte area) ≡ put_over start (put_over offset bytes (cond is_written (piece_of start size area) (replicate size byte))) area
 filled_put true start size offset byte bytes area fits within = put_within start size offset bytes area fits within
 filled_put false start size offset byte bytes area fits within =

@@ -56,12 +56,12 @@ marked index attribute =
 abbrev pub with_data : NvIndex → List ℕ → NvIndex
 with_data index bytes = record (marked index attribute.Written) { bytes = bytes }
 
--- the data of an index; before the first write, as many copies of this byte as the index has bytes
+-- the data of an index or, before the first write, as many copies of `byte` as the index has bytes
 abbrev pub data_or : ℕ → NvIndex → List ℕ
 data_or byte index =
     if index_has index attribute.Written then index.bytes else replicate index.public.data_size byte
 
--- the number encoded by the data of an index; before the first write, this number
+-- the number encoded by the data of an index or, before the first write, `number`
 abbrev pub number_or : ℕ → NvIndex → ℕ
 number_or number index =
     if index_has index attribute.Written then from_be_bytes w64 index.bytes else number

@@ -53,8 +53,8 @@ pub trait Indices: Drop + Sized {
     fn next(&self, handle: Handle) -> Option<u32>
         ensures { result ≡ next_index (contents self.now) handle.number };
 
-    /// Defines an index, initially without data (TPM 2.0 Library, Part 3, section 31.3). The caller
-    /// makes the other checks with [`crate::definition::check_definition`].
+    /// Defines an index, initially without data (TPM 2.0 Library, Part 3, section 31.3). The checks
+    /// that this call does not make are in [`crate::definition::check_definition`].
     fn define(&mut self, public: NvPublic, auth_value: AuthValue) -> Result<(), DefineFault>
         requires { IsNvPublic public }
         ensures { Defines can_refuse (contents self.old) (defined_index public auth_value) result

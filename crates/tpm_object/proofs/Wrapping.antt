@@ -155,8 +155,7 @@ unfolding decrypted_area
 long_area_refused parent name protected iv encrypted read whole long =
     rw (read, whole, long_cipher_refused parent name iv encrypted long) refl
 
--- If some bytes are decrypted and decoded to an area, the parent protected this area as these
--- bytes.
+-- If some bytes can be decrypted and decoded, they are the protected form of the resulting area.
 pub decrypted_law : (parent : Object) (name protected iv encrypted plain : List ℕ)
     (result : Result Sensitive IntegrityFault)
     → AreBytes protected → sized_at 16 protected ≡ Ok (iv, encrypted) → length iv ≡ 16

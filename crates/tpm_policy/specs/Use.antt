@@ -27,9 +27,9 @@ pub record EntityParts : Type 0 where
   pub digest : List ℕ
 
 -- the input of the checks: the number of the authorization entry, the session's type and hash,
--- whether the entity is available, the update counter of the PCRs, the command code, the role of
--- the authorization, the cpHash, whether the entity has been written if it is an NV index, the
--- command's locality, and the entity's policy, if it has one
+-- whether the entity can be authorized by a policy, the update counter of the PCRs, the command
+-- code, the role of the authorization, the cpHash, whether the entity has been written if it is an
+-- NV index, the command's locality, and the entity's policy, if it has one
 pub record UseParts : Type 0 where
   pub entry : ℕ
   pub kind : SessionType

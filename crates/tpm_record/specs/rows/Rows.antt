@@ -1,4 +1,4 @@
--- The parts of the table's rows: a row yields a success or the first refusal.
+-- The parts from which rows are built. A row yields a success or the first refusal.
 use Rattle.std.specs.Prelude.{◌≡◌, ℕ, ◌==◌, not, Bool, true, false, List, length, Result, Ok, Err}
 use Rattle.tpm_bytes.specs.Reading.{◌>>=◌, refused_if}
 use Rattle.tpm_types.specs.declared.rc.Rc.{Rc}
@@ -47,7 +47,7 @@ unchanged r answer = record { answer = answer; after = r }
 -- answer as its row says; or it was refused with MEMORY instead of succeeding, which requires that
 -- an allocation can fail. A refusal does not change the record. After a refusal of any command, the
 -- content of the answer is unspecified: it may contain part of a success's answer. The response to
--- a refusal is made only from the refusal.
+-- a refused command depends only on the refusal.
 abbrev pub ActsIfRoom : Bool → Result Success Refused
     → Record → Result (Unit {0}) Refused → Answer → Record → Type 0
 ActsIfRoom can (Ok s) old (Ok done) answer new = IsAnswer s.answer answer × (new ≡ s.after)

@@ -34,7 +34,7 @@ fn attributes_of<K: Keep>(keep: &K, handle: Handle) -> Result<NvAttributes, Refu
     }
 }
 
-/// The target named by the command's first two handles.
+/// The target of the command: the entity and the NV index that its first two handles name.
 pub fn target_of<K: Keep>(keep: &K, call: &Call) -> Result<Target, Refused>
     ensures { result ≡ target_of (K.record_of keep.now) (request_of call.now) }
 {
