@@ -37,7 +37,7 @@ secret_parameters text = do
     expiration = expiration.0;
   })
 
--- the data of the assertion about the entity with this Name
+-- the data of a TPM2_PolicySecret assertion about the entity with this Name
 abbrev pub secret_of : Parameters → (name : List ℕ) → Session → SecretParts
 secret_of p name s = record {
   name = name;

@@ -41,8 +41,8 @@ impl ComparedIndex<'_> {
         }
     }
 
-    /// Adds the assertion of the comparison to a session's policy, with the current data of the
-    /// index.
+    /// Adds the assertion that the comparison holds to a session's policy, with the current data of
+    /// the index.
     pub fn assert_on<K: Keep>(
         &self,
         keep: &K,

@@ -31,7 +31,7 @@ pub struct ComparedPcrs<'a> {
 }
 
 impl ComparedPcrs<'_> {
-    /// Adds the assertion of the current PCR values to a session's policy.
+    /// Adds the assertion of TPM2_PolicyPCR, with the current PCR values, to a session's policy.
     pub(crate) fn assert_on<K: Keep>(
         &self,
         keep: &K,

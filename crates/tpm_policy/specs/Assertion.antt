@@ -114,7 +114,7 @@ abbrev pub is_other_hash : Option (List ℕ) → List ℕ → Bool
 is_other_hash None hash = false
 is_other_hash (Some recorded) hash = not (bytes_eq recorded hash)
 
--- whether the policy requires a written or an unwritten index, but there is no index or it is in
+-- whether the policy requires that an index is written (or unwritten), but it is absent or is in
 -- the opposite state
 abbrev pub is_other_written : Option Bool → Option Bool → Bool
 is_other_written None found = false

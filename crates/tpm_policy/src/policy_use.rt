@@ -58,8 +58,8 @@ impl PolicyState {
         }
     }
 
-    /// Whether the policy records that an NV index must be written, or that it must be unwritten,
-    /// but the entity is not an index or its state is the opposite.
+    /// Whether the policy requires that an NV index is written (or unwritten), but the entity is
+    /// not an index or is in the opposite state.
     pub(crate) fn records_other_written(&self, found: Option<bool>) -> bool
         ensures { result ≡ is_other_written self.now.nv_written found }
     {
