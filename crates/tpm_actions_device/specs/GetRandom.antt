@@ -10,7 +10,7 @@ use Rattle.tpm_record.specs.rows.Answer.{AnswerParts, Sized}
 use Rattle.tpm_record.specs.rows.Request.{Request}
 use Rattle.tpm_record.specs.rows.Rows.{Success, only, unchanged}
 
--- an answer that contains this number of the event's random bytes, as a sized buffer
+-- an answer that contains the first `count` of the event's random bytes, as a sized buffer
 abbrev pub random_answer : ℕ → List ℕ → AnswerParts
 random_answer count random =
     record { handle = None; body = Sized (take count random); drawn = count }

@@ -107,7 +107,7 @@ ticket_text hierarchy proof name hash =
     creation_tag ++ to_be_bytes w32 (hierarchy_handle hierarchy).number
     ++ sized_text (hmac_of Sha256 proof (creation_tag ++ name ++ hash))
 
--- the part of a creation's answer after the public area: the creation data, their hash, and the
+-- the part of a creation's answer after the public area: the creation data, its hash, and the
 -- ticket
 unfoldable pub creation_rest : Record → (locality : ℕ) → Parent → Parameters → Public → List ℕ
 creation_rest r locality parent p public =
