@@ -59,7 +59,8 @@ pub known_of : (P : NvIndex → Type 0) (found : Option NvIndex) (x : NvIndex) �
 known_of P None x is known = absurd cc
 known_of P (Some y) x is known = let same : y ≡ x = cc in subst P same known
 
--- If one index is changed, the contents change accordingly.
+-- If the new heads and area represent the old indices with one of them changed, they represent the
+-- old contents with this index changed.
 pub contents_changed : (es new : Entries Head) (area after : List ℕ) (count : ℕ) (handle : Handle) (shown : NvContents) (x : NvIndex) (f : NvIndex → NvIndex) → (let view : NvContents = record { indices = indices_of es area; max_count = count } in view ≡ shown) → at_key (indices_of es area) handle.number ≡ Some x → indices_of new after ≡ changed_key (indices_of es area) handle.number (f x) → (index : NvIndex) → index_at shown handle ≡ Some index → (let view : NvContents = record { indices = indices_of new after; max_count = count } in view ≡ changed_index shown handle (f index))
 contents_changed es new area after count handle shown x f view found seen index is =
     let there : at_key (indices_of es area) handle.number ≡ Some index = ap (λ (s : NvContents). index_at s handle) view ∙ is in
@@ -219,8 +220,8 @@ pub seen_head : (es : Entries Head) (area : List ℕ) (key : ℕ) (found : Optio
 seen_head es area key None up is = rw (none_among es area key (sym is)) refl
 seen_head es area key (Some h) up is = rw (found_among es area key h.now up (sym is)) refl
 
--- If an index exists, its head is found, and the property of the index holds for the head and its
--- bytes.
+-- If an index exists and has a property, its head is found, and the index that this head and its
+-- bytes represent has the property.
 pub head_of_index : (P : NvIndex → Type 0) (es : Entries Head) (area : List ℕ) (count : ℕ) (handle : Handle) (shown : NvContents) → (let view : NvContents = record { indices = indices_of es area; max_count = count } in view ≡ shown) → AreKept es area → IsSomeAnd (index_at shown handle) P → (h : Head) × (at_key es handle.number ≡ Some h) × P (index_with h (piece_of (start_of es handle.number) (size_of h) area))
 head_of_index P es area count handle shown view kept known = by (at_key es handle.number) refl
   where

@@ -217,14 +217,14 @@ wrapped_refused parent public name iv text area spelled whole is named other =
     ap (unwrapped parent public) spelled ∙ wrapped_is parent public name iv area named whole is
     ∙ refuses area.object_type (object_type public) area other
 
--- If a private area was wrapped for a public area, it can be unwrapped.
+-- If a private area was wrapped for a public area, it can be unwrapped with this public area.
 pub unwrapped_only : (parent : Object) (public : Public) (text : List ℕ) (area : Sensitive)
     → IsWrapped parent public text area → unwrapped parent public text ≡ Ok area
 unwrapped_only parent public text area is =
     wrapped_undone parent public (object_name public) is.iv text area is.spelled is.whole is.sized refl
     (sym is.typed)
 
--- A private area that can be unwrapped was wrapped for this public area.
+-- A private area that can be unwrapped with a public area was wrapped for it.
 pub unwrapped_found : (parent : Object) (public : Public) (name text protected : List ℕ) (area : Sensitive)
     → name ≡ object_name public → AreBytes text → protected_in parent name text ≡ Ok protected
     → IsSensitive area × IsProtected parent name protected area

@@ -96,8 +96,9 @@ impl PolicyState {
     /// condition that fails determines the error: ATTRIBUTES for a trial session; AUTH_UNAVAILABLE
     /// if the entity cannot be authorized by a policy; PCR_CHANGED if the update counter has
     /// changed; POLICY_CC for another command; POLICY_FAIL if the role requires a command code and
-    /// none is recorded, for another cpHash, or for an index in the wrong written state; LOCALITY
-    /// for a forbidden locality; POLICY_FAIL if the policy is not that of the entity.
+    /// none is recorded, for another cpHash, or if the entity does not have the recorded written
+    /// state; LOCALITY for a forbidden locality; POLICY_FAIL if the policy is not that of the
+    /// entity.
     #[tactic(auto, unfolding(crate::specs::Use::use_passes))]
     pub fn check_use(&self, asked: &Use) -> Result<Demand, Rc>
         ensures { result ≡ use_passes self.now (parts_of asked.now) }
