@@ -1,5 +1,5 @@
--- The commands that make an assertion on a session's policy: the session, the assertion, and the
--- row that all of them share. TPM 2.0 Library, Part 3, section 23.
+-- The parts of the commands that make an assertion on a session's policy: their session, their
+-- assertion, and the row that all of them share. TPM 2.0 Library, Part 3, section 23.
 use Rattle.std.specs.Prelude.{◌≡◌, Bool, true, false, List, [], Option, Result, Ok, Err, ok_or}
 use Rattle.std.specs.Borrow.{Bor}
 use Rattle.tpm_bytes.specs.Reading.{◌>>=◌}

@@ -68,7 +68,8 @@ abbrev pub AreHeads : Entries Head → Type 0
 AreHeads [] = Unit {0}
 AreHeads (e ∷ es) = IsHead e.0 e.1 × AreHeads es
 
--- Valid heads, sorted by key and within the limits, and an area as long as the sum of their sizes.
+-- Valid heads, sorted by key and within the limits, and an area as long as the sum of the sizes in
+-- the heads.
 pub record AreKept (heads : Entries Head) (area : List ℕ) : Type 0 where
   pub ascends : Ascends heads
   pub few : length heads ≤ nv_index_limit

@@ -95,8 +95,8 @@ impl Target {
     }
 }
 
-/// Once a command has passed the checks of `check_reading`, a read of its index fails only if it
-/// goes past the end of the data. A proof only: it has no effect at run time.
+/// Once a command has passed the checks of `check_reading`, reading its index fails only if the
+/// bytes extend past the end of the data. A proof only: it has no effect at run time.
 #[inline(always)]
 #[tactic(auto, using(crate::proofs::rows::TargetLaws::reading_within))]
 pub fn reading_laws()
