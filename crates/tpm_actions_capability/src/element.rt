@@ -59,7 +59,7 @@ impl Element {
     }
 }
 
-/// The number of elements in a list whose own number is at least `from`.
+/// Counts the elements whose number is at least `from`.
 fn found_count(elements: &[Element], from: u32) -> usize
     ensures { result ≡ found_count from elements.now }
 {
