@@ -7,11 +7,11 @@ use Rattle.tpm_actions_capability.specs.declared.element.Element.{Element}
 use Rattle.tpm_actions_capability.specs.declared.element.Telling.{Telling}
 use Rattle.tpm_actions_capability.specs.declared.element.Telling.TheVariants as tell
 
--- an element that is listed as its own number
+-- an element whose listed value is its own number
 abbrev pub by_itself : ℕ → Element
 by_itself number = record { number = number; told = number }
 
--- a list of this element if it exists, otherwise the empty list
+-- a list of this element if `is_there` is true, otherwise the empty list
 abbrev pub if_there : Bool → Element → List Element
 if_there is_there e = if is_there then e ∷ [] else []
 

@@ -43,8 +43,8 @@ permanent_elements =
     ∷ by_itself platform_handle.number
     ∷ []
 
--- the handles of types 02 and 03: the sessions of every type, in the order of their slots. The
--- slot is compared with the property, and the handle is listed
+-- the handles of types 02 and 03: the sessions of every type, in the order of their slots. The slot
+-- number is compared with the requested property, and the handle is listed
 abbrev pub session_element : Record → (place : ℕ) → List Element
 session_element r place =
     option_map_or (λ (s : Session). record { number = place; told = (handle_of s.kind place).number } ∷ [])

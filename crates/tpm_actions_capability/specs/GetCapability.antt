@@ -40,8 +40,8 @@ capability_of number =
     else (if number == 6 then Ok capability.Properties
     else Err (parameter_refusal action.First 1 code.Value))))
 
--- the handles with this highest byte; there are never saved sessions (03). Refused by check A2 if
--- no handle type has this byte
+-- the handles with this most significant byte; the list of saved sessions (03) is always empty.
+-- Refused by check A2 if no handle type has this byte
 abbrev pub handle_elements : Record → (kind : ℕ) → Result (List Element) Refused
 handle_elements r kind =
     if kind == 0x00 then Ok pcr_elements
@@ -53,11 +53,11 @@ handle_elements r kind =
     else (if kind == 0x81 then Ok (persistent_elements r)
     else Err (parameter_refusal action.Second 2 code.Handle)))))))
 
--- the number where the list of handles starts; for sessions it is a slot
+-- the number at which the list of handles starts: for sessions a slot number, otherwise a handle
 abbrev pub first_handle_of : ℕ → ℕ
 first_handle_of property = if property / 2 ^ 24 == 0x02 then property % 2 ^ 24 else property
 
--- all PCRs of both banks, regardless of the request; there are no others
+-- all PCRs of both banks, which are listed whatever property is requested; there are no others
 abbrev pub all_banks : List BankSelection
 all_banks =
     record { hash = alg.Sha1; select = 0xff_ffff }

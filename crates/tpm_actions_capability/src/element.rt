@@ -31,7 +31,7 @@ pub enum Telling {
 }
 
 impl Element {
-    /// An element that is listed as its own number.
+    /// An element whose listed value is its own number.
     pub(crate) fn by_itself(number: u32) -> Element
         ensures { result ≡ by_itself number }
     {
@@ -59,15 +59,15 @@ impl Element {
     }
 }
 
-/// The number of elements of a list whose number is at least this one.
+/// Counts the elements whose number is at least `from`.
 fn found_count(elements: &[Element], from: u32) -> usize
     ensures { result ≡ found_count from elements.now }
 {
     elements.iter().filter(|e| e.is_from(from)).count()
 }
 
-/// Writes an element if its number is at least this one and the limit is not reached; returns how
-/// many more may be written after it.
+/// Writes an element if its number is at least `from` and the limit is not reached. Returns how
+/// many more elements may be written after it.
 #[tactic(auto, using(crate::proofs::Telling::telling_one))]
 fn tell_if(e: &Element, telling: Telling, from: u32, left: usize, text: &mut Parameters) -> usize
     requires { length text.old + 8 * left ≤ answer_limit }
@@ -83,7 +83,7 @@ fn tell_if(e: &Element, telling: Telling, from: u32, left: usize, text: &mut Par
     left - 1
 }
 
-/// Writes the first elements whose number is at least this one, up to the limit.
+/// Writes the first elements whose number is at least `from`, up to the limit.
 fn tell_elements(
     elements: &[Element],
     telling: Telling,

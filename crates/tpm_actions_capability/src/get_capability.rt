@@ -74,7 +74,8 @@ impl Capability {
     }
 }
 
-/// Lists the handles with this highest byte; HANDLE if no handle type has this byte.
+/// Lists the handles with this most significant byte. Returns HANDLE if no handle type has this
+/// byte.
 fn handles<K: Keep>(keep: &K, kind: u32, elements: &mut Elements) -> Result<(), Refused>
     requires { elements.old.items ≡ [] }
     ensures { Tells (handle_elements (K.record_of keep.now) kind) result elements.new.items }
@@ -92,7 +93,7 @@ fn handles<K: Keep>(keep: &K, kind: u32, elements: &mut Elements) -> Result<(), 
     Ok(())
 }
 
-/// The number where the list of handles starts; for sessions it is a slot.
+/// The number at which the list of handles starts: for sessions a slot number, otherwise a handle.
 fn first_handle_of(property: u32) -> u32
     ensures { result ≡ first_handle_of property }
 {

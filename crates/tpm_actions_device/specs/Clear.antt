@@ -38,10 +38,11 @@ cleared_fixed banks random f = record f {
   restart_count = 0;
 }
 
--- the row of TPM2_Clear. Handle: authHandle (lockout or the platform), authorized. Parameters:
--- none. Refused by check A1 if TPM2_Clear is disabled, with either handle; by A2 if the update of
--- the PCRs cannot be counted. Effect: removes the owner's objects and indices, and the endorsement
--- hierarchy's objects; sessions and everything that belongs to the platform are unchanged
+-- the row of TPM2_Clear. Handle: authHandle (lockout or the platform), with authorization.
+-- Parameters: none. Refused by check A1 if TPM2_Clear is disabled, whichever handle authorizes it;
+-- by A2 if the update of the PCRs cannot be counted. Effect: removes the owner's objects and
+-- indices, and the endorsement hierarchy's objects; sessions and everything that belongs to the
+-- platform are unchanged
 unfoldable pub clear_row : Record → Request → Result Success Refused
 clear_row r q = do
   ended ← all_read q.parameters

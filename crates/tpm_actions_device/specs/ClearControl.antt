@@ -14,7 +14,7 @@ use Rattle.tpm_record.specs.rows.Refusals.{action_refusal}
 use Rattle.tpm_record.specs.rows.Request.{Request, first_handle}
 use Rattle.tpm_record.specs.rows.Rows.{Success, only}
 
--- the record with TPM2_Clear disabled, or enabled
+-- the record after TPM2_Clear was disabled (if `disables`) or enabled
 abbrev pub with_disable_clear : Record → Bool → Record
 with_disable_clear r disables = record r { fixed = record r.fixed { disable_clear = disables } }
 
@@ -22,7 +22,7 @@ with_disable_clear r disables = record r { fixed = record r.fixed { disable_clea
 abbrev pub is_enabled_by_lockout : Handle → (disables : Bool) → Bool
 is_enabled_by_lockout handle disables = handle.number == lockout_handle.number && not disables
 
--- the row of TPM2_ClearControl. Handle: authHandle (lockout or the platform), authorized.
+-- the row of TPM2_ClearControl. Handle: authHandle (lockout or the platform), with authorization.
 -- Parameter: disable. Refused by check A1 if TPM_RH_LOCKOUT is used to enable TPM2_Clear; this
 -- refusal does not count as a failed try
 unfoldable pub clear_control_row : Record → Request → Result Success Refused

@@ -8,8 +8,8 @@ use Rattle.tpm_record.specs.rows.Answer.{nothing}
 use Rattle.tpm_record.specs.rows.Request.{Request}
 use Rattle.tpm_record.specs.rows.Rows.{Success, all_read}
 
--- the row of TPM2_DictionaryAttackLockReset. Handle: lockHandle, authorized. Parameters: none.
--- Effect: resets the number of failed tries; the times of lockout are unchanged
+-- the row of TPM2_DictionaryAttackLockReset. Handle: lockHandle, with authorization. Parameters:
+-- none. Effect: resets the number of failed tries; the times of lockout are unchanged
 unfoldable pub dictionary_attack_lock_reset_row : Record → Request → Result Success Refused
 dictionary_attack_lock_reset_row r q = do
   ended ← all_read q.parameters

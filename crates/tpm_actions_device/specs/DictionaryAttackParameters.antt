@@ -26,8 +26,8 @@ lockout_parameters text = do
     lockout_recovery = lockout_recovery.0;
   })
 
--- the row of TPM2_DictionaryAttackParameters. Handle: lockHandle, authorized. Effect: sets the
--- three parameters, and restarts both times of lockout
+-- the row of TPM2_DictionaryAttackParameters. Handle: lockHandle, with authorization. Effect: sets
+-- the three parameters, and restarts both times of lockout
 unfoldable pub dictionary_attack_parameters_row : Record → Request → Result Success Refused
 dictionary_attack_parameters_row r q = do
   p ← lockout_parameters q.parameters

@@ -24,7 +24,7 @@ can_be_flushed handle = is_session handle || is_transient handle
 abbrev pub is_loaded : Record → Handle → Bool
 is_loaded r handle = is_some (session_at r.sessions handle) || is_some (object_at r.objects handle)
 
--- the record without the session, or without the transient object, with this handle
+-- the record without the session (if `of_session`) or transient object with this handle
 abbrev pub flushed_from : Record → Handle → (of_session : Bool) → Record
 flushed_from r handle true = record r { sessions = flushed r.sessions handle }
 flushed_from r handle false = record r { objects = without_object r.objects handle }
@@ -35,8 +35,9 @@ flushed_handle text = do
   number ← only (or_fault (number_at w32 text) (plain code.Insufficient))
   Ok (numbered number)
 
--- the row of TPM2_FlushContext. Parameter: flushHandle. Refused by check A1 if it is not the handle
--- of a session or a transient object; by A2 if no session or object with this handle is loaded
+-- the row of TPM2_FlushContext. Parameter: flushHandle. Refused by check A1 if flushHandle is not
+-- the handle of a session or a transient object; by A2 if no session or object with this handle is
+-- loaded
 unfoldable pub flush_context_row : Record → Request → Result Success Refused
 flush_context_row r q = do
   handle ← flushed_handle q.parameters

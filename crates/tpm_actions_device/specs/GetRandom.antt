@@ -10,13 +10,13 @@ use Rattle.tpm_record.specs.rows.Answer.{AnswerParts, Sized}
 use Rattle.tpm_record.specs.rows.Request.{Request}
 use Rattle.tpm_record.specs.rows.Rows.{Success, only, unchanged}
 
--- an answer that contains this number of the event's random bytes, as a sized buffer
+-- an answer that contains the first `count` of the event's random bytes, as a sized buffer
 abbrev pub random_answer : ℕ → List ℕ → AnswerParts
 random_answer count random =
     record { handle = None; body = Sized (take count random); drawn = count }
 
--- the row of TPM2_GetRandom. Parameter: bytesRequested. Answer: this number of the event's 256
--- random bytes, at most 32
+-- the row of TPM2_GetRandom. Parameter: bytesRequested. Answer: the first of the event's 256 random
+-- bytes, as many as requested but at most 32
 unfoldable pub get_random_row : Record → Request → Result Success Refused
 get_random_row r q = do
   requested ← only (or_fault (number_at w16 q.parameters) (plain code.Insufficient))

@@ -13,13 +13,13 @@ use Rattle.tpm_record.specs.rows.Request.{Request, first_handle}
 use Rattle.tpm_record.specs.rows.Answer.{nothing}
 use Rattle.tpm_record.specs.rows.Rows.{Success, only}
 
--- the hierarchies after the authorization value of the one with this handle is replaced
+-- the hierarchies after the authorization value of the hierarchy with this handle was replaced
 abbrev pub with_auth_of : Hierarchies → Handle → List ℕ → Hierarchies
 with_auth_of h handle value =
     option_map_or (λ auth. with_hierarchy_auth h auth value) (hierarchy_auth_of handle) h
 
--- the row of TPM2_HierarchyChangeAuth. Handle: authHandle, authorized. Parameter: newAuth, at most
--- 32 bytes, without its trailing zeros
+-- the row of TPM2_HierarchyChangeAuth. Handle: authHandle, with authorization. Parameter: newAuth,
+-- at most 32 bytes, whose trailing zeros are removed
 unfoldable pub hierarchy_change_auth_row : Record → Request → Result Success Refused
 hierarchy_change_auth_row r q = do
   handle ← first_handle q.handles

@@ -14,12 +14,12 @@ use Rattle.tpm_actions_device.specs.PcrChange.{on_pcr, with_banks}
 use Rattle.tpm_record.specs.rows.Answer.{nothing}
 use Rattle.tpm_record.specs.rows.Rows.{Success, only}
 
--- the banks after a PCR is extended from this locality by each digest in turn
+-- the banks after a PCR is extended with each digest in turn, from this locality
 abbrev pub extended : Handle → (locality : ℕ) → List DigestValue
     → BankValues → Result BankValues Refused
 extended handle locality digests = on_pcr (pcr_of handle) (λ pcr. extend_of pcr locality digests)
 
--- the row of TPM2_PCR_Extend. Handle: pcrHandle, authorized. Parameter: digests
+-- the row of TPM2_PCR_Extend. Handle: pcrHandle, with authorization. Parameter: digests
 unfoldable pub pcr_extend_row : Record → Request → Result Success Refused
 pcr_extend_row r q = do
   handle ← first_handle q.handles

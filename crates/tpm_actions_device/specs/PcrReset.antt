@@ -16,7 +16,7 @@ use Rattle.tpm_record.specs.rows.Rows.{Success, all_read}
 abbrev pub made_zeros : Handle → (locality : ℕ) → BankValues → Result BankValues Refused
 made_zeros handle locality = on_pcr (pcr_of handle) (λ pcr. reset_of pcr locality)
 
--- the row of TPM2_PCR_Reset. Handle: pcrHandle, authorized. Parameters: none
+-- the row of TPM2_PCR_Reset. Handle: pcrHandle, with authorization. Parameters: none
 unfoldable pub pcr_reset_row : Record → Request → Result Success Refused
 pcr_reset_row r q = do
   handle ← first_handle q.handles

@@ -26,8 +26,9 @@ use Rattle.tpm_record.specs.rows.Rows.{Success, only}
 use Rattle.tpm_actions_device.specs.declared.startup.Start.{Start}
 use Rattle.tpm_actions_device.specs.declared.startup.Start.TheVariants.{Reset, Restart, Resume}
 
--- the kind of a startup. If a state was saved, CLEAR is a TPM Restart, and STATE is a TPM Resume;
--- otherwise CLEAR is a TPM Reset. Refused by check A1 if STATE is requested and no state was saved
+-- the kind of a startup. If TPM2_Shutdown(STATE) saved a state, CLEAR is a TPM Restart, and STATE
+-- is a TPM Resume; otherwise CLEAR is a TPM Reset. Refused by check A1 if STATE is requested and no
+-- state was saved
 abbrev pub start_of : StartupType → SavedKind → Result Start Refused
 start_of type.Clear saved.Nothing = Ok Reset
 start_of type.Clear saved.Clear = Ok Reset
@@ -65,8 +66,7 @@ reset_hierarchies h random = record (without_platform_auth h) {
 abbrev pub reset_lockout : LockoutState → LockoutState
 reset_lockout s = if s.fields.lockout_recovery == 0 then with_closed false s else s
 
--- the fixed part after a TPM Reset: the reset count is incremented, and the count of restarts
--- since is 0
+-- the fixed part after a TPM Reset: the reset count is incremented, and the restart count becomes 0
 abbrev pub reset_fixed : Fixed → List ℕ → Fixed
 reset_fixed f random = record (begun_with f.banks f) {
   hierarchies = reset_hierarchies f.hierarchies random;
@@ -104,8 +104,8 @@ start_draws Restart = 0
 start_draws Resume = 0
 
 -- the row of TPM2_Startup. Parameter: startupType, from any locality. Refused by check A1 if there
--- is no state to restore. Effect: the saved state is discarded, as by any other successful command
--- that does not preserve it
+-- is no state to restore. Effect: starts the device. The saved state is discarded, as it is by any
+-- other successful command that does not preserve it
 unfoldable pub startup_row : Record → Request → Result Success Refused
 startup_row r q = do
   type ← only (startup_type_at q.parameters)

@@ -20,7 +20,8 @@ use tpm_types::{ActionCheck, Refused, ResponseCode};
 /// endorsement hierarchy's proof.
 const CLEAR_DRAWS: usize = 3 * 32;
 
-/// Clears the fixed part of the state, except the PCRs, whose update was already counted.
+/// Clears the fixed part of the state, except for the PCRs: the caller has already counted their
+/// update.
 fn clear_fixed(fixed: &mut Fixed, random: &[u8; 256])
     ensures { fixed.new ≡ cleared_fixed fixed.old.banks random.now fixed.old }
 {

@@ -1,4 +1,4 @@
-//! TPM2_PCR_Event: extends a PCR by the digests of some data, and returns these digests, as
+//! TPM2_PCR_Event: extends a PCR with the digests of some data, and returns these digests, as
 //! specified by its row in `specs/PcrEvent`.
 
 ghost use Rattle.tpm_actions_device.specs.PcrEvent.{pcr_event_row};
@@ -15,7 +15,7 @@ use tpm_record::rows::call::Call;
 use tpm_record::rows::reading::{end, parameter};
 use tpm_types::{DATA_LIMIT, Refused, read_buffer};
 
-/// TPM2_PCR_Event: extends a PCR by the digests of the data, and returns the digests. With
+/// TPM2_PCR_Event: extends a PCR with the digests of the data, and returns the digests. With
 /// TPM_RH_NULL it checks and changes nothing, but still returns the digests.
 #[tactic(auto, unfolding(crate::specs::PcrEvent::pcr_event_row))]
 pub fn pcr_event<K: Keep>(keep: &mut K, call: &Call, answer: &mut Answer) -> Result<(), Refused>

@@ -1,4 +1,4 @@
-//! TPM2_PCR_Extend: extends a PCR by each digest of a list in turn, as specified by its row in
+//! TPM2_PCR_Extend: extends a PCR with each digest of a list in turn, as specified by its row in
 //! `specs/PcrExtend`.
 
 ghost use Rattle.std.specs.Prelude.{◌≡◌};
@@ -15,7 +15,7 @@ use tpm_record::rows::call::Call;
 use tpm_record::rows::reading::{end, parameter};
 use tpm_types::{DigestValues, Refused};
 
-/// TPM2_PCR_Extend: extends a PCR by each digest in turn. With TPM_RH_NULL it checks and changes
+/// TPM2_PCR_Extend: extends a PCR with each digest in turn. With TPM_RH_NULL it checks and changes
 /// nothing.
 #[tactic(auto, unfolding(crate::specs::PcrExtend::pcr_extend_row))]
 pub fn pcr_extend<K: Keep>(keep: &mut K, call: &Call, _answer: &mut Answer) -> Result<(), Refused>

@@ -60,8 +60,8 @@ pub enum Start {
 }
 
 impl Start {
-    /// The kind of a startup with this type. Returns VALUE if it requests a saved state and none
-    /// is saved.
+    /// The kind of a startup with this type. Returns VALUE if the type is STATE and no state was
+    /// saved.
     fn of(kind: StartupType, saved: SavedKind) -> Result<Start, Refused>
         ensures { result ≡ start_of kind saved }
     {
@@ -131,8 +131,8 @@ fn begin<K: Keep>(keep: &mut K, start: Start, random: &[u8; 256]) -> usize
     }
 }
 
-/// TPM2_Startup: a TPM Reset, a TPM Restart or a TPM Resume. Returns VALUE if it requests a saved
-/// state and none is saved.
+/// TPM2_Startup: a TPM Reset, a TPM Restart or a TPM Resume. Returns VALUE if the type is STATE and
+/// no state was saved.
 #[tactic(auto, unfolding(crate::specs::Startup::startup_row))]
 pub fn startup<K: Keep>(keep: &mut K, call: &Call, answer: &mut Answer) -> Result<(), Refused>
     requires { IsEmpty answer.old }

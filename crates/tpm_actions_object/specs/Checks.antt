@@ -1,6 +1,6 @@
--- The checks of a template and of a creation, as part of a command's own checks. TPM 2.0 Library,
--- Part 3, section 12 (object commands). The response codes and the order of the checks are this
--- device's own.
+-- The checks of a template and of inSensitive, as part of a command's own checks. TPM 2.0 Library,
+-- Part 3, section 12 (object commands). The response codes and the order of the checks are choices
+-- of this implementation.
 use Rattle.tpm_types.specs.ActionCheck.{action_named}
 use Rattle.std.specs.Prelude.{ℕ, ◌+◌, Bool, Result}
 use Rattle.tpm_object.specs.declared.creation.CreationFault.{CreationFault}
@@ -15,22 +15,22 @@ use Rattle.tpm_types.specs.declared.rc.ResponseCode.TheVariants as code
 use Rattle.tpm_types.specs.declared.refused.Refused.{Refused}
 use Rattle.tpm_record.specs.rows.Refusals.{or_refusal, parameter_refusal}
 
--- the refusal of a template, or of a public area to be loaded, if one of its checks fails;
--- `before` is the number of the command's own checks that precede these. The template is the
+-- the refusal of a template, or of a public area to be loaded, if one of its checks fails; `before`
+-- is the number of the command's own checks before those of the template. The template is the
 -- second parameter
 abbrev pub template_refusal : (before : ℕ) → TemplateFault → Refused
 template_refusal before template.AuthPolicySize = parameter_refusal (action_named (before + 1)) 2 code.Size
 template_refusal before template.Attributes = parameter_refusal (action_named (before + 2)) 2 code.Attributes
 template_refusal before template.Scheme = parameter_refusal (action_named (before + 3)) 2 code.Scheme
 
--- the refusal of the input that accompanies a template; it is the first parameter. A conflict
--- with the template's attributes is reported as an error of the attributes
+-- the refusal if a check of inSensitive, the first parameter, fails. A conflict with the template's
+-- attributes is reported as an error of the attributes
 abbrev pub creation_refusal : (before : ℕ) → CreationFault → Refused
 creation_refusal before creation.AuthValueSize = parameter_refusal (action_named (before + 1)) 1 code.Size
 creation_refusal before creation.Attributes = parameter_refusal (action_named (before + 2)) 2 code.Attributes
 creation_refusal before creation.DataSize = parameter_refusal (action_named (before + 3)) 1 code.Size
 
--- the checks of a public area; and of the input that accompanies a template
+-- the checks of a public area (`public_passes`), and of inSensitive (`given_passes`)
 abbrev pub public_passes : (before : ℕ)
     → (parent_is_fixed : Bool) → Public → Result (Unit {0}) Refused
 public_passes before parent_is_fixed p =

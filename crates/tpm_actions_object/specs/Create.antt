@@ -30,8 +30,8 @@ create_answer r q parent p new = record {
   drawn = drawn_by p.template p.given + 16;
 }
 
--- the row of TPM2_Create. Handle: parentHandle. Refused by check A1 if it is not a storage parent;
--- by A2 to A4, the checks of the template; by A5 to A7, the checks of the other input
+-- the row of TPM2_Create. Handle: parentHandle. Refused by check A1 if the handle's object is not a
+-- storage parent; by A2 to A4, the checks of the template; by A5 to A7, the checks of inSensitive
 unfoldable pub create_row : Record → Request → Result Success Refused
 create_row r q = do
   handle ← first_handle q.handles

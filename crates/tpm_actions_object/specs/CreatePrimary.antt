@@ -43,8 +43,8 @@ primary_answer r q hierarchy p place object = record {
   drawn = 0;
 }
 
--- the row of TPM2_CreatePrimary. Handle: primaryHandle. Refused by checks A1 to A3, those of the
--- template; by A4 to A6, the checks of the other input; by A7 if no slot is free
+-- the row of TPM2_CreatePrimary. Handle: primaryHandle. Refused by A1 to A3, the checks of the
+-- template; by A4 to A6, the checks of inSensitive; by A7 if no slot is free
 unfoldable pub create_primary_row : Record → Request → Result Success Refused
 create_primary_row r q = do
   handle ← first_handle q.handles

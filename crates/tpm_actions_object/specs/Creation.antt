@@ -91,7 +91,7 @@ creation_data r locality parent p public = record {
   outside_info = p.outside_info;
 }
 
--- the hash of creation data, without their size field
+-- the hash of creation data, without its size field
 abbrev pub creation_hash : Public → CreationData → List ℕ
 creation_hash public creation = hash_of public.name_alg (creation_data_text creation)
 
@@ -99,15 +99,15 @@ creation_hash public creation = hash_of public.name_alg (creation_data_text crea
 abbrev pub creation_tag : List ℕ
 creation_tag = to_be_bytes w16 0x8021
 
--- the creation ticket: its tag, the hierarchy, and an HMAC over the tag, the object's Name and
--- the creation hash. The HMAC's key is the hierarchy's proof; its hash is SHA-256 (this device's
--- own choice)
+-- the creation ticket: its tag, the hierarchy, and an HMAC over the tag, the object's Name and the
+-- creation hash. The HMAC's key is the hierarchy's proof; its hash algorithm is SHA-256 (a choice
+-- of this implementation)
 unfoldable pub ticket_text : HierarchyHandle → (proof name hash : List ℕ) → List ℕ
 ticket_text hierarchy proof name hash =
     creation_tag ++ to_be_bytes w32 (hierarchy_handle hierarchy).number
     ++ sized_text (hmac_of Sha256 proof (creation_tag ++ name ++ hash))
 
--- the part of a creation's answer after the public area: the creation data, their hash, and the
+-- the part of a creation's answer after the public area: the creation data, its hash, and the
 -- ticket
 unfoldable pub creation_rest : Record → (locality : ℕ) → Parent → Parameters → Public → List ℕ
 creation_rest r locality parent p public =
@@ -117,7 +117,7 @@ creation_rest r locality parent p public =
     sized_text (creation_data_text creation) ++ sized_text hash
     ++ ticket_text parent.hierarchy proof (object_name public) hash
 
--- the part of a creation's answer that starts with the public area: that area, and the rest
+-- the answer of a creation from the public area on: the public area, and the part after it
 abbrev pub creation_text : Record → (locality : ℕ) → Parent → Parameters → Public → List ℕ
 creation_text r locality parent p public =
     sized_text (public_text public) ++ creation_rest r locality parent p public

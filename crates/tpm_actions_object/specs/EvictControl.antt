@@ -25,17 +25,17 @@ use Rattle.tpm_record.specs.rows.Request.{Request, first_handle, second_handle}
 use Rattle.tpm_record.specs.rows.Rows.{Success, only}
 use Rattle.tpm_actions_object.specs.Loaded.{loaded_at}
 
--- whether the owner, or the platform, may make an object of this hierarchy persistent. The
--- objects of the endorsement hierarchy belong to the owner; objects of the null hierarchy cannot
--- be made persistent
+-- whether the platform (if `by_platform`) or the owner may make an object of this hierarchy
+-- persistent. The objects of the endorsement hierarchy belong to the owner; objects of the null
+-- hierarchy cannot be made persistent
 abbrev pub is_of : (by_platform : Bool) → HierarchyHandle → Bool
 is_of false hierarchy.Owner = true
 is_of false hierarchy.Endorsement = true
 is_of true hierarchy.Platform = true
 is_of _ _ = false
 
--- whether the platform, or the owner, may evict an object: each may evict its own, and the
--- platform may also remove any persistent object
+-- whether the platform (if `by_platform`) or the owner may evict an object: each may evict its own
+-- objects, and the platform may also remove any persistent object
 abbrev pub may_evict : (by_platform removes : Bool) → HierarchyHandle → Bool
 may_evict true true h = true
 may_evict true false h = is_of true h
@@ -45,15 +45,16 @@ may_evict false removes h = is_of false h
 abbrev pub is_of_platform : Handle → Bool
 is_of_platform handle = nat_le 0x81800000 handle.number
 
--- whether the platform, or the owner, may use this persistent handle. The owner may not use the
--- platform's handles; for a new persistent object the platform may use only its own
+-- whether the platform (if `by_platform`) or the owner may use this persistent handle. The owner
+-- may not use the platform's handles; for a new persistent object the platform may use only its own
 abbrev pub may_name : (by_platform removes : Bool) → Handle → Bool
 may_name true true wanted = true
 may_name true false wanted = is_of_platform wanted
 may_name false removes wanted = not (is_of_platform wanted)
 
--- the checks of an eviction by the platform, or by the owner. Refused by check A1 if it may not
--- evict the object; by A2 if the object has stClear; by A3 if it may not use the handle
+-- the checks of an eviction by the platform (if `by_platform`) or the owner. Refused by check A1 if
+-- they may not evict the object; by A2 if the object has stClear; by A3 if they may not use the
+-- handle
 abbrev pub eviction_passes : (by_platform removes : Bool)
     → Object → Handle → Result (Unit {0}) Refused
 eviction_passes by_platform removes object wanted = do
@@ -63,8 +64,8 @@ eviction_passes by_platform removes object wanted = do
       (action_refusal action.Second (at (place.Handle 2) (plain code.Attributes)))
   refused_if (not (may_name by_platform removes wanted)) (parameter_refusal action.Third 1 code.Range)
 
--- the persistent objects without the one with this handle. Refused by check A4 if persistentHandle
--- is a different handle
+-- the persistent objects without the object with this handle. Refused by check A4 if
+-- persistentHandle is a different handle
 abbrev pub removed : Entries Object → Handle → Handle → Result (Entries Object) Refused
 removed objects handle wanted = do
   a4 ← refused_if (not (wanted.number == handle.number))
@@ -86,7 +87,7 @@ evicted objects handle object wanted =
     if is_persistent handle then removed objects handle wanted else copied objects object wanted
 
 -- the row of TPM2_EvictControl. Handles: auth (the owner or the platform) and objectHandle.
--- Parameter: persistentHandle. Refused by checks A1 to A6, those of an eviction
+-- Parameter: persistentHandle. Refused by A1 to A6, the checks of an eviction
 unfoldable pub evict_control_row : Record → Request → Result Success Refused
 evict_control_row r q = do
   auth ← first_handle q.handles
@@ -98,8 +99,9 @@ evict_control_row r q = do
   persistent ← evicted r.persistent handle object wanted
   Ok (record { answer = nothing; after = record r { persistent = persistent } })
 
--- The code changed the persistent objects as defined, or ran out of memory, if that can happen; or
--- it refused as defined. A refusal changes nothing.
+-- The code changed the persistent objects or refused the command, as defined. If memory can run
+-- out, it may have refused the command with MEMORY instead of changing them. A refusal changes
+-- nothing.
 abbrev pub Evicts : Bool → Result (Entries Object) Refused
     → Record → Result (Unit {0}) Refused → Record → Type 0
 Evicts can (Ok persistent) old (Ok done) new = new ≡ record old { persistent = persistent }

@@ -54,9 +54,9 @@ parameters_in text = do
   ended ← all_read public.1
   Ok (record { private = private.0; public = public.0 })
 
--- the row of TPM2_Load. Handle: parentHandle. Refused by check A1 if it is not a storage parent; by
--- A2 to A4, the checks of the public area; by A5, the check of the private area; by A6 if no slot
--- is free
+-- the row of TPM2_Load. Handle: parentHandle. Refused by check A1 if the handle's object is not a
+-- storage parent; by A2 to A4, the checks of the public area; by A5, the check of the private area;
+-- by A6 if no slot is free
 unfoldable pub load_row : Record → Request → Result Success Refused
 load_row r q = do
   handle ← first_handle q.handles

@@ -1,4 +1,4 @@
--- The object that a command's handle names, and the conditions that a parent must meet.
+-- The object that a command's handle names, and the conditions that a parent must satisfy.
 use Rattle.tpm_types.specs.declared.action_check.ActionCheck.{ActionCheck}
 use Rattle.tpm_types.specs.declared.action_check.ActionCheck.TheVariants as action
 use Rattle.std.specs.Prelude.{◌≡◌, ℕ, not, Bool, true, Result, Ok, Err, ok_or}
@@ -34,16 +34,16 @@ parent_passes parent =
 abbrev pub is_fixed : Object → Bool
 is_fixed parent = has parent.public.attributes attribute.FixedTpm
 
--- the refusal if all object slots are taken, with this check
+-- the refusal by this check if all object slots are taken
 abbrev pub no_place : ActionCheck → Refused
 no_place action = action_refusal action (plain code.ObjectMemory)
 
--- the slot for a new object, or the refusal if no slot is free, with this check
+-- the slot for a new object, or the refusal by this check if no slot is free
 abbrev pub place_for : ActionCheck → Record → Result ℕ Refused
 place_for action r = ok_or (lowest_free r.objects) (no_place action)
 
--- The code put an object into its slot; or it ran out of memory, if that can happen; or no slot
--- was free. A refusal changes nothing.
+-- The code put an object into its slot, or refused because no slot was free or, if that can happen,
+-- because memory ran out. A refusal changes nothing.
 abbrev pub Loads : Bool → Result ℕ Refused → Record → Object → Result Handle Refused → Record
     → Type 0
 Loads can (Ok place) old object (Ok handle) new =

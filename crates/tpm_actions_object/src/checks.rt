@@ -1,5 +1,5 @@
-//! The checks of a template and of the other input of a creation, with the refusals of the
-//! command that makes or loads an object.
+//! The checks of a template and of inSensitive, and their refusals in the commands that create or
+//! load an object.
 
 ghost use Rattle.std.specs.Prelude.{◌≡◌, ◌≤◌};
 ghost use Rattle.tpm_types_object.specs.SensitiveCreate.{sensitive_values_of};
@@ -11,7 +11,7 @@ use tpm_types::{ActionCheck, Refused, ResponseCode};
 use tpm_types_object::{Public, SensitiveCreate};
 
 /// The refusal if a check of a template fails. `before` is the number of the command's own checks
-/// that precede it.
+/// before those of the template.
 fn template_refusal(before: u8, fault: TemplateFault) -> Refused
     requires { before ≤ 4 }
     ensures { result ≡ template_refusal before fault }
@@ -35,8 +35,8 @@ fn template_refusal(before: u8, fault: TemplateFault) -> Refused
     }
 }
 
-/// The refusal if a check of the input that accompanies a template fails. `before` is the number of
-/// the command's own checks that precede it.
+/// The refusal if a check of inSensitive fails. `before` is the number of the command's own checks
+/// before those of inSensitive.
 fn creation_refusal(before: u8, fault: CreationFault) -> Refused
     requires { before ≤ 4 }
     ensures { result ≡ creation_refusal before fault }
@@ -61,7 +61,7 @@ fn creation_refusal(before: u8, fault: CreationFault) -> Refused
 }
 
 /// Checks a template, or a public area to be loaded. `before` is the number of the command's own
-/// checks that precede these.
+/// checks before those of the template.
 pub fn public_passes(before: u8, public: &Public, parent_is_fixed: bool) -> Result<(), Refused>
     requires { before ≤ 4 }
     ensures { result ≡ public_passes before parent_is_fixed public.now }
@@ -72,7 +72,7 @@ pub fn public_passes(before: u8, public: &Public, parent_is_fixed: bool) -> Resu
     }
 }
 
-/// Checks the input that accompanies a template.
+/// Checks inSensitive against the template.
 pub fn given_passes(before: u8, given: &SensitiveCreate, template: &Public) -> Result<(), Refused>
     requires { before ≤ 4 }
     ensures { result ≡ given_passes before (sensitive_values_of given.now) template.now }

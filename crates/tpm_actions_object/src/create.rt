@@ -20,7 +20,7 @@ use tpm_types::Refused;
 /// The number of random bytes in the IV of a private area.
 const VECTOR_SIZE: usize = 16;
 
-/// The random bytes for a private area's IV, which follow those for the object.
+/// The random bytes for a private area's IV, which follow the random bytes for the object.
 fn initial_vector(random: &[u8; 256], drawn: usize) -> [u8; 16]
     requires { drawn ≤ 64 }
     ensures { result ≡ take 16 (drop drawn random.now) }

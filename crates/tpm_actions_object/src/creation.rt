@@ -124,7 +124,7 @@ fn ticket(hierarchy: HierarchyHandle, proof: &[u8; 32], name: &Name, hash: &[u8]
     text
 }
 
-/// Appends a public area, creation data, their hash and a ticket.
+/// Appends a public area, creation data, its hash and a ticket.
 fn write_creation(area: &[u8], creation: &[u8], hash: &[u8], ticket: &[u8], text: &mut Parameters)
     requires room { length text.old ≤ 256 }
     requires area { length area.now ≤ 82 }

@@ -72,8 +72,8 @@ fn may_name(by_platform: bool, removes: bool, wanted: Handle) -> bool
     }
 }
 
-/// Refuses an object that the owner or the platform may not evict, or a handle that it may not
-/// use.
+/// Refuses an object that the platform (if `by_platform`) or the owner may not evict, or a handle
+/// that they may not use.
 fn check_eviction(
     by_platform: bool,
     removes: bool,

@@ -35,7 +35,8 @@ fn scheme_of(parameters: PublicParameters) -> Result<KeyedHashScheme, Refused>
     }
 }
 
-/// The hash for a key whose scheme names one; the command may request the same hash, or NULL.
+/// The hash for a key whose scheme names a hash: the scheme's hash if the command requests the same
+/// hash or NULL; otherwise None.
 fn own_hash(own: HashAlg, asked: Option<HashAlg>) -> Option<HashAlg>
     ensures { result ≡ own_hash own asked }
 {

@@ -43,7 +43,7 @@ pub fn is_fixed(parent: &Object) -> bool
     parent.public.attributes.has(ObjectAttribute::FixedTpm)
 }
 
-/// The refusal if all object slots are taken, with one of a command's own checks.
+/// The refusal by one of a command's own checks if all object slots are taken.
 fn no_place(check: ActionCheck) -> Refused
     ensures { result ≡ no_place check }
 {

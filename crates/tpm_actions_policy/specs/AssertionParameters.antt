@@ -1,4 +1,4 @@
--- The assertion that the code's parameters request, in terms of the definitions.
+-- Translates an assertion that the code's parameters request into an assertion of the definitions.
 use Rattle.std.specs.Prelude.{◌≡◌, Result, Ok, Err}
 use Rattle.tpm_policy.specs.Assertion as assertion
 use Rattle.tpm_policy.specs.Assertion.{Assertion}

@@ -1,5 +1,5 @@
--- The commands that make an assertion on a session's policy: the session, the assertion, and the
--- row that all of them share. TPM 2.0 Library, Part 3, section 23.
+-- The parts of the commands that make an assertion on a session's policy: their session, their
+-- assertion, and the row that all of them share. TPM 2.0 Library, Part 3, section 23.
 use Rattle.std.specs.Prelude.{◌≡◌, Bool, true, false, List, [], Option, Result, Ok, Err, ok_or}
 use Rattle.std.specs.Borrow.{Bor}
 use Rattle.tpm_bytes.specs.Reading.{◌>>=◌}
@@ -42,8 +42,8 @@ asserts command.PolicySecret = true
 asserts command.PolicyNv = true
 asserts _ = false
 
--- the handle of the session for a command's assertion; it follows the handles of the entity that
--- the command authorizes and of the index that it compares
+-- the handle of the session on which a command makes its assertion. It follows the handles of the
+-- authorizing entity and of the compared index, if the command has them
 abbrev pub session_handle : CommandCode → List Handle → Result Handle Refused
 session_handle command.PolicySecret handles = second_handle handles
 session_handle command.PolicyNv handles = third_handle handles

@@ -1,5 +1,5 @@
--- TPM2_PolicyNV. TPM 2.0 Library, Part 3, section 23.9. The order of the checks is this device's
--- own.
+-- TPM2_PolicyNV. TPM 2.0 Library, Part 3, section 23.9. The order of the checks is a choice of this
+-- implementation.
 use Rattle.std.specs.Prelude.{ℕ, List, length, Result, Ok, Err}
 use Rattle.std.specs.Int.{w16}
 use Rattle.tpm_bytes.specs.Reading.{◌>>=◌, number_at, or_fault}
@@ -22,7 +22,7 @@ use Rattle.tpm_record.specs.rows.Rows.{all_read, parameter}
 use Rattle.tpm_record.specs.rows.Target.{reading_passes, target_of}
 use Rattle.tpm_record.specs.declared.rows.target.Target.{Target}
 
--- the parameters operandB, at most 32 bytes, offset and operation
+-- the parameters operandB (at most 32 bytes), offset and operation
 pub record Parameters : Type 0 where
   pub operand : List ℕ
   pub offset : ℕ
@@ -36,8 +36,8 @@ nv_parameters text = do
   ended ← all_read operation.1
   Ok (record { operand = operand.0; offset = offset.0; operation = operation.0 })
 
--- the bytes that are compared with the operand: the index's data from the offset on, of the same
--- size as the operand. Refused by checks A1 to A3, those of every command that reads an index; by
+-- the bytes that are compared with the operand: as many bytes of the index's data, from the offset
+-- on, as the operand has. Refused by A1 to A3, the checks of every command that reads an index; by
 -- A4 if the bytes extend past the end of the data. After check A3, the read can fail for no other
 -- reason (reading_laws of tpm_record)
 abbrev pub compared : Record → Target → Parameters → Result (List ℕ) ActionFault
@@ -57,7 +57,7 @@ nv_parts_of r target p = record {
 }
 
 -- the assertion of TPM2_PolicyNV. Handles: authHandle, nvIndex and policySession. The checks A1 to
--- A5 are part of the assertion, and are skipped on a trial session. Refused by check A1 if
+-- A5 are part of the assertion, and are skipped in a trial session. Refused by check A1 if
 -- authHandle may not read the index; by A2 if the index is locked; by A3 if it is not written; by
 -- A4 if the bytes extend past the end of its data; by A5 if the comparison with the operand does
 -- not hold

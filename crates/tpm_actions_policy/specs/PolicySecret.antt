@@ -37,7 +37,7 @@ secret_parameters text = do
     expiration = expiration.0;
   })
 
--- the data of the assertion about the entity with this Name
+-- the data of a TPM2_PolicySecret assertion about the entity with this Name
 abbrev pub secret_of : Parameters → (name : List ℕ) → Session → SecretParts
 secret_of p name s = record {
   name = name;
@@ -48,8 +48,8 @@ secret_of p name s = record {
   expiration = p.expiration;
 }
 
--- the assertion of TPM2_PolicySecret: the entity that the command's first handle names was
--- authorized by this command
+-- the assertion of TPM2_PolicySecret: the entity that the command's first handle names authorized
+-- this command
 abbrev pub secret_assertion : Record → Request → Result (Session → Assertion) Refused
 secret_assertion r q = do
   entity ← first_handle q.handles

@@ -1,4 +1,4 @@
-//! TPM2_PolicyOR: continues from any of several branches of a policy, as specified by its row in
+//! TPM2_PolicyOR: continues a policy after any one of several branches, as specified by its row in
 //! `specs/PolicyOr`.
 
 ghost use Rattle.std.specs.Prelude.{◌≡◌};
@@ -16,7 +16,7 @@ use tpm_record::rows::call::Call;
 use tpm_record::rows::reading::{end, parameter};
 use tpm_types::{DigestList, Refused};
 
-/// TPM2_PolicyOR: continues from any of several branches.
+/// TPM2_PolicyOR: continues a policy after any one of several branches.
 #[tactic(auto, unfolding(crate::specs::Assertions::assertion_row))]
 pub fn policy_or<K: Keep>(keep: &mut K, call: &Call, _answer: &mut Answer) -> Result<(), Refused>
     requires { IsEmpty _answer.old }

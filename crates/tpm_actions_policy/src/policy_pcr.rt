@@ -23,7 +23,7 @@ use tpm_record::rows::reading::{end, parameter};
 use tpm_session::Session;
 use tpm_types::{ActionFault, DIGEST_LIMIT, PcrSelection, Refused, read_buffer};
 
-/// The PCRs to compare, and the digest of their values from the command.
+/// The PCRs to compare, and the expected digest of their values, as given in the command.
 #[derive(Clone, Copy)]
 pub struct ComparedPcrs<'a> {
     given: &'a [u8],
@@ -31,7 +31,7 @@ pub struct ComparedPcrs<'a> {
 }
 
 impl ComparedPcrs<'_> {
-    /// Adds the assertion of the current PCR values to a session's policy.
+    /// Adds the assertion of TPM2_PolicyPCR, with the current PCR values, to a session's policy.
     pub(crate) fn assert_on<K: Keep>(
         &self,
         keep: &K,

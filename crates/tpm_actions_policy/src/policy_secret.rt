@@ -1,4 +1,4 @@
-//! TPM2_PolicySecret: asserts that an entity was authorized, as specified by its row in
+//! TPM2_PolicySecret: asserts that an entity authorized the command, as specified by its row in
 //! `specs/PolicySecret`.
 
 ghost use Rattle.tpm_bytes.specs.Reading.{Gives};
@@ -28,7 +28,7 @@ use tpm_types::{ActionFault, DIGEST_LIMIT, Handle, Refused, read_buffer};
 /// An empty timeout, and the null ticket: TPM_ST_AUTH_SECRET, TPM_RH_NULL, an empty digest.
 const NO_TICKET: [u8; 10] = [0, 0, 0x80, 0x23, 0x40, 0, 0, 7, 0, 0];
 
-/// The entity that is authorized, and the other parameters of TPM2_PolicySecret.
+/// The entity that authorizes the command, and the other parameters of TPM2_PolicySecret.
 #[derive(Clone, Copy)]
 pub struct ShownSecret<'a> {
     entity: Handle,
@@ -39,7 +39,7 @@ pub struct ShownSecret<'a> {
 }
 
 impl ShownSecret<'_> {
-    /// Adds the assertion of the secret to a session's policy.
+    /// Adds this assertion of TPM2_PolicySecret to a session's policy.
     pub(crate) fn assert_on<K: Keep>(
         &self,
         keep: &K,
@@ -85,7 +85,7 @@ fn read_secret<'a>(entity: Handle, parameters: &'a [u8]) -> Result<ShownSecret<'
     })
 }
 
-/// TPM2_PolicySecret: asserts that the entity was authorized.
+/// TPM2_PolicySecret: asserts that an entity authorized the command.
 #[tactic(auto, unfolding(crate::specs::Assertions::assertion_row))]
 pub fn policy_secret<K: Keep>(keep: &mut K, call: &Call, answer: &mut Answer) -> Result<(), Refused>
     requires { IsEmpty answer.old }

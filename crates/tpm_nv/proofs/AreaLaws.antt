@@ -1,4 +1,4 @@
--- A call whose checks all pass has the result that its definition returns after the checks.
+-- If all checks of a call pass, the call returns what its definition returns after the checks.
 use Rattle.std.proofs.Common.{◌≡◌, ℕ, ◌+◌, ◌<◌, ◌≤◌, ◌^◌, false, true, List, ◌++◌, length, Ok, refl}
 use Rattle.std.specs.Prelude.{◌&&◌, ◌||◌, ◌==◌, not, bit_or}
 use Rattle.std.specs.Int.{w64, to_be_bytes}

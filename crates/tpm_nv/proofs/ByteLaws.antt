@@ -1,5 +1,6 @@
--- To open a gap in a list of bytes, bytes are moved from the end of the list into it. To close the
--- gap, its bytes are moved to the end.
+-- A gap of zeros is opened in a list of bytes in two steps: the zeros are appended at the end, and
+-- then moved from the end to the gap's offset. A gap is closed in two steps: its bytes are moved to
+-- the end, and then the list is truncated.
 use Rattle.std.proofs.Common.{◌≡◌, ℕ, ◌+◌, ◌-◌, ◌≤◌, List, ◌++◌, length, take, drop, replicate, refl, sym, append_assoc, arith, length-append, length-drop}
 use Rattle.std.proofs.lemmas.List.{length-replicate, take_at, drop_at, take-append-le, drop-append-le, length-take-le}
 use Rattle.std.specs.List.{copy_within}

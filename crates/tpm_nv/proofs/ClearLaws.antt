@@ -1,5 +1,5 @@
--- The effect of TPM2_Clear on indices: which bytes are kept, and which indices the remaining heads
--- and bytes represent.
+-- The effect of TPM2_Clear on stored NV indices: which bytes of the data area are kept, and which
+-- indices the remaining heads and bytes represent.
 use Rattle.std.proofs.Common.{◌≡◌, ℕ, ◌+◌, ◌-◌, ◌≤◌, Bool, true, false, cond, List, [], ◌∷◌, ◌++◌, length, take, drop, refl, sym, ap, ◌∙◌, arith, append_assoc, length-append, length-drop}
 use Rattle.std.proofs.lemmas.Bool.{cond_both}
 use Rattle.std.proofs.lemmas.List.{drop-drop, drop_at, length-take-le, take_at}
@@ -24,7 +24,7 @@ module _ (start size place : ℕ) (area : List ℕ) (inside : start + size ≤ l
   moved_back : drop (place + size) (moved_down start size place area) ≡ drop (place + size) area
   moved_back = rw in_two (drop_at (take place area ++ piece_of start size area) (drop (place + size) area) (place + size) front_long)
 
-  -- The bytes after the piece's old position are unchanged.
+  -- Moving a piece down does not change the bytes after its old position.
   pub moved_behind : drop (start + size) (moved_down start size place area) ≡ drop (start + size) area
   moved_behind =
       let far : start + size ≡ place + size + (start - place) = omega (arith, lower) in

@@ -1,5 +1,5 @@
--- If the heads and the area with their bytes change together, the indices that they represent
--- change accordingly.
+-- If the heads (the NV indices without their data) and the area with their data change together,
+-- the NV indices that they represent change accordingly.
 use Rattle.std.proofs.Common.{◌≡◌, ◌≢◌, ℕ, ◌+◌, ◌-◌, ◌<◌, ◌≤◌, cond, eqb, leb, zero, suc, List, [], ◌∷◌, ◌++◌, length, get_or, take, drop, replicate, Option, Some, None, refl, sym, ap, subst, ◌∙◌, arith, inl, inr, append_assoc, length-append, length-drop}
 use Rattle.std.proofs.Math.Seq.{drop-append-add, take-append-add}
 use Rattle.std.specs.List.{sum_by}
@@ -27,8 +27,8 @@ drop_front n s area rest fits =
 
 -- ---- a key that exists
 
--- A key that is found either equals the first key, or is above it and found among the other
--- entries.
+-- In a sorted list, a key that is found either equals the first key, or is above it and found among
+-- the other entries.
 data Place (e : ℕ × Head) (es : Entries Head) (key : ℕ) (h : Head) : Type 0 where
   here : e.0 ≡ key → e.1 ≡ h → Place e es key h
   behind : e.0 ≢ key → e.0 < key → at_key es key ≡ Some h → Place e es key h
@@ -317,7 +317,8 @@ put_all piece bytes same =
     let none : drop (0 + length piece) bytes ≡ [] = drop_all (0 + length piece) bytes (omega arith) in
     rw none (append-nil piece)
 
--- If a gap is opened, filled with a piece and closed, the area is unchanged.
+-- If a gap is opened in the area, filled with a piece, and closed again, the area is the original
+-- one.
 pub closed_again : (start size : ℕ) (piece area : List ℕ) → start ≤ length area → length piece ≡ size → closed_up start size (take start area ++ (piece ++ drop start area)) ≡ area
 closed_again start size piece area inside same =
     let front = take start area in

@@ -83,7 +83,7 @@ unlocked_written a =
     (λ _. first)
     (λ _. second ∙ first)
 
--- If an index is written after a startup, it was also written before.
+-- If an index has WRITTEN set after a startup, it also had WRITTEN set before.
 kept_bytes : (a : NvAttributes) (bytes : List ℕ) → cond (has (kept_written a) attribute.Written) bytes [] ≡ cond (has (kept_written a) attribute.Written) (cond (has a attribute.Written) bytes []) []
 kept_bytes a bytes =
     cond_both (has a attribute.ClearStClear) (without_attribute a attribute.Written) a (λ (b : NvAttributes). cond (has b attribute.Written) bytes [] ≡ cond (has b attribute.Written) (cond (has a attribute.Written) bytes []) [])

@@ -56,20 +56,20 @@ marked index attribute =
 abbrev pub with_data : NvIndex → List ℕ → NvIndex
 with_data index bytes = record (marked index attribute.Written) { bytes = bytes }
 
--- the data of an index; before the first write, as many copies of this byte as the index has bytes
+-- the data of an index or, before the first write, as many copies of `byte` as the index has bytes
 abbrev pub data_or : ℕ → NvIndex → List ℕ
 data_or byte index =
     if index_has index attribute.Written then index.bytes else replicate index.public.data_size byte
 
--- the number encoded by the data of an index; before the first write, this number
+-- the number encoded by the data of an index or, before the first write, `number`
 abbrev pub number_or : ℕ → NvIndex → ℕ
 number_or number index =
     if index_has index attribute.Written then from_be_bytes w64 index.bytes else number
 
 -- ---- writing
 
--- the check that a command for this type may write an index: the index is not locked against
--- writing, and it is of this type
+-- the check that a command for indices of this type may write an index: the index is not locked
+-- against writing, and it is of this type
 abbrev pub writable : NvType → NvIndex → Result (Unit {0}) WriteFault
 writable type index = do
   unlocked ← refused_if (index_has index attribute.WriteLocked) write_fault.Locked
@@ -81,8 +81,8 @@ check_writable contents handle type = do
   writable type index
 
 -- the contents after TPM2_NV_Write: the bytes overwrite the data at an offset. They must lie within
--- the data, and must cover all of it if the index has WRITEALL. A first write sets all other bytes
--- to FF (this device's own choice)
+-- the data, and must cover all of it if the index has WRITEALL. The first write sets all other
+-- bytes to FF (a choice of this implementation)
 unfoldable pub written : NvContents → Handle → (offset : ℕ) → List ℕ
     → Result NvContents WriteFault
 written contents handle offset bytes = do
@@ -99,10 +99,10 @@ written contents handle offset bytes = do
 abbrev pub counted : NvContents → ℕ → NvContents
 counted contents count = record contents { max_count = max contents.max_count count }
 
--- the contents after TPM2_NV_Increment: the counter increments; its first increment makes it one
--- more than the largest value that any counter has ever had (section 31.2). That largest value is
--- raised to the counter's value if it was lower. A counter that would pass 2^64 - 1 is exhausted
--- (this device's own choice)
+-- the contents after TPM2_NV_Increment: the counter is incremented. Its first increment makes it
+-- one more than the largest value that any counter has ever had (section 31.2). That largest value
+-- is raised to the counter's new value if it was lower. A counter at 2^64 - 1 cannot be incremented
+-- (a choice of this implementation)
 unfoldable pub incremented : NvContents → Handle → Result NvContents WriteFault
 incremented contents handle = do
   index ← index_or_fault contents handle write_fault.Undefined
@@ -120,8 +120,8 @@ bits_set contents handle bits = do
   let number : ℕ = bit_or (number_or 0 index) bits in
       Ok (changed_index contents handle (with_data index (to_be_bytes w64 number)))
 
--- the contents after TPM2_NV_Extend: the data becomes the digest, by nameAlg, of the old data
--- followed by these bytes. Before the first write, the old data is zeros
+-- the contents after TPM2_NV_Extend: the data becomes the nameAlg digest of the old data followed
+-- by these bytes. Before the first write, the old data is zeros
 unfoldable pub extended : NvContents → Handle → List ℕ → Result NvContents WriteFault
 extended contents handle bytes = do
   index ← index_or_fault contents handle write_fault.Undefined
@@ -131,7 +131,7 @@ extended contents handle bytes = do
 
 -- ---- reading
 
--- the check that an index may be read: it is not locked against reading, and it is written. A
+-- the check that an index may be read: it is not locked against reading, and WRITTEN is set. A
 -- command makes this check after it has parsed its parameters and before it checks their values
 abbrev pub readable : NvIndex → Result (Unit {0}) ReadFault
 readable index = do

@@ -9,8 +9,8 @@ piece_of start size bytes = take size (drop start bytes)
 abbrev pub put_over : (start : ℕ) → (piece bytes : List ℕ) → List ℕ
 put_over start piece bytes = take start bytes ++ (piece ++ drop (start + length piece) bytes)
 
--- the bytes just before a write to a piece of them. A piece that is not written yet is first filled
--- with this byte
+-- the bytes after the piece at this offset was filled with `byte`, unless the piece is already
+-- written
 abbrev pub filled : (is_written : Bool) → (start size byte : ℕ) → List ℕ → List ℕ
 filled is_written start size byte bytes =
     if is_written then bytes else put_over start (replicate size byte) bytes

@@ -1,7 +1,7 @@
 -- The checks of a new NV index, and the effect of its definition. TPM 2.0 Library, Part 3, section
 -- 31.3 (TPM2_NV_DefineSpace), and Part 2, section 13.4 (TPMA_NV). The order of the checks and two
--- limits are this device's own: the data is limited to `nv_data_limit`, and attributes that the
--- device does not support are refused.
+-- limits are choices of this implementation: the data is limited to `nv_data_limit`, and attributes
+-- that it does not support are refused.
 use Rattle.tpm_types.specs.Algorithm.{is_policy_size}
 use Rattle.tpm_types.specs.Limits.{nv_data_limit}
 use Rattle.std.specs.Prelude.{◌≡◌, ℕ, ◌==◌, ◌&&◌, nat_lt, nat_le, not, Bool, true, false}

@@ -24,7 +24,7 @@ head_of index = record { public = index.public; auth_value = index.auth_value }
 abbrev pub heads_of : NvContents → Entries Head
 heads_of contents = map (λ e. (e.0, head_of e.1)) contents.indices
 
--- the index with this head and these bytes, which are its data if it is written
+-- the index with this head and these bytes; if WRITTEN is set, the bytes are its data
 abbrev pub index_with : Head → List ℕ → NvIndex
 index_with head bytes = record {
   public = head.public;
@@ -42,7 +42,7 @@ indices_of [] area = []
 indices_of (e ∷ es) area =
     (e.0, index_with e.1 (take (size_of e.1) area)) ∷ indices_of es (drop (size_of e.1) area)
 
--- the number of bytes of all these indices (`total`), and of those with keys below this one
+-- the number of bytes of all these indices (`total`), and of the indices with keys below this key
 -- (`start_of`)
 abbrev pub total : Entries Head → ℕ
 total [] = 0
@@ -68,7 +68,8 @@ abbrev pub AreHeads : Entries Head → Type 0
 AreHeads [] = Unit {0}
 AreHeads (e ∷ es) = IsHead e.0 e.1 × AreHeads es
 
--- Valid heads, sorted by key and within the limits, and an area as long as the sum of their sizes.
+-- Valid heads, sorted by key and within the limits, and an area as long as the sum of the sizes in
+-- the heads.
 pub record AreKept (heads : Entries Head) (area : List ℕ) : Type 0 where
   pub ascends : Ascends heads
   pub few : length heads ≤ nv_index_limit
@@ -81,8 +82,8 @@ abbrev pub with_attributes : Head → NvAttributes → Head
 with_attributes head attributes =
     record head { public = record head.public { attributes = attributes } }
 
--- The index with this handle consists of this head and these bytes, as many as the head says; they
--- are its data if it is written.
+-- The index with this handle has this head and these bytes. The head determines the number of
+-- bytes; if WRITTEN is set, the bytes are the index's data.
 pub record IsIndexOf (contents : NvContents) (handle : Handle) (head : Head) (bytes : List ℕ)
     : Type 0
   where

@@ -10,8 +10,7 @@ use Rattle.tpm_nv.specs.Definition.{has_type_size}
 use Rattle.tpm_nv.specs.Index.{NvContents, NvIndex, data_bytes}
 
 -- The key of an index is its handle. Its public area can be encoded, and its type allows its size.
--- If the index is written, its data is as long as the public area says; otherwise its data is
--- empty.
+-- If WRITTEN is set, its data is as long as the public area says; otherwise its data is empty.
 pub record IsIndex (key : ℕ) (index : NvIndex) : Type 0 where
   pub named : key ≡ index.public.nv_index.number
   pub public : IsNvPublic index.public

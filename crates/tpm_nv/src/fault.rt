@@ -1,6 +1,6 @@
 //! The reasons why an NV index cannot be used, defined, or restored from a saved state.
 
-/// No index has this handle. A change of an authorization value fails only for this reason.
+/// No index has this handle. Changing an index's authorization value fails only for this reason.
 #[derive(Clone, Copy, PartialEq, Eq)]
 pub struct Undefined;
 

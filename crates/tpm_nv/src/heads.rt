@@ -1,4 +1,4 @@
-//! Functions that search or change the heads of indices without their data.
+//! Functions that search or change the heads of NV indices: the indices without their data.
 
 ghost use Rattle.tpm_types.specs.Limits.{nv_index_limit, nv_space_limit};
 ghost use Rattle.std.specs.Prelude.{◌≡◌, ◌<◌, ◌≤◌, ℕ, IfNone, IfSome, None, OnErr, OnOk, Some, length};

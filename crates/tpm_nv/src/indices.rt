@@ -53,8 +53,8 @@ pub trait Indices: Drop + Sized {
     fn next(&self, handle: Handle) -> Option<u32>
         ensures { result ≡ next_index (contents self.now) handle.number };
 
-    /// Defines an index, which has no data yet (TPM 2.0 Library, Part 3, section 31.3). The other
-    /// checks of a definition are in [`crate::definition::check_definition`].
+    /// Defines an index, initially without data (TPM 2.0 Library, Part 3, section 31.3). The checks
+    /// that this call does not make are in [`crate::definition::check_definition`].
     fn define(&mut self, public: NvPublic, auth_value: AuthValue) -> Result<(), DefineFault>
         requires { IsNvPublic public }
         ensures { Defines can_refuse (contents self.old) (defined_index public auth_value) result
@@ -95,7 +95,7 @@ pub trait Indices: Drop + Sized {
         ensures { ChangesContents (bits_set (contents self.old) handle bits) (contents self.old)
             result (contents self.new) };
 
-    /// Extends the digest of an index (Part 3, section 31.9).
+    /// Extends the digest in an index with `bytes` (Part 3, section 31.9).
     fn extend(&mut self, handle: Handle, bytes: &[u8]) -> Result<(), WriteFault>
         ensures { ChangesContents (extended (contents self.old) handle bytes.now)
             (contents self.old) result (contents self.new) };

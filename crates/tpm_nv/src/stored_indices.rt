@@ -87,8 +87,8 @@ impl<H: SortedMap<Head, NV_INDEX_LIMIT>, R: Area> StoredIndices<H, R> {
         found_at(self.heads.as_slice(), handle.number)
     }
 
-    /// Finds the index with this handle. Returns a fault if there is none, or if a command for this
-    /// type of index may not write it.
+    /// Finds the index with this handle. Returns a fault if there is none, or if a command for
+    /// indices of this type may not write it.
     fn writable(&self, handle: Handle, kind: NvType) -> Result<Found<'_>, WriteFault>
         ensures refused { IfErr result (λ fault. check_writable self.now handle kind ≡ Err fault) }
         ensures there { IfOk result (λ found. (old : List ℕ)
@@ -108,8 +108,8 @@ impl<H: SortedMap<Head, NV_INDEX_LIMIT>, R: Area> StoredIndices<H, R> {
         Ok(found)
     }
 
-    /// Overwrites the data of an index at an offset, and marks the index as written. If it is not
-    /// written yet, all other bytes of its data become `first`.
+    /// Overwrites the data of an index at an offset, and sets WRITTEN. If WRITTEN was clear, all
+    /// other bytes of its data become `first`.
     fn put_data(&mut self, handle: Handle, place: DataPlace, offset: usize, first: u8, bytes: &[u8])
         requires there { IsPlaceOf self.old handle place }
         requires within { offset + length bytes.now ≤ place.size }
@@ -122,7 +122,7 @@ impl<H: SortedMap<Head, NV_INDEX_LIMIT>, R: Area> StoredIndices<H, R> {
         set_attributes(&mut self.heads, handle.number, written);
     }
 
-    /// Sets one more attribute of an index whose attributes are `of`.
+    /// Sets one more attribute of an index, whose current attributes are `of`.
     fn mark(&mut self, handle: Handle, of: NvAttributes, attribute: NvAttribute)
         requires there { IsSomeAnd (index_at self.old handle) (λ index.
             of ≡ index.public.attributes) }
@@ -133,7 +133,7 @@ impl<H: SortedMap<Head, NV_INDEX_LIMIT>, R: Area> StoredIndices<H, R> {
         set_attributes(&mut self.heads, handle.number, of.with(attribute));
     }
 
-    /// Replaces all data of an index, and marks it as written.
+    /// Replaces all data of an index, and sets WRITTEN.
     fn set_data(&mut self, handle: Handle, place: DataPlace, bytes: &[u8])
         requires there { IsPlaceOf self.old handle place }
         requires whole { IsSomeAnd (index_at self.old handle) (λ index.
@@ -145,7 +145,7 @@ impl<H: SortedMap<Head, NV_INDEX_LIMIT>, R: Area> StoredIndices<H, R> {
         self.put_data(handle, place, 0, 0, bytes);
     }
 
-    /// Replaces the authorization value of an index that must exist.
+    /// Replaces the authorization value of an index, which must exist.
     fn replace_auth(&mut self, handle: Handle, value: AuthValue)
         requires { is_some (index_at self.old handle) ≡ true }
         ensures { (index : NvIndex) → index_at self.old handle ≡ Some index

@@ -1,6 +1,7 @@
--- The common part of the commands on NV indices: the refusal of an authHandle that may not read or
--- write, and of an index that cannot be written or locked. TPM 2.0 Library, Part 3, section 31
--- (non-volatile storage). The response codes and the order of the checks are this device's own.
+-- The common part of the commands on NV indices: the refusal if authHandle may not read or write an
+-- index, and if an index cannot be written or locked. TPM 2.0 Library, Part 3, section 31
+-- (non-volatile storage). The response codes and the order of the checks are choices of this
+-- implementation.
 use Rattle.tpm_types.specs.declared.action_check.ActionCheck.TheVariants as action
 use Rattle.std.specs.Prelude.{not, Result, Ok}
 use Rattle.tpm_bytes.specs.Reading.{◌>>=◌, refused_if}

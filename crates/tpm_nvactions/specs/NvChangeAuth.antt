@@ -14,9 +14,9 @@ use Rattle.tpm_record.specs.rows.Rows.{Success, only}
 use Rattle.tpm_record.specs.rows.Target.{index_or_refusal}
 use Rattle.tpm_nvactions.specs.Access.{changed_nv}
 
--- the row of TPM2_NV_ChangeAuth. Handle: nvIndex, authorized in the ADMIN role. Parameter: newAuth,
--- at most 32 bytes, without its trailing zeros. Refused by check A1 if newAuth is longer than a
--- digest of nameAlg
+-- the row of TPM2_NV_ChangeAuth. Handle: nvIndex, with authorization in the ADMIN role. Parameter:
+-- newAuth, at most 32 bytes, whose trailing zeros are removed. Refused by check A1 if newAuth is
+-- longer than a digest of nameAlg
 unfoldable pub nv_change_auth_row : Record → Request → Result Success Refused
 nv_change_auth_row r q = do
   handle ← first_handle q.handles

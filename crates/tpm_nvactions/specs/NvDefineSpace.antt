@@ -21,7 +21,7 @@ use Rattle.tpm_record.specs.rows.Rows.{Success, all_read, parameter}
 use Rattle.tpm_nvactions.specs.declared.nv_define_space.DefinitionParameters.{DefinitionParameters}
 use Rattle.tpm_nvactions.specs.Access.{changed_nv}
 
--- the parameters auth, at most 32 bytes, without its trailing zeros, and publicInfo
+-- the parameters auth (at most 32 bytes, without its trailing zeros) and publicInfo
 pub record Parameters : Type 0 where
   pub auth_value : List ℕ
   pub public : NvPublic
@@ -36,17 +36,18 @@ parameters_in text = do
 abbrev pub parameters_of : DefinitionParameters → Parameters
 parameters_of asked = record { auth_value = asked.auth_value; public = asked.public }
 
--- the refusals A1 to A4 of a definition
+-- the refusals by checks A1 to A4 of a definition
 abbrev pub definition_refusal : DefinitionFault → Refused
 definition_refusal fault.AuthValueSize = parameter_refusal action.First 1 code.Size
 definition_refusal fault.AuthPolicySize = parameter_refusal action.Second 2 code.Size
 definition_refusal fault.Attributes = parameter_refusal action.Third 2 code.Attributes
 definition_refusal fault.DataSize = parameter_refusal action.Fourth 2 code.Size
 
--- the row of TPM2_NV_DefineSpace. Handle: authHandle (the owner or the platform), authorized.
--- Refused by check A1 if auth is longer than a digest of nameAlg; by A2 if the policy is not as
--- long as a digest; by A3 if the attributes are wrong; by A4 if the size is wrong; by A5 if the
--- index already exists; by A6 if there is no room for it
+-- the row of TPM2_NV_DefineSpace. Handle: authHandle (the owner or the platform), with
+-- authorization. Refused by check A1 if auth is longer than a digest of nameAlg; by A2 if
+-- authPolicy is neither empty nor as long as a digest; by A3 if the attributes are not allowed; by
+-- A4 if the type does not allow the size; by A5 if the index already exists; by A6 if there is no
+-- room for it
 unfoldable pub nv_define_space_row : Record → Request → Result Success Refused
 nv_define_space_row r q = do
   auth_handle ← first_handle q.handles

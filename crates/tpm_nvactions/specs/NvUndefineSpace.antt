@@ -22,8 +22,9 @@ abbrev pub is_kept_from : Target → Bool
 is_kept_from target =
     target.auth_handle.number == owner_handle.number && has target.attributes attribute.PlatformCreate
 
--- the row of TPM2_NV_UndefineSpace. Handles: authHandle (the owner or the platform), authorized,
--- and nvIndex. Refused by check A1 if the owner would remove an index that the platform defined
+-- the row of TPM2_NV_UndefineSpace. Handles: authHandle (the owner or the platform), with
+-- authorization, and nvIndex. Refused by check A1 if the owner would remove an index that the
+-- platform defined
 unfoldable pub nv_undefine_space_row : Record → Request → Result Success Refused
 nv_undefine_space_row r q = do
   target ← target_of r q

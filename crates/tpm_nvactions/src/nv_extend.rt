@@ -1,4 +1,5 @@
-//! TPM2_NV_Extend: extends the digest of an index, as specified by its row in `specs/NvExtend`.
+//! TPM2_NV_Extend: extends the digest in an index with data, as specified by its row in
+//! `specs/NvExtend`.
 
 ghost use Rattle.std.specs.Prelude.{◌≡◌};
 ghost use Rattle.tpm_record.specs.rows.Answer.{IsEmpty};
@@ -16,7 +17,7 @@ use tpm_record::rows::reading::{end, parameter};
 use tpm_record::rows::target::target_of;
 use tpm_types::{DATA_LIMIT, Refused, read_buffer};
 
-/// TPM2_NV_Extend: extends the digest of an index.
+/// TPM2_NV_Extend: extends the digest in an index with data.
 #[tactic(auto, unfolding(crate::specs::NvExtend::nv_extend_row))]
 pub fn nv_extend<K: Keep>(keep: &mut K, call: &Call, _answer: &mut Answer) -> Result<(), Refused>
     requires { IsEmpty _answer.old }

@@ -155,7 +155,7 @@ unfolding decrypted_area
 long_area_refused parent name protected iv encrypted read whole long =
     rw (read, whole, long_cipher_refused parent name iv encrypted long) refl
 
--- If a text is decrypted and read, the result is the area that was encrypted.
+-- If some bytes can be decrypted and decoded, they are the protected form of the resulting area.
 pub decrypted_law : (parent : Object) (name protected iv encrypted plain : List ℕ)
     (result : Result Sensitive IntegrityFault)
     → AreBytes protected → sized_at 16 protected ≡ Ok (iv, encrypted) → length iv ≡ 16
@@ -168,7 +168,7 @@ decrypted_law parent name protected iv encrypted plain (Err fault) fits read who
 
 -- ---- the private area
 
--- accepts the sensitive area only if both types are the same
+-- the sensitive area, if the two types are the same; otherwise the fault
 abbrev of_type : (a b : ObjectType) → Sensitive → Result Sensitive IntegrityFault
 of_type a b area =
     refused_if (not (object_type_number a == object_type_number b)) integrity_fault >>= λ typed. Ok area
@@ -187,8 +187,8 @@ refuses : (a b : ObjectType) (area : Sensitive) → b ≢ a → of_type a b area
 refuses a b area other =
     rw (ne_eqb (object_type_number a) (object_type_number b) (λ same. other (sym (same_type a b same)))) refl
 
--- Unwrapping a wrapped private area returns the sensitive area if the types match, and fails
--- otherwise.
+-- Unwrapping a wrapped private area returns the sensitive area if its type is that of the public
+-- area, and fails otherwise.
 wrapped_is : (parent : Object) (public : Public) (name iv : List ℕ) (area : Sensitive)
     → name ≡ object_name public → length iv ≡ 16 → IsSensitive area
     → unwrapped parent public (private_text parent name iv area)
@@ -217,14 +217,14 @@ wrapped_refused parent public name iv text area spelled whole is named other =
     ap (unwrapped parent public) spelled ∙ wrapped_is parent public name iv area named whole is
     ∙ refuses area.object_type (object_type public) area other
 
--- If a private area was wrapped for a public area, it can be unwrapped.
+-- If a private area was wrapped for a public area, it can be unwrapped with this public area.
 pub unwrapped_only : (parent : Object) (public : Public) (text : List ℕ) (area : Sensitive)
     → IsWrapped parent public text area → unwrapped parent public text ≡ Ok area
 unwrapped_only parent public text area is =
     wrapped_undone parent public (object_name public) is.iv text area is.spelled is.whole is.sized refl
     (sym is.typed)
 
--- A private area that can be unwrapped was wrapped for this public area.
+-- A private area that can be unwrapped with a public area was wrapped for it.
 pub unwrapped_found : (parent : Object) (public : Public) (name text protected : List ℕ) (area : Sensitive)
     → name ≡ object_name public → AreBytes text → protected_in parent name text ≡ Ok protected
     → IsSensitive area × IsProtected parent name protected area

@@ -33,7 +33,7 @@ new_object_areas template given seed key =
     let area : Sensitive = new_sensitive template given seed key in
     record { public = new_public template area; sensitive = area }
 
--- both areas of an object made from random bytes, which are first the key, then the seedValue
+-- both areas of a new object. The random bytes are first its key, then its seedValue
 unfoldable pub created : Public → SensitiveValues → (random : List ℕ) → Created
 created template given random =
     new_object_areas template given

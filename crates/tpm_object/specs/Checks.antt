@@ -1,8 +1,8 @@
--- Checks in sequence: the first check that applies determines the fault.
+-- Checks in sequence: the first check that fails determines the fault.
 use Rattle.std.specs.Prelude.{Bool, List, [], ◌∷◌, if◌then◌else◌, Result, Ok, Err}
 use Rattle.std.specs.List.{list_any}
 
--- the fault of the first check that applies, or success if none does
+-- the fault of the first check that fails (its Bool is true), or success if none fails
 abbrev pub first_fault : {F : Type 0} → List (Bool × F) → Result (Unit {0}) F
 first_fault [] = Ok tt
 first_fault (check ∷ checks) = if check.0 then Err check.1 else first_fault checks

@@ -1,6 +1,6 @@
--- The checks of the values that a caller provides for a new object, and the sizes of those that the
--- device generates. TPM 2.0 Library, Part 1, section 27 (object creation), and Part 3, section 12.1
--- (TPM2_Create). The order of the checks is this device's own.
+-- The checks of the values that a caller provides for a new object, and the sizes of the values
+-- that the device generates. TPM 2.0 Library, Part 1, section 27 (object creation), and Part 3,
+-- section 12.1 (TPM2_Create). The order of the checks is a choice of this implementation.
 use Rattle.std.specs.Prelude.{ℕ, ◌+◌, ◌==◌, ◌&&◌, not, nat_lt, Bool, if◌then◌else◌}
 use Rattle.std.specs.Prelude.{List, [], ◌∷◌, length, Result}
 use Rattle.tpm_mac.specs.Digest.{digest_size}
@@ -23,9 +23,9 @@ use Rattle.tpm_object.specs.declared.creation.CreationFault.TheVariants as fault
 abbrev pub is_long_auth : SensitiveValues → Public → Bool
 is_long_auth given t = nat_lt (digest_size t.name_alg) (length (trimmed given.user_auth))
 
--- the conflicts of sensitiveDataOrigin: it says that the device generates the key, but the caller
--- provides one; or neither of them provides the key or data; or the device would have to generate
--- the data to seal
+-- the conflicts of sensitiveDataOrigin: it is set, but the caller provides the key or data; it is
+-- clear, but the caller provides neither; or it is set, and the device would have to generate the
+-- data to seal
 abbrev pub origin_conflicts : SensitiveValues → Public → List Bool
 origin_conflicts given t =
     let made : Bool = has t.attributes attribute.SensitiveDataOrigin in

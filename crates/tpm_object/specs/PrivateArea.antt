@@ -65,13 +65,13 @@ unfoldable pub private_text : (parent : Object) → (name iv : List ℕ) → Sen
 private_text parent name iv area =
     authenticated_text parent name (protected_text parent name iv area)
 
--- The parent protected this sensitive area as these bytes, with some IV.
+-- These bytes are the protected form of this sensitive area, made by the parent with some IV.
 abbrev pub IsProtected : (parent : Object) → (name protected : List ℕ) → Sensitive → Type 0
 IsProtected parent name protected area =
     (iv : List ℕ) × (length iv ≡ 16) × (protected ≡ protected_text parent name iv area)
 
--- The parent wrapped this sensitive area as this text, with some IV, for a public area of the same
--- type.
+-- This text is this sensitive area as the parent wraps it, with some IV, for a public area of the
+-- same type.
 pub record IsWrapped (parent : Object) (public : Public) (text : List ℕ) (area : Sensitive)
     : Type 0 where
   pub typed : area.object_type ≡ object_type public

@@ -1,7 +1,7 @@
 -- The checks of a template, or of a public area to be loaded. TPM 2.0 Library, Part 1, section 25
--- (object attributes), and Part 3, section 12.1 (TPM2_Create). The order of the checks is this
--- device's own. No KEYEDHASH object has decrypt here, since XOR schemes and derivation parents are
--- not supported.
+-- (object attributes), and Part 3, section 12.1 (TPM2_Create). The order of the checks is a choice
+-- of this implementation. No KEYEDHASH object has decrypt set here, since XOR schemes and
+-- derivation parents are not supported.
 use Rattle.std.specs.Prelude.{ℕ, ◌&&◌, not, Bool, false, if◌then◌else◌}
 use Rattle.std.specs.Prelude.{List, [], ◌∷◌, length, Result}
 use Rattle.std.specs.Bool.{beq}

@@ -15,13 +15,13 @@ use Rattle.tpm_types.specs.declared.pcr_selection.BankSelection.{BankSelection}
 use Rattle.tpm_pcr.specs.Banks.{all_pcrs, pcr_value, selected_pcrs, selected_values}
 use Rattle.tpm_pcr.specs.Values.{BankValues}
 
--- the concatenated values of a bank's selected PCRs below a number
+-- the concatenated values of a bank's selected PCRs below n
 abbrev pub text_below : BankValues → BankSelection → ℕ → List ℕ
 text_below all bank n =
     concat (map (pcr_value all bank.hash) (filter (is_selected bank.select) (numbers_below n)))
 
--- If the next number is chosen, its list is appended to the lists of the numbers chosen before;
--- otherwise nothing is appended.
+-- If number n is chosen, its list is appended to the concatenated lists of the numbers chosen
+-- before it; otherwise nothing is appended.
 joined_cond : (f : ℕ → List ℕ) (front : List ℕ) (n : ℕ) (b : Bool)
     → concat (map f (front ++ cond b (n ∷ []) [])) ≡ concat (map f front) ++ cond b (f n) []
 joined_cond f front n true =
@@ -31,7 +31,7 @@ joined_cond f front n true =
 joined_cond f front n false =
     ap (λ (pcrs : List ℕ). concat (map f pcrs)) (append-nil front) ∙ sym (append-nil (concat (map f front)))
 
--- If PCR n is selected, its value is appended to those of the selected PCRs below n; otherwise
+-- If PCR n is selected, its value is appended to the values of the selected PCRs below n; otherwise
 -- nothing is appended.
 text_below_more : (all : BankValues) (bank : BankSelection) (n : ℕ)
     → text_below all bank (n + 1) ≡ text_below all bank n ++ cond (is_selected bank.select n) (pcr_value all bank.hash n) []
@@ -46,7 +46,8 @@ text_below_all : (all : BankValues) (bank : BankSelection)
 unfolding selected_pcrs all_pcrs
 text_below_all all bank = refl
 
--- The values of the first i + 1 banks are those of the first i banks, followed by those of bank i.
+-- The values of the first i + 1 banks are the values of the first i banks, followed by the values
+-- of bank i.
 banks_joined_more : (all : BankValues) (banks : List BankSelection) (i : ℕ) (bank : BankSelection)
     → i < length banks
     → concat (flat_map (selected_values all) (take (i + 1) banks))
@@ -57,8 +58,8 @@ banks_joined_more all banks i bank below =
     ∙ concat-append (flat_map (selected_values all) (take i banks)) _
     ∙ ap (λ (l : List (List ℕ)). concat (flat_map (selected_values all) (take i banks)) ++ concat l) (append-nil (selected_values all (get_or banks i bank)))
 
--- If a hasher was fed the values of the selected PCRs below n, feeding it that of PCR n, if it is
--- selected, completes those below n + 1.
+-- Suppose that a hasher was fed the values of the selected PCRs below n, and then the value of PCR
+-- n if it is selected. Then it was fed the values of the selected PCRs below n + 1.
 pub taken_more : (all : BankValues) (bank : BankSelection) (n pcr : ℕ) (start before after : Hasher) → pcr ≡ n
     → Takes start (text_below all bank n) before
     → Takes before (cond (is_selected bank.select pcr) (pcr_value all bank.hash pcr) []) after
@@ -71,15 +72,15 @@ taken_more all bank n pcr start before after is so_far one algorithm message hel
     ∙ ap (λ (text : List ℕ). message ++ text) (sym (text_below_more all bank n)) in
     subst (Holds after algorithm) whole (one algorithm _ (so_far algorithm message held))
 
--- If a hasher was fed the values of the selected PCRs below 24, it was fed those of all selected
--- PCRs.
+-- If a hasher was fed the values of the selected PCRs below 24, it was fed the values of all
+-- selected PCRs.
 pub taken_all : (all : BankValues) (bank : BankSelection) (n : ℕ) (start after : Hasher) → n ≡ 24
     → Takes start (text_below all bank n) after → Takes start (concat (selected_values all bank)) after
 taken_all all bank n start after done so_far =
     subst (λ (text : List ℕ). Takes start text after) (ap (text_below all bank) done ∙ text_below_all all bank) so_far
 
--- If a hasher was fed the values of the first i banks, feeding it those of bank i completes those
--- of the first i + 1 banks.
+-- Suppose that a hasher was fed the values of the first i banks, and then the values of bank i.
+-- Then it was fed the values of the first i + 1 banks.
 pub held_more : (all : BankValues) (banks : List BankSelection) (i : ℕ) (bank : BankSelection) (hash : HashAlg)
     (before after : Hasher) → i < length banks → bank ≡ get_or banks i bank
     → Holds before hash (concat (flat_map (selected_values all) (take i banks)))

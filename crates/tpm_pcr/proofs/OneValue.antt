@@ -98,7 +98,8 @@ extensions_at pcr (d ∷ ds) banks bank n h below =
     ∙ ap (λ (v : List ℕ). cond (pcr == n) (fold (value_extended bank) v ds) v) (extension_at pcr banks d bank n h below)
     ∙ first_extended (pcr == n) bank (pcr_value banks bank n) d ds
 
--- The digests of an event extend each bank with the digest for that bank.
+-- Extending a PCR with the digests of an event extends it, in each bank, with the event's digest
+-- for that bank.
 pub event_digest : (bank : HashAlg) (old event : List ℕ) → fold (value_extended bank) old (event_digests event) ≡ hash_of bank (old ++ hash_of bank event)
 event_digest alg.Sha1 old event = refl
 event_digest alg.Sha256 old event = refl

@@ -1,4 +1,4 @@
--- The selection that a read returns selects exactly the PCRs whose values it returns.
+-- A read returns values of PCRs, and a selection of exactly the PCRs that have these values.
 use Rattle.tpm_bytes.specs.Numbers.{numbers_below}
 use Rattle.std.proofs.Common.{◌≡◌, ℕ, zero, suc, ◌-◌, ◌^◌, ◌<◌, ◌≤◌, ◌==◌, Bool, true, false, cond, List, [], ◌∷◌, ◌++◌, length, max, take, map, filter, refl, ap, sym, subst, ◌∙◌, arith, add-one, append-nil}
 use Rattle.std.proofs.lemmas.List.{take-map, length-map}
@@ -13,7 +13,8 @@ use Rattle.tpm_types.specs.Pcr.{is_selected, with_pcr}
 use Rattle.tpm_pcr.specs.Banks.{all_pcrs, answer_selection, pcr_value, read_values, select_with, selected_pcrs, selected_values}
 use Rattle.tpm_pcr.proofs.Reading.{chosen_more, read_values-nil, take-append}
 
--- Adding a PCR to a selection selects it, and changes no other PCR.
+-- Adding a PCR to a selection selects this PCR, and does not affect whether any other PCR is
+-- selected.
 added_here : (select n : ℕ) → bit_at (with_pcr select n) n ≡ 1
 added_here select n =
     let low : bit_at select n < 2 = bit_at-lt select n in
@@ -56,7 +57,7 @@ just_one_more : (n : ℕ) (pcrs : List ℕ) (b : Bool) → SelectsJust n (select
 just_one_more n pcrs true just = subst (λ s. SelectsJust (suc n) s (pcrs ++ n ∷ [])) (sym (fold-append with_pcr 0 pcrs (n ∷ []))) (just_added n (select_with pcrs) pcrs just)
 just_one_more n pcrs false just = just_kept n (select_with pcrs) pcrs just
 
--- The number made from the first few chosen PCRs selects exactly these PCRs.
+-- The number that is built from the first `room` chosen PCRs selects exactly these PCRs.
 just_first : (p : ℕ → Bool) (room n : ℕ) → SelectsJust n (select_with (take room (filter p (numbers_below n)))) (take room (filter p (numbers_below n)))
 just_first p zero zero = (refl, λ k above. bit_at-zero k)
 just_first p (suc room) zero = (refl, λ k above. bit_at-zero k)
@@ -64,7 +65,7 @@ just_first p room (suc n) =
     let is : take room (filter p (numbers_below (suc n))) ≡ _ = ap (λ k. take room (filter p (numbers_below k))) (sym (add-one n)) ∙ chosen_more p n room in
     subst (λ l. SelectsJust (suc n) (select_with l) l) (sym is) (just_one_more n (take room (filter p (numbers_below n))) _ (just_first p room n))
 
--- A selection of the first few PCRs of a bank's selection selects exactly these PCRs.
+-- If a bank's selection is reduced to its first `room` PCRs, it selects exactly these PCRs.
 pub selected_first : (room : ℕ) (bank : BankSelection) → selected_pcrs (record bank { select = select_with (take room (selected_pcrs bank)) }) ≡ take room (selected_pcrs bank)
 unfolding selected_pcrs all_pcrs
 selected_first room bank = (just_first (is_selected bank.select) room 24).0
@@ -72,7 +73,8 @@ selected_first room bank = (just_first (is_selected bank.select) room 24).0
 first_values : (all : BankValues) (room : ℕ) (bank : BankSelection) → selected_values all (record bank { select = select_with (take room (selected_pcrs bank)) }) ≡ take room (selected_values all bank)
 first_values all room bank = ap (map (pcr_value all bank.hash)) (selected_first room bank) ∙ sym (take-map (pcr_value all bank.hash) room (selected_pcrs bank))
 
--- The values of the returned selection are the first few values of the whole selection.
+-- The values of the PCRs in the returned selection are the first `room` values of the requested
+-- selection.
 pub own_values : (all : BankValues) (room : ℕ) (banks : List BankSelection) → flat_map (selected_values all) (answer_selection room banks) ≡ read_values all room banks
 unfolding read_values
 own_values all room [] = sym (read_values-nil all room)

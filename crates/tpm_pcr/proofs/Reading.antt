@@ -22,7 +22,7 @@ lt_false : (a b : ℕ) → nat_lt a b ≡ false → a < b → ⊥
 lt_false a b e below = let above : b ≤ a = grind (arith, nat_tests) in absurd (omega arith)
 
 -- If a list has fewer than `room` elements, an element appended to it is also appended to its first
--- `room` elements. Otherwise these do not change.
+-- `room` elements. Otherwise its first `room` elements do not change.
 take_push_room : {X : Type 0} (room : ℕ) (xs : List X) (x : X) → nat_lt (length xs) room ≡ true → take room (xs ++ x ∷ []) ≡ take room xs ++ x ∷ []
 take_push_room room xs x e =
     let below : length xs < room = grind (arith, nat_tests) in
@@ -46,13 +46,13 @@ same_test a b c d false false e f h k = refl
 same_test a b c d true false e f h k = absurd (lt_false c d f (h (lt_true a b e)))
 same_test a b c d false true e f h k = absurd (lt_false a b e (k (lt_true c d f)))
 
--- After `old` values and up to k others, eight at most, there is room for one more exactly if k is
--- less than 8 - `old`.
+-- Suppose that `old` values were read, and then up to k others, until there were eight in all.
+-- There is room for one more exactly if k is less than 8 - `old`.
 pub room_left : (old k : ℕ) → nat_lt (old + min (8 - old) k) 8 ≡ nat_lt k (8 - old)
 room_left old k = same_test (old + min (8 - old) k) 8 k (8 - old) _ _ refl refl (λ h. omega arith) (λ h. omega arith)
 
--- The first `room` chosen PCRs below n + 1 are those below n, followed by PCR n if it is chosen and
--- there is room for it.
+-- The first `room` chosen PCRs below n + 1 are the first `room` chosen PCRs below n, followed by
+-- PCR n if it is chosen and there is room for it.
 chosen_by : (p : ℕ → Bool) (n room : ℕ) (b : Bool) → p n ≡ b → take room (filter p (numbers_below (n + 1))) ≡ cond (b && nat_lt (length (filter p (numbers_below n))) room) (take room (filter p (numbers_below n)) ++ n ∷ []) (take room (filter p (numbers_below n)))
 chosen_by p n room true e =
     rw (add-one, filter-append p (numbers_below n) (n ∷ []), e) (take_push room (filter p (numbers_below n)) n _ refl)

@@ -1,8 +1,8 @@
 -- How PCRs change. TPM 2.0 Library, Part 3, sections 22.2 (TPM2_PCR_Extend), 22.3 (TPM2_PCR_Event)
 -- and 22.8 (TPM2_PCR_Reset); and the effect of 24.6 (TPM2_Clear) on the update counter. The use of
 -- each PCR follows the PC Client Platform TPM Profile (section on PCR attributes). Two things are
--- this device's own and simpler than that profile: the localities from which each PCR may be
--- changed, and that every value counts as an update.
+-- choices of this implementation, and simpler than in that profile: the localities from which each
+-- PCR may be changed, and that every value counts as an update.
 use Rattle.std.specs.Prelude.{◌≡◌, ℕ, ◌+◌, ◌-◌, ◌^◌, ◌==◌, not, nat_lt, nat_le, if◌then◌else◌}
 use Rattle.std.specs.Prelude.{Bool, true, false, List, [], ◌∷◌, ◌++◌, length, fold}
 use Rattle.std.specs.Prelude.{replicate, slice_set, Result, Ok, Err}
@@ -70,8 +70,8 @@ value_extended alg.Sha1 old (Sha256 digest) = old
 value_extended alg.Sha256 old (Sha1 digest) = old
 value_extended alg.Sha256 old (Sha256 digest) = hash_of alg.Sha256 (old ++ digest)
 
--- a change of this many values is refused if the PCR does not allow it from the locality, or if
--- the update counter would exceed 2^64 - 1
+-- a check that refuses a change of this many values if the PCR does not allow it from the locality,
+-- or if the update counter would exceed 2^64 - 1
 abbrev pub change_check : Bool → ℕ → BankValues → Result (Unit {0}) ChangeFault
 change_check may updates banks = do
   locality ← refused_if (not may) fault.Locality

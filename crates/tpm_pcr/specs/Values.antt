@@ -2,8 +2,8 @@
 use Rattle.std.specs.Prelude.{◌≡◌, ℕ, ◌<◌, ◌^◌, List, length}
 use Rattle.std.specs.List.{All}
 
--- the values of PCRs 0 to 23 in each bank, and the update counter: the number of values written and
--- of TPM2_Clear commands, both since the last TPM2_Startup
+-- the values of PCRs 0 to 23 in each bank, and the update counter: the number of values written
+-- plus the number of TPM2_Clear commands, both since the last TPM2_Startup
 pub record BankValues : Type 0 where
   pub sha1 : List (List ℕ)
   pub sha256 : List (List ℕ)

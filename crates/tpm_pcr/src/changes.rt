@@ -42,7 +42,7 @@ pub enum PcrUse {
 }
 
 impl PcrUse {
-    /// The group to which a PCR belongs.
+    /// The use of this PCR.
     pub fn of(pcr: PcrIndex) -> PcrUse
         ensures { result ≡ use_of pcr }
     {
@@ -54,7 +54,7 @@ impl PcrUse {
         }
     }
 
-    /// Whether this locality may extend the PCRs of the group.
+    /// Whether PCRs with this use may be extended from this locality.
     pub fn may_extend(self, locality: Locality) -> bool
         ensures { result ≡ may_extend self (locality_number locality) }
     {
@@ -64,7 +64,7 @@ impl PcrUse {
         }
     }
 
-    /// Whether this locality may reset the PCRs of the group.
+    /// Whether PCRs with this use may be reset from this locality.
     pub fn may_reset(self, locality: Locality) -> bool
         ensures { result ≡ may_reset self (locality_number locality) }
     {

@@ -9,10 +9,10 @@ ghost use Rattle.tpm_pcr.specs.Banks.{HaveAll, HaveValues, new_banks, pcr_value,
 ghost use Rattle.tpm_pcr.specs.Changes.{value_extended, with_extension, with_value};
 ghost use Rattle.tpm_pcr.specs.Values.{BankValues};
 
-/// New banks contain the starting value of each PCR. Each digest in turn extends the PCR's value in
-/// the bank of its hash algorithm. A reset replaces the PCR's value by zeros in both banks. All
-/// other values are unchanged. Each digest counts as an update. A proof only: it has no effect at
-/// run time.
+/// New banks contain the starting value of each PCR. When a PCR is extended with several digests,
+/// each digest in turn extends the PCR's value in the bank of the digest's hash algorithm. A reset
+/// replaces a PCR's value by zeros in both banks. All other values are unchanged. Each digest
+/// counts as an update. A proof only: it has no effect at run time.
 #[inline(always)]
 #[tactic(auto, using(crate::proofs::OneValue::new_all, crate::proofs::OneValue::new_values, crate::proofs::OneValue::extensions_at, crate::proofs::OneValue::extensions_count, crate::proofs::OneValue::zeros_at))]
 pub fn value_laws()

@@ -100,7 +100,8 @@ below_zero n (suc more) below = rw (lt-ltb n (suc more) below) refl
 abbrev raised : ℕ → ℕ
 raised byte = (byte + 128) % 256
 
--- If two bytes are raised by the same number, the smaller one remains the smaller.
+-- If adding 128 changes two bytes by the same amount (both or neither wrap around), it does not
+-- change their order.
 raised_alike : (x y : ℕ) (less : Bool) → (raised x + y ≡ raised y + x)
     → (nat_lt x y || (x == y && less)) ≡ (nat_lt (raised x) (raised y) || (raised x == raised y && less))
 raised_alike x y less alike =

@@ -1,4 +1,5 @@
--- A policy digest has the size of its hash, at the start and after every assertion.
+-- A policy digest is as long as a digest of the session's hash algorithm, at the start and after
+-- every assertion.
 use Rattle.std.proofs.Common.{rules, ◌≡◌, Bool, length, Ok, IfOk, subst}
 use Rattle.std.proofs.lemmas.List.{length-replicate}
 use Rattle.tpm_mac.specs.Digest.{digest_size}
@@ -20,6 +21,6 @@ asserted_sized hash trial AuthValue policy = length-hash_of hash _
 asserted_sized hash trial Password policy = length-hash_of hash _
 asserted_sized hash trial _ policy = search (rules, ok_bind, length-hash_of)
 
--- After an assertion, the digest has the size of the hash.
+-- After an assertion, the policy digest is as long as a digest of the session's hash algorithm.
 pub made_sized : (hash : HashAlg) (trial : Bool) (assertion : Assertion) (old new : Policy) → asserted hash trial assertion old ≡ Ok new → length new.digest ≡ digest_size hash
 made_sized hash trial assertion old new is = subst (λ x. IfOk x (λ made. length made.digest ≡ digest_size hash)) is (asserted_sized hash trial assertion old)

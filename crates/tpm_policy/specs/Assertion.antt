@@ -1,9 +1,8 @@
 -- The assertions of policies. TPM 2.0 Library, Part 3, section 23, and Part 1, section 19.7. Each
--- assertion changes the policy digest; most also record a value to compare later, when the
--- session authorizes a command. A trial session skips these comparisons: TPM2_PolicyPCR's with
--- the PCRs, TPM2_PolicyOR's with the current digest, TPM2_PolicySecret's with nonceTPM and a
--- recorded cpHash, and TPM2_PolicyNV's with the index. The order of the checks is this device's
--- own.
+-- assertion changes the policy digest; most also record a value to compare later, when the session
+-- authorizes a command. A trial session skips these comparisons: TPM2_PolicyPCR's with the PCRs,
+-- TPM2_PolicyOR's with the current digest, TPM2_PolicySecret's with nonceTPM and a recorded cpHash,
+-- and TPM2_PolicyNV's with the index. The order of the checks is a choice of this implementation.
 use Rattle.tpm_commands.specs.declared.command_code.CommandCode.{CommandCode as ServedCommand}
 use Rattle.tpm_commands.specs.CommandCode.{code_number, is_served}
 use Rattle.tpm_commands.specs.declared.command_code.CommandCode.TheVariants as served
@@ -41,8 +40,8 @@ pub record PcrParts : Type 0 where
   pub digest : List ℕ
   pub update_count : ℕ
 
--- the data of TPM2_PolicySecret: the Name of the entity that is authorized, the nonce in the
--- command, the session's nonceTPM, cpHashA, policyRef, and expiration
+-- the data of TPM2_PolicySecret: the Name of the entity of authHandle, the nonce in the command,
+-- the session's nonceTPM, cpHashA, policyRef, and expiration
 pub record SecretParts : Type 0 where
   pub name : List ℕ
   pub nonce : List ℕ
@@ -115,7 +114,7 @@ abbrev pub is_other_hash : Option (List ℕ) → List ℕ → Bool
 is_other_hash None hash = false
 is_other_hash (Some recorded) hash = not (bytes_eq recorded hash)
 
--- whether the policy requires a written or an unwritten index, but there is no index or it is in
+-- whether the policy requires that an index is written (or unwritten), but it is absent or is in
 -- the opposite state
 abbrev pub is_other_written : Option Bool → Option Bool → Bool
 is_other_written None found = false
@@ -174,7 +173,8 @@ unfoldable pub password_asserted : HashAlg → Policy → Policy
 password_asserted hash policy = demanding hash demand.Password policy
 
 -- TPM2_PolicyCommandCode (section 23.11): only this command is allowed. It must be supported, and
--- no other command may be recorded, in a trial session too (this device's own choice)
+-- no other command may have been recorded. A trial session checks this too (a choice of this
+-- implementation)
 unfoldable pub command_code_asserted : HashAlg → (number : ℕ)
     → Policy → Result Policy ActionFault
 command_code_asserted hash number policy = do
@@ -183,8 +183,8 @@ command_code_asserted hash number policy = do
   Ok (record (extended hash served.PolicyCommandCode (to_be_bytes w32 number) policy) { command = Some number })
 
 -- TPM2_PolicyLocality (section 23.8): removes every allowed locality that the parameter does not
--- select. At least one must remain, in a trial session too (this device's own choice). Extended
--- localities, 32 and up, are not supported
+-- select. At least one must remain, even in a trial session (a choice of this implementation).
+-- Extended localities, 32 and up, are not supported
 unfoldable pub locality_asserted : HashAlg → (localities : ℕ)
     → Policy → Result Policy ActionFault
 locality_asserted hash localities policy = do
@@ -195,9 +195,9 @@ locality_asserted hash localities policy = do
     localities = bit_and policy.localities localities;
   })
 
--- TPM2_PolicyCpHash (section 23.13): only the command with this cpHash is allowed. Its size must
--- be right, and no other cpHash may be recorded, in a trial session too (this device's own
--- choice)
+-- TPM2_PolicyCpHash (section 23.13): only the command with this cpHash is allowed. The cpHash must
+-- have the right size, and no other cpHash may have been recorded. A trial session checks this too
+-- (a choice of this implementation)
 unfoldable pub cp_hash_asserted : HashAlg → (cp_hash : List ℕ)
     → Policy → Result Policy ActionFault
 cp_hash_asserted hash cp_hash policy = do
@@ -210,8 +210,9 @@ abbrev pub yes_no_text : Bool → List ℕ
 yes_no_text true = 1 ∷ []
 yes_no_text false = 0 ∷ []
 
--- TPM2_PolicyNvWritten (section 23.20): only a written index may be used, or only an unwritten one.
--- The opposite must not be recorded, in a trial session too (this device's own choice)
+-- TPM2_PolicyNvWritten (section 23.20): from now on, only a written index may be used if
+-- `is_written` is true, and otherwise only an unwritten one. The opposite must not have been
+-- recorded, even in a trial session (a choice of this implementation)
 unfoldable pub nv_written_asserted : HashAlg → (is_written : Bool)
     → Policy → Result Policy ActionFault
 nv_written_asserted hash is_written policy = do
@@ -222,8 +223,8 @@ nv_written_asserted hash is_written policy = do
   })
 
 -- TPM2_PolicySecret (section 23.4): policyRef is hashed last, even if it is empty. Policies never
--- expire: expiration must be 0. A trial session also checks expiration and the size of cpHashA
--- (this device's own choice)
+-- expire: expiration must be 0. A trial session also checks expiration and the size of cpHashA (a
+-- choice of this implementation)
 abbrev pub secret_digest : HashAlg → (digest name reference : List ℕ) → List ℕ
 secret_digest hash digest name reference =
     hash_of hash (hash_of hash (digest ++ to_be_bytes w32 (code_number served.PolicySecret) ++ name) ++ reference)

@@ -1,6 +1,6 @@
 -- The use of a policy session to authorize a command. TPM 2.0 Library, Part 1, section 19.7, and
--- Part 3, section 5.6 (authorization checks). The order of the checks is this device's own: the
--- recorded values first, then the digest.
+-- Part 3, section 5.6 (authorization checks). The order of the checks is a choice of this
+-- implementation: the recorded values first, then the digest.
 use Rattle.std.specs.Prelude.{ℕ, ◌==◌, ◌&&◌, ◌||◌, not, Bool, false, List, Option, Some, None, is_none, option_map, Result, Ok}
 use Rattle.std.specs.Int.{bit_at}
 use Rattle.std.specs.Str.{bytes_eq}
@@ -26,10 +26,10 @@ pub record EntityParts : Type 0 where
   pub hash : HashAlg
   pub digest : List ℕ
 
--- the input of the checks: the number of the entry, the session's type and hash, whether the entity
--- is available, the update counter of the PCRs, the command code, the role of the authorization,
--- the cpHash, whether the entity has been written if it is an NV index, the command's locality, and
--- the entity's policy, if it has one
+-- the input of the checks: the number of the authorization entry, the session's type and hash,
+-- whether the entity can be authorized by a policy, the update counter of the PCRs, the command
+-- code, the role of the authorization, the cpHash, whether the entity has been written if it is an
+-- NV index, the command's locality, and the entity's policy, if it has one
 pub record UseParts : Type 0 where
   pub entry : ℕ
   pub kind : SessionType

@@ -1,5 +1,5 @@
-//! An assertion changes the policy as defined, and the new policy digest has the size of the
-//! session's hash.
+//! An assertion changes the policy as defined, and the new policy digest is as long as a digest of
+//! the session's hash algorithm.
 
 ghost use Rattle.std.specs.Prelude.{◌≡◌, Bool, Ok, length};
 ghost use Rattle.tpm_mac.specs.Digest.{digest_size};
@@ -9,8 +9,8 @@ ghost use Rattle.tpm_policy.specs.Made.{policy_with};
 ghost use Rattle.tpm_policy.specs.State.{Policy};
 
 /// If an assertion passes its checks, the new policy is `policy_with`, which is defined without
-/// checks. The new digest has the size of the session's hash. A proof only: it has no effect at run
-/// time.
+/// checks. The new policy digest is as long as a digest of the session's hash algorithm. A proof
+/// only: it has no effect at run time.
 #[inline(always)]
 #[tactic(auto, using(crate::proofs::Made::policy_made, crate::proofs::Sizes::made_sized))]
 pub fn assertion_laws()

@@ -28,8 +28,8 @@ pub struct PcrAssertion<'a> {
 }
 
 impl<'a> PcrAssertion<'a> {
-    /// The digest that extends the policy digest: that of the PCRs, or, in a trial session, the
-    /// digest in the command, unless that is empty.
+    /// The digest with which the policy digest is extended: the digest of the PCRs' values. A trial
+    /// session uses the digest in the command instead, unless that is empty.
     fn taken(&self, trial: bool) -> &'a [u8]
         ensures { result.now ≡ taken_digest trial (pcr_parts self.now) }
     {

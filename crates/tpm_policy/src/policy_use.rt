@@ -30,7 +30,7 @@ pub struct Use<'a> {
     pub kind: SessionType,
     /// The hash algorithm of the session.
     pub hash: HashAlg,
-    /// Whether the entity can be used now.
+    /// Whether the entity can be authorized by a policy.
     pub available: bool,
     /// The update counter of the PCRs.
     pub update_count: u64,
@@ -58,8 +58,8 @@ impl PolicyState {
         }
     }
 
-    /// Whether the policy requires a written or an unwritten NV index, but the entity is not an
-    /// index or is in the opposite state.
+    /// Whether the policy requires that an NV index is written (or unwritten), but the entity is
+    /// not an index or is in the opposite state.
     pub(crate) fn records_other_written(&self, found: Option<bool>) -> bool
         ensures { result ≡ is_other_written self.now.nv_written found }
     {
@@ -94,10 +94,11 @@ impl PolicyState {
 
     /// Checks whether the policy authorizes this use, and returns the policy's demand. The first
     /// condition that fails determines the error: ATTRIBUTES for a trial session; AUTH_UNAVAILABLE
-    /// if the entity cannot be used now; PCR_CHANGED if the update counter has changed; POLICY_CC
-    /// for another command; POLICY_FAIL if the role requires a command code and none is recorded,
-    /// for another cpHash, or for an index in the wrong written state; LOCALITY for a forbidden
-    /// locality; POLICY_FAIL if the policy is not that of the entity.
+    /// if the entity cannot be authorized by a policy; PCR_CHANGED if the update counter has
+    /// changed; POLICY_CC for another command; POLICY_FAIL if the role requires a command code and
+    /// none is recorded, for another cpHash, or if the entity does not have the recorded written
+    /// state; LOCALITY for a forbidden locality; POLICY_FAIL if the policy is not that of the
+    /// entity.
     #[tactic(auto, unfolding(crate::specs::Use::use_passes))]
     pub fn check_use(&self, asked: &Use) -> Result<Demand, Rc>
         ensures { result ≡ use_passes self.now (parts_of asked.now) }

@@ -14,7 +14,7 @@ use tpm_types_name::Name;
 /// The data of a TPM2_PolicySecret assertion. An empty buffer means that the parameter is absent.
 #[derive(Clone, Copy)]
 pub struct SecretAssertion<'a> {
-    /// The Name of the entity that is authorized.
+    /// The Name of the entity of authHandle, whose authorization value the caller knows.
     pub name: &'a Name,
     /// The nonce in the command.
     pub nonce: &'a [u8],
@@ -47,9 +47,10 @@ impl PolicyState {
         }
     }
 
-    /// TPM2_PolicySecret: returns VALUE if expiration is not 0, SIZE if cpHashA is not as long as
-    /// a digest, NONCE if the nonce is not the session's, and CPHASH if another command's cpHash
-    /// is recorded. A trial session accepts any nonce, and any cpHashA of that size.
+    /// TPM2_PolicySecret: returns VALUE if expiration is not 0, SIZE if cpHashA is present but not
+    /// as long as a digest, NONCE if the nonce is present but not the session's nonceTPM, and
+    /// CPHASH if another command's cpHash is recorded. A trial session accepts any nonce, and any
+    /// cpHashA of that size.
     #[tactic(auto, unfolding(crate::specs::Assertion::secret_asserted))]
     pub fn secret(
         &mut self,

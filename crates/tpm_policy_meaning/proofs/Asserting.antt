@@ -105,7 +105,7 @@ module _ (hash : HashAlg) (Broken : Type 0) (One Other : List ℕ → Type 0) (b
 
 -- ---- TPM2_PolicyOR
 
--- The assertion is a TPM2_PolicyOR whose digests, joined, equal these digests, joined.
+-- The assertion is a TPM2_PolicyOR, and its concatenated digests equal these digests, concatenated.
 abbrev pub IsOrOf : (digests : List (List ℕ)) → Assertion → Type 0
 IsOrOf digests one =
     (given : List (List ℕ)) × (one ≡ assertion.Or given)

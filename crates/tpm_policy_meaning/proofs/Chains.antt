@@ -82,7 +82,7 @@ length-chain hash [] = length-replicate (digest_size hash) 0
 length-chain hash (step ∷ earlier) = length-hash_of hash _
 
 -- The hash is broken in two cases: a text in `One` and a different text in `Other` have the same
--- hash; or the hash of a text in either is all zeros.
+-- hash; or the hash of a text in `One` or `Other` is all zeros.
 pub record Breaking (hash : HashAlg) (Broken : Type 0) (One Other : List ℕ → Type 0) : Type 0 where
   pub collision : (t u : List ℕ) → One t → Other u → t ≢ u → hash_of hash t ≡ hash_of hash u → Broken
   pub of_zeros : (t : List ℕ) → One t ⊎ Other t → hash_of hash t ≡ zeros hash → Broken

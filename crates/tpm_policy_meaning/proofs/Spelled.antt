@@ -76,7 +76,7 @@ session_fits hash [] = tt
 session_fits hash (latest ∷ earlier) =
     (asserted_fits hash latest, before_fits latest (session_said hash earlier) (session_fits hash earlier))
 
--- The digest after an assertion is the digest of the texts that are hashed for it.
+-- The session's digest after an assertion is the hash of the latest text that is hashed for it.
 module _ (hash : HashAlg) where
   grouped : (digest : List ℕ) (code : CommandCode) (about : List ℕ) → hash_of hash (digest ++ to_be_bytes w32 (code_number code) ++ about) ≡ hash_of hash (digest ++ (to_be_bytes w32 (code_number code) ++ about))
   grouped digest code about = ap (hash_of hash) (append_assoc digest (to_be_bytes w32 (code_number code)) about)

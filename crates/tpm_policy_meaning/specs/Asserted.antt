@@ -39,8 +39,8 @@ session_digest hash assertions = (evaluated hash false assertions).digest
 
 -- An assertion of a session asserts the same as an assertion of a written policy.
 -- TPM2_PolicyAuthValue and TPM2_PolicyPassword count as the same, since they extend the digest in
--- the same way. After either, a caller must prove the authorization value (`DemandsValue`); the
--- session's demand decides how.
+-- the same way. After either, a caller must prove that it knows the authorization value
+-- (`DemandsValue`); the session's demand decides how.
 abbrev pub Says : Assertion → PolicyAssertion → Type 0
 Says (assertion.Pcr parts) (PolicyPcr selection digest) =
     (parts.selection ≡ selection_text selection) × (parts.digest ≡ digest)
@@ -127,7 +127,8 @@ session_digests hash (latest ∷ earlier) =
 
 -- ---- laws of the digest of a session
 
--- A policy session's digest is the digest of the texts that it hashed.
+-- A policy session's digest is the hash of the latest text that it hashed, or zeros if there is
+-- none.
 abbrev pub SessionHashesTexts : Type 0
 SessionHashesTexts =
     (hash : HashAlg) (assertions : List Assertion)

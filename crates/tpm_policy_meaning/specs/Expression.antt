@@ -10,9 +10,9 @@ use Rattle.tpm_types.specs.declared.pcr_selection.BankSelection.{BankSelection}
 -- PolicyPassword: the entity's authorization value is sent as a password. PolicyCommandCode: the
 -- command has this code. PolicyLocality: the command comes from one of these localities, bit n for
 -- locality n. PolicyCpHash: the command has this cpHash. PolicyNvWritten: the entity is a written
--- NV index, or an unwritten one. PolicySecret: the entity with this Name was authorized for this
--- policyRef. PolicyNv: the data of the NV index with this Name, from this offset on, was compared
--- with this operand, and the comparison held.
+-- NV index, or an unwritten one. PolicySecret: the entity with this Name authorized a
+-- TPM2_PolicySecret with this policyRef. PolicyNv: the data of the NV index with this Name, from
+-- this offset on, was compared with this operand, and the comparison held.
 pub data PolicyAssertion : Type 0 where
   PolicyPcr : (selection : List BankSelection) → (digest : List ℕ) → PolicyAssertion
   PolicyAuthValue : PolicyAssertion

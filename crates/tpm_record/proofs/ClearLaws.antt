@@ -9,7 +9,7 @@ use Rattle.tpm_containers.specs.Slots.{at_place, taken_count}
 use Rattle.tpm_containers.proofs.SlotLaws.{counted}
 use Rattle.tpm_record.specs.Clear.{ClearingLaws, cleared_objects, cleared_place, is_cleared, is_place_cleared}
 
--- the slots after the first `count` were cleared
+-- the slots after TPM2_Clear's removals were applied to the first `count` of them
 abbrev pub cleared_up_to : ℕ → List (Option Object) → List (Option Object)
 cleared_up_to count places = map cleared_place (take count places) ++ drop count places
 
@@ -51,7 +51,7 @@ at_cleared [] place = refl
 at_cleared (p ∷ ps) zero = refl
 at_cleared (p ∷ ps) (suc place) = at_cleared ps place
 
--- the content of a slot, if it is an object with this number
+-- the object in a slot, if its handle has this number
 abbrev of_number : ℕ → Option Object → Option Object
 of_number number cell = option_and_then (if_of_kind transient_byte number) cell
 
@@ -107,8 +107,8 @@ cleared_few (p ∷ ps) =
     let old = sum_by-cons counted p ps in
     omega (arith, new, old, one_cleared p, cleared_few ps)
 
--- If a property holds for the object in a slot, it also holds for the object that is there after
--- clearing, if there is one.
+-- If the object in a slot has a property and clearing does not remove the object, it still has the
+-- property afterwards.
 kept_in : (Is : Object → Type 0) (cell : Option Object) → IfSome cell Is → IfSome (cleared_place cell) Is
 kept_in Is None is = tt
 kept_in Is (Some x) is = by (is_cleared x.hierarchy)

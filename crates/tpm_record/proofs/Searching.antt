@@ -27,8 +27,8 @@ if_passes false n is = absurd cc
 pub none_more : (test : ℕ → Bool) (n : ℕ) → least_below test n ≡ None → test n ≡ false → least_below test (suc n) ≡ None
 none_more test n none fails = or_none (least_below test n) (if test n then Some n else None) none (if_fails (test n) n fails)
 
--- Let k pass the test, but no lower number. If k is n, or a search below n finds k, then a search
--- below n + 1 finds k.
+-- Let k be the lowest number that passes the test. If k is n, or a search below n finds k, then a
+-- search below n + 1 finds k.
 found_at : (test : ℕ → Bool) (k n : ℕ) → (k ≡ n) ⊎ (least_below test n ≡ Some k) → least_below test k ≡ None → test k ≡ true → least_below test (suc n) ≡ Some k
 found_at test k n (inl same) none passes =
     subst (λ (m : ℕ). least_below test (suc m) ≡ Some k) same (or_then (least_below test k) (if test k then Some k else None) k none (if_passes (test k) k passes))

@@ -1,5 +1,5 @@
 -- The transient and persistent objects of a record together: adding one, removing one, and finding
--- the next handle of one. TPM 2.0 Library, Part 1, sections 15.6 (transient objects) and 37.3
+-- the next handle in use. TPM 2.0 Library, Part 1, sections 15.6 (transient objects) and 37.3
 -- (persistent objects).
 use Rattle.tpm_types.specs.Limits.{object_limit, persistent_limit}
 use Rattle.std.specs.Prelude.{◌≡◌, ℕ, zero, suc, ◌&&◌, nat_le, Bool, is_some, if◌then◌else◌, List, Option, Some, None, option_map, Result}

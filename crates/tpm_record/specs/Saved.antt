@@ -39,7 +39,7 @@ values_of Nothing = None
 values_of Clear = None
 values_of (State values) = Some values
 
--- the banks with the saved values restored, if there are any
+-- the banks after the saved PCR values, if there are any, were restored
 abbrev pub restored_from : SavedState → BankValues → BankValues
 restored_from Nothing banks = banks
 restored_from Clear banks = banks

@@ -8,7 +8,7 @@ use std::marker::Model;
 use tpm_pcr::{Banks, SavedPcrs};
 use tpm_types::StartupType;
 
-/// The kind of the last TPM2_Shutdown, or none if there was no shutdown or it was cancelled.
+/// The kind of the last TPM2_Shutdown; `Nothing` if there was no shutdown or it was cancelled.
 #[derive(Clone, Copy, PartialEq, Eq)]
 pub enum SavedKind {
     Nothing,

@@ -30,7 +30,8 @@ abbrev pub mask_label : List ℕ
 mask_label = 0x58 ∷ 0x4f ∷ 0x52 ∷ []
 
 -- the mask of a parameter: KDFa(authHash, sessionKey || authValue, "XOR", nonceNewer, nonceOlder,
--- the parameter's size in bits). TPM2_StartAuthSession checks that the hash of XOR is authHash
+-- the parameter's size in bits). TPM2_StartAuthSession checks that the hash algorithm of XOR is
+-- authHash
 unfoldable pub mask_bytes : Session → (auth_value newer older : List ℕ) → (size : ℕ) → List ℕ
 mask_bytes session auth_value newer older size =
     kdfa_of session.hash (session.key ++ auth_value) mask_label newer older size

@@ -28,8 +28,8 @@ abbrev pub entry_key : Session → List ℕ → List ℕ
 entry_key session auth_value = session.key ++ auth_value
 
 -- the data that an authorization entry's HMAC covers: pHash || nonceNewer || nonceOlder || nonceTPM
--- of the decrypt session || nonceTPM of the encrypt session || sessionAttributes. The nonces of
--- other sessions are empty unless the entry authenticates these sessions
+-- of the decrypt session || nonceTPM of the encrypt session || sessionAttributes. The nonces of the
+-- decrypt and encrypt sessions are empty unless the entry authenticates these sessions
 abbrev pub entry_text : (hash newer older decrypt encrypt : List ℕ) → SessionAttributes → List ℕ
 entry_text hash newer older decrypt encrypt attributes =
     hash ++ newer ++ older ++ decrypt ++ encrypt ++ attributes.octet ∷ []

@@ -3,7 +3,7 @@
 use Rattle.std.specs.Prelude.{◌≡◌, ℕ, ◌+◌, ◌≤◌, ◌&&◌, nat_le, Bool, true, false, List, ◌++◌, length, take, drop, if◌then◌else◌, Option, Some, None}
 use Rattle.std.specs.Int.{w16, from_be_bytes}
 
--- the size field at the start of a text
+-- the value of the size field at the start of a text
 abbrev pub first_size : List ℕ → ℕ
 first_size text = from_be_bytes w16 (take 2 text)
 
@@ -11,16 +11,16 @@ first_size text = from_be_bytes w16 (take 2 text)
 abbrev pub has_first_buffer : List ℕ → Bool
 has_first_buffer text = nat_le 2 (length text) && nat_le (2 + first_size text) (length text)
 
--- a text after `f` was applied to the bytes of the sized buffer at the start; unchanged if no
--- complete buffer is there
+-- a text with `f` applied to the contents of the sized buffer at its start; unchanged if the text
+-- does not start with a complete buffer
 unfoldable pub with_first_buffer : (List ℕ → List ℕ) → List ℕ → List ℕ
 with_first_buffer f text =
     if has_first_buffer text
     then take 2 text ++ f (take (first_size text) (drop 2 text)) ++ drop (2 + first_size text) text
     else text
 
--- The call returned the size of the sized buffer at the start of a text, or None if no complete
--- buffer is there.
+-- The call returned the size of the sized buffer at the start of a text, or None if the text does
+-- not start with a complete buffer.
 abbrev pub FindsFirst : List ℕ → Option ℕ → Type 0
 FindsFirst text (Some size) =
     (has_first_buffer text ≡ true) × (size ≡ first_size text) × (2 + size ≤ length text)

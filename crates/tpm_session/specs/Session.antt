@@ -9,9 +9,8 @@ use Rattle.tpm_types.specs.declared.symmetric.SymmetricDefinition.{SymmetricDefi
 use Rattle.tpm_session.specs.Key.{is_nonce_size, key_size}
 use Rattle.tpm_session.specs.declared.session.Binding.{Binding}
 
--- a session: its type, hash and symmetric definition; the last nonce that the device sent; the
--- key; the entity to which it is bound; and the policy after its assertions, which never changes
--- in an HMAC session
+-- a session: its type, hash and symmetric definition; the last nonce that the device sent; the key;
+-- the entity to which it is bound; and its policy state, which never changes in an HMAC session
 pub record Session : Type 0 where
   pub kind : SessionType
   pub hash : HashAlg

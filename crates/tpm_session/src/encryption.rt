@@ -89,8 +89,9 @@ impl Session {
     }
 
     /// Decrypts a parameter in place. If the session has no symmetric algorithm, returns an error
-    /// and leaves the parameter unchanged. `auth_value` is that of the entity that the session
-    /// authorizes, or empty if there is none (TPM 2.0 Library, Part 1, sections 21.2 and 21.3).
+    /// and leaves the parameter unchanged. `auth_value` is the authorization value of the entity
+    /// that the session authorizes, or empty if there is no such entity (TPM 2.0 Library, Part 1,
+    /// sections 21.2 and 21.3).
     #[tactic(auto, unfolding(crate::specs::Encryption::plain_parameter))]
     pub fn open_parameter(
         &self,

@@ -54,7 +54,7 @@ impl<'a> Model for EntryText<'a> {
 
 /// Combines the data that an authorization entry's HMAC covers, without copying it: cpHash or
 /// rpHash; the newer and the older nonce of the entry's session; the nonceTPM of a separate decrypt
-/// and encrypt session, if the entry authenticates them; and the attributes.
+/// session and of a separate encrypt session, if the entry authenticates them; and the attributes.
 pub fn entry_text<'a>(
     hash: &'a [u8],
     newer: &'a [u8],

@@ -32,7 +32,7 @@ pub fn command_hash(hash: HashAlg, code: u32, names: &[Name], parameters: &[u8])
     digest_parts(hash, &[&code, first, second, third, parameters])
 }
 
-/// rpHash: the hash of a successful response's code, the command code, and the parameters as sent
+/// rpHash: the hash of the response code of success, the command code, and the parameters as sent
 /// (TPM 2.0 Library, Part 1, section 18.8).
 #[tactic(auto, unfolding(crate::specs::ParameterHash::response_hash_of))]
 pub fn response_hash(hash: HashAlg, code: u32, parameters: &[u8]) -> Digest

@@ -169,7 +169,7 @@ impl<S: Slots<Session, SESSION_LIMIT>> Sessions<S> {
     }
 
     /// Replaces the policy state of the session with this handle; returns whether the session
-    /// existed. The new policy digest must have the size of the session's hash.
+    /// existed. The new policy digest must be as long as a digest of the session's hash algorithm.
     #[tactic(auto, unfolding(crate::specs::Sessions::with_session_policy, crate::specs::Sessions::session_at))]
     pub fn set_policy(&mut self, handle: Handle, policy: PolicyState) -> bool
         requires { IfSome (session_at (places_of S.places self.old) handle)

@@ -1,5 +1,5 @@
--- Once a command has passed the checks of a read, a read of its index fails only if it goes past
--- the end of the data.
+-- After the checks of a command that reads an NV index have passed, the read fails only if it goes
+-- past the end of the index's data.
 use Rattle.std.proofs.Common.{◌≡◌, ℕ, ◌+◌, Bool, true, false, Some, Result, Ok, Err, IfOk, IfErr, refl, sym, subst}
 use Rattle.std.specs.Prelude.{not, nat_lt}
 use Rattle.std.proofs.lemmas.Bool.{not-false}
@@ -27,7 +27,7 @@ only_if : {A B : Type 0} (b : Bool) (e : B) (a : A) → IfErr (refused_if b e >>
 only_if true e a = refl
 only_if false e a = tt
 
--- The index of a target exists and has the target's attributes.
+-- The NV index of a command's target exists, and its attributes are those in the target.
 target_is : (r : Record) (q : Request) (target : Target) → target_of r q ≡ Ok target → (index : NvIndex) × (index_at r.nv target.handle ≡ Some index) × (target.attributes ≡ index.public.attributes)
 target_is r q target is =
     let auth_handle = bind_ok (first_handle q.handles) _ target is in
@@ -37,7 +37,8 @@ target_is r q target is =
     let same = subst (λ (t : Target). (index_at r.nv t.handle ≡ Some index.0) × (t.attributes ≡ index.0.public.attributes)) (ok_is _ _ attributes.2) (ok_or_ok (index_at r.nv handle.0) handle_refusal index.0 index.1, sym (ok_is _ _ index.2)) in
     (index.0, same.0, same.1)
 
--- If an index is written and not locked, a read fails only if it goes past the end of the data.
+-- If an NV index has WRITTEN set and is not locked against reading, a read fails only if it goes
+-- past the end of the data.
 read_within : (nv : NvContents) (handle : Handle) (offset size : ℕ) (index : NvIndex) → index_at nv handle ≡ Some index → has index.public.attributes attribute.ReadLocked ≡ false → has index.public.attributes attribute.Written ≡ true → IfErr (read_at nv handle offset size) (λ fault. fault ≡ PastData)
 unfolding read_at
 read_within nv handle offset size index there unlocked written =

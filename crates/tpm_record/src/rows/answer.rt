@@ -26,7 +26,7 @@ pub struct Answer {
 impl Answer {
     ghost use Rattle.tpm_record.specs.rows.Answer.{IsEmpty};
 
-    /// An answer without a handle or parameters, and without drawn random bytes.
+    /// An empty answer: no handle, no parameters, and no random bytes drawn.
     pub fn empty() -> Answer
         ensures { IsEmpty result }
     {

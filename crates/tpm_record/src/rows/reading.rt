@@ -26,8 +26,8 @@ pub fn parameter<T>(place: u8, read: Result<T, Rc>) -> Result<T, Refused>
     }
 }
 
-/// The number that was read for the parameter with this number, or the refusal of the parameter.
-/// Reading a number fails only if its bytes are truncated.
+/// The integer that was read for the parameter at this position, or the refusal of the parameter.
+/// Reading an integer fails only if its bytes are truncated.
 pub fn number<T>(place: u8, read: Result<T, Short>) -> Result<T, Refused>
     ensures { result ≡ parameter place (or_fault read (plain code.Insufficient)) }
 {

@@ -20,7 +20,7 @@ pub fn action_refusal(check: ActionCheck, rc: Rc) -> Refused
     Refused::by(Check::Action(check), rc)
 }
 
-/// The refusal by one of the command's own checks, with this code for a parameter.
+/// The refusal by one of the command's own checks, with this response code for this parameter.
 pub fn parameter_refusal(check: ActionCheck, parameter: u8, code: ResponseCode) -> Refused
     ensures { result ≡ parameter_refusal check parameter code }
 {

@@ -34,7 +34,7 @@ fn attributes_of<K: Keep>(keep: &K, handle: Handle) -> Result<NvAttributes, Refu
     }
 }
 
-/// The target named by the command's first two handles.
+/// The target of the command: the entity and the NV index that its first two handles name.
 pub fn target_of<K: Keep>(keep: &K, call: &Call) -> Result<Target, Refused>
     ensures { result ≡ target_of (K.record_of keep.now) (request_of call.now) }
 {
@@ -95,8 +95,8 @@ impl Target {
     }
 }
 
-/// Once a command has passed the checks of `check_reading`, a read of its index fails only if it
-/// goes past the end of the data. A proof only: it has no effect at run time.
+/// Once a command has passed the checks of `check_reading`, reading its index fails only if the
+/// bytes extend past the end of the data. A proof only: it has no effect at run time.
 #[inline(always)]
 #[tactic(auto, using(crate::proofs::rows::TargetLaws::reading_within))]
 pub fn reading_laws()

@@ -7,7 +7,8 @@ use Rattle.tpm_mac.specs.Digest.{digest_size, joined_text}
 use Rattle.tpm_types.specs.DigestList.{digests_of}
 use Rattle.tpm_policy.proofs.assertions.or_digest.Given as goal
 
--- The parts so far are the zeros, the command code and the digests that were already visited.
+-- The parts collected so far are the zeros, the command code and the digests of the list that were
+-- already visited.
 abbrev pub invariant-loop-digest : goal.invariant-loop-digest
 invariant-loop-digest l = record {
   so_far : joined_text l.parts.items ≡ replicate (digest_size l.hash) 0 ++ to_be_bytes w32 (code_number served.PolicyOr)

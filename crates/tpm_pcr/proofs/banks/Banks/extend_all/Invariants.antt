@@ -2,7 +2,8 @@ use Rattle.std.proofs.Common.{◌≡◌, ◌+◌, ◌<◌, ◌^◌, fold, length
 use Rattle.tpm_pcr.specs.Changes.{with_extension}
 use Rattle.tpm_pcr.proofs.banks.Banks.extend_all.Given as goal
 
--- The PCR was extended with the digests so far, and each was counted.
+-- The PCR was extended with each digest visited so far, and each extension was counted as an
+-- update.
 abbrev pub invariant-loop-digest : goal.invariant-loop-digest
 invariant-loop-digest l = record {
   so_far : l.self ≡ fold (with_extension l.pcr) l.fn.self (take l.digest-index l.digests);

@@ -5,7 +5,7 @@ use Rattle.tpm_types.specs.DigestList.{digests_of}
 use Rattle.tpm_pcr.specs.Banks.{pcr_value, select_with}
 use Rattle.tpm_pcr.proofs.banks.Banks.read_bank.Given as goal
 
--- The selected PCRs so far have been read, up to a total of eight values.
+-- The selected PCRs that were visited so far have been read, up to a total of eight values.
 abbrev pub invariant-loop-number : goal.invariant-loop-number
 invariant-loop-number l =
     let room = 8 - length l.fn.values.items in
