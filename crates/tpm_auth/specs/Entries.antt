@@ -53,9 +53,9 @@ is_misplaced c n before e =
     if is_password e then nat_lt (authorized_handles c) n
     else list_any (λ earlier. earlier.session.number == e.session.number) before
 
--- whether an entry requests an audit session, which is not supported; or decrypt or encrypt with a
--- password; or decrypt or encrypt although an earlier entry requests the same, or although the
--- first parameter of the command or of its response is not a sized buffer
+-- whether an entry has a wrong attribute: audit, which is not supported; or decrypt or encrypt in a
+-- password entry, in an entry after another one with the same attribute, or if the first parameter
+-- of the command (decrypt) or of its response (encrypt) is not a sized buffer
 abbrev pub has_wrong_attributes : CommandCode → List Entry → Entry → Bool
 has_wrong_attributes c before e =
     audits e.attributes

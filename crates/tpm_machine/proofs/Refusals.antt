@@ -1,4 +1,5 @@
--- The response to a refusal is its encoding. A refusal changes only the time and the lockout state.
+-- The response to a refusal encodes the refusal. A refusal changes only the time and the lockout
+-- state.
 use Rattle.std.proofs.Common.{◌≡◌, ◌≢◌, ℕ, List, length, Bool, true, false, cond, Result, Ok, Err, refl, ap, sym, ◌∙◌}
 use Rattle.std.proofs.lemmas.Bool.{false≢true}
 use Rattle.tpm_types_command.specs.Command.{Whole}

@@ -18,7 +18,7 @@ impl<'a> Model for Draws<'a> {
 }
 
 impl<'a> Draws<'a> {
-    /// Draws from these random bytes, none of which is used yet.
+    /// Starts with these random bytes, none of which is used yet.
     pub fn new(left: &'a [u8]) -> Draws<'a>
         ensures { result ≡ left.now }
     {

@@ -59,8 +59,8 @@ bare_object s o = record o {
 
 -- ---- NV indices
 
--- an index with its secrets erased; the map keeps its handle, and the largest value of any counter
--- is unchanged
+-- an index with its secrets erased; neither its handle nor the largest value of any counter is
+-- erased
 abbrev pub bare_index : Secrecy → NvIndex → NvIndex
 bare_index s i = record i {
   auth_value = unless (s.index_values i.public.nv_index.number) i.auth_value;

@@ -31,10 +31,10 @@ pub fn secrecy_laws()
 
 /// After any executions since a device was manufactured, an execution reveals nothing about the
 /// sealed data or the key of an object, unless it is an accepted TPM2_Unseal or TPM2_HMAC with that
-/// object. If the object has a policy and no userWithAuth, the policy was satisfied, or the hash is
-/// broken. For example, nothing reveals a disk's key until a TPM2_Unseal of it is accepted; then
-/// either the PCRs had their values and the PIN was presented, or the recovery secret was
-/// presented, or the hash is broken.
+/// object. If the object has a policy and no userWithAuth, the policy was satisfied unless the hash
+/// is broken. For example, nothing reveals a disk's key until a TPM2_Unseal of it is accepted.
+/// Then, unless the hash is broken, either the PCRs had their values and the PIN was presented, or
+/// the recovery secret was presented.
 #[inline(always)]
 pub fn sealed_data_laws()
     ensures each { SealedDataNeedPolicy }

@@ -24,8 +24,8 @@ use Rattle.tpm_step.specs.Sessions.{LiveSession, policy_in, sessions_of}
 use Rattle.tpm_step.specs.View.{View}
 use Rattle.tpm_step.specs.Views.{is_there, view_policy, view_takes, view_written}
 
--- whether the viewed entity exists, and accepts this means of authorization for a command with this
--- use
+-- whether the viewed entity exists, and accepts this means of authorization for a command that uses
+-- it in this way
 abbrev pub allows : Means → NvUse → View → Bool
 allows means nv_use view = is_there view && view_takes means nv_use view
 
@@ -76,7 +76,7 @@ pub record MeetsPolicy (history : History) (c : AcceptedCommand) (place : ℕ) (
   pub locality : bit_at (policy_in s).localities c.request.locality ≡ 1
 
 -- The entry of a policy session contains the password if the session's policy demands one, and
--- otherwise its HMAC.
+-- otherwise the right HMAC.
 abbrev pub HasDemanded : Bool → History → AcceptedCommand → ℕ → Entry → LiveSession → Type 0
 HasDemanded true history c place e s = HasPassword history c place e
 HasDemanded false history c place e s = HasHmac history c place e s

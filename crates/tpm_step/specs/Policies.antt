@@ -37,8 +37,8 @@ pcr_parts_in history hash p = record {
 
 -- the assertion of a command after a history, on a session with this hash and this nonceTPM. For
 -- TPM2_PolicyNV the policy contains the Name of the index, but not the compared bytes, which a
--- history does not record. So `compared` is empty here; the effect of the assertion does not depend
--- on it
+-- history does not record. Therefore `compared` is empty here; the effect of the assertion does not
+-- depend on it
 abbrev pub assertion_by : Code → AcceptedCommand → History → HashAlg → (nonce_tpm : List ℕ)
     → Result Assertion Refused
 assertion_by command.PolicyPcr c history hash nonce_tpm = do

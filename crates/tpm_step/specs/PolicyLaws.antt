@@ -23,9 +23,8 @@ abbrev pub HasPolicyOf : HashAlg → List Assertion → Option EntityParts → T
 HasPolicyOf hash assertions (Some entity) = entity.digest ≡ (evaluated hash false assertions).digest
 HasPolicyOf hash assertions None = ⊥
 
--- the assertion that the selected PCRs have the values that they have after this history. A
--- policy's digest contains neither the pcrDigest argument nor the update counter, so these are
--- empty
+-- the assertion that the selected PCRs have the values that they have after this history. The
+-- pcrDigest argument and the update counter are empty, because a policy's digest contains neither
 abbrev pub pcrs_as_in : History → HashAlg → List BankSelection → PcrParts
 pcrs_as_in history hash selection = record {
   given = [];

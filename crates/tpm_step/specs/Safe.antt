@@ -19,8 +19,8 @@ only_ticked r Cycled = r
 only_ticked r (Placed object) = r
 
 -- A refused command gets a response of ten bytes with the refusal's code, and the row reports the
--- check. The record changes only by the elapsed time and by a failed try, if the refusal counts
--- one. Which command the row names is unspecified here.
+-- check. The only changes in the record are the elapsed time and, if the refusal counts as a failed
+-- try, the lockout state. Which command the row names is unspecified here.
 abbrev pub IsHarmless : Record → PlainEvent → Stepped → Type 0
 IsHarmless r event x = x.row.check ≢ 0
     → (length x.response ≡ 10)

@@ -17,7 +17,7 @@ use Rattle.tpm_step.proofs.Binding.{ok_bind}
 use Rattle.tpm_step.proofs.rows.Parts.{keeps_places, leaves_sessions, sessions_same}
 use Rattle.tpm_step.proofs.rows.Parts.{touched_grows, touched_same}
 
--- If a success takes no more slots, it grows as the command's shape says.
+-- A success that takes no more slots than before grows as the command's shape says.
 abbrev pub GrowsNothing : CommandCode → Type 0
 GrowsNothing c = (old new : Record) → Grows false old new → GrowsAsShaped c old new
 
@@ -55,10 +55,11 @@ in_place c r q s leaves keeps nothing touches changes answers draws =
 pub none_drawn : 0 ≤ 96
 none_drawn = omega arith
 
--- if a command draws as many bytes as its parameters say, it draws `draws_of`
+-- the number of bytes that is computed from parsed parameters is the number that `read_or_none`
+-- computes
 pub drawn_as_read : {P : Type 0} (count : P → ℕ) (x : Result P Refused) (p : P)
     → x ≡ Ok p → count p ≡ read_or_none count x
 drawn_as_read count x p is = sym (ap (read_or_none count) is)
 
--- the proof steps for rows that take no more slots
+-- the rules for the rows of commands that take no more slots
 pub ruleset in_place_steps = (rules, ok_bind, in_place, none_drawn)

@@ -85,7 +85,8 @@ pub record Undefines (q : Request) (old new : NvContents) : Type 0 where
   pub named : second_handle q.handles ≡ Ok handle
   pub is : new ≡ without_index old handle
 
--- how a success changes the NV indices if it touches this part; other successes do not change them
+-- how a success changes the NV indices if it changes this part of the state; other successes do not
+-- change them
 abbrev pub ChangesIndices : Part → Request → NvContents → NvContents → Type 0
 ChangesIndices NvData q = Writes
 ChangesIndices NvCounter q = Increments q

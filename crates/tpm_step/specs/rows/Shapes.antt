@@ -98,8 +98,8 @@ abbrev pub ParametersFail : {X : Type 0} → Refused → Result X Refused → Ty
 ParametersFail fault (Ok s) = ⊥
 ParametersFail fault (Err e) = (e ≡ fault) ⊎ (e.check ≡ check.Handles)
 
--- The row refuses the parameters if and only if they are not of these kinds, and then it refuses
--- with the first fault.
+-- The row does not refuse parameters of these kinds. It refuses other parameters with their first
+-- fault, unless it refuses a handle first.
 abbrev pub ReadsParameters : {X : Type 0} → Result (Unit {0}) Refused → Result X Refused → Type 0
 ReadsParameters (Ok done) row = Passes check.Parameters row
 ReadsParameters (Err fault) row = ParametersFail fault row
