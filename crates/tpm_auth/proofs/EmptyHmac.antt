@@ -59,7 +59,7 @@ authentic r c n grant e s is empty =
 abbrev HasNoKey : Record → Session → Option Grant → Type 0
 HasNoKey r s accepted = (entry_key s (used_auth_value r s accepted) ≡ []) ⊎ ((demands_password accepted ≡ true) × (trimmed (granted_value r accepted) ≡ []))
 
--- An empty password is right only for an empty authorization value.
+-- An empty password matches only an empty authorization value.
 no_value : (value password : List ℕ) → is_password_of value password ≡ true → password ≡ [] → trimmed value ≡ []
 unfolding trimmed
 no_value value password is empty = sym ((bytes_eq-Decides (trimmed password) (trimmed value)).0 is) ∙ ap trimmed empty

@@ -40,7 +40,7 @@ reference_of n =
     plain (if n == 1 then code.ReferenceS0
     else (if n == 2 then code.ReferenceS1 else code.ReferenceS2))
 
--- the check that the session named by an entry's handle exists; a password always passes
+-- the check that the session named by an entry's handle exists; a password entry always passes
 abbrev pub kind_passes : Record → ℕ → Entry → SessionKind → Result (Unit {0}) Rc
 kind_passes r n e kind.Other = Err (entry_fault n code.Value)
 kind_passes r n e kind.Session = refused_if (is_none (session_of r e)) (reference_of n)

@@ -32,7 +32,7 @@ impl<'a> Draws<'a> {
         self.left.len()
     }
 
-    /// Draws a nonce, which consists of the first `size` of these bytes.
+    /// Draws a nonce, which consists of the first `size` unused bytes.
     pub fn nonce(&mut self, size: usize) -> Nonce
         requires small { size ≤ 32 }
         requires enough { size ≤ length self.old }

@@ -48,8 +48,8 @@ unless secret bytes = if secret then [] else bytes
 abbrev pub has_secret_data : Secrecy → Object → Bool
 has_secret_data s o = is_keyed_hash o.public && s.object_data o.public
 
--- an object with its secrets erased. These are the authorization value, and the sealed data or key
--- together with the seedValue, because `unique` is computed from both
+-- an object with its secrets erased. The secrets are the authorization value, and the sealed data
+-- or key together with the seedValue, because `unique` is computed from both
 abbrev pub bare_object : Secrecy → Object → Object
 bare_object s o = record o {
   auth_value = unless (s.object_values o.public) o.auth_value;

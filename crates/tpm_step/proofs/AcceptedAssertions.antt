@@ -185,7 +185,8 @@ module _ (r : Record) (c : AcceptedCommand) (history : History) (are : AreIndice
   -- ---- the assertion of an accepted command
 
   -- If an accepted command makes an assertion on a policy session that is not a trial session, the
-  -- assertion that the history determines for it meets its condition on the session's policy.
+  -- assertion that the history determines for the command meets its condition on the session's
+  -- policy.
   abbrev pub FindsItsOwn : Code → Type 0
   FindsItsOwn code =
       (handle : Handle) (s : Session) (told : Assertion) → session_handle code q.handles ≡ Ok handle

@@ -1,5 +1,5 @@
--- Time, failed tries and power cycles satisfy `Pays`, and less than one recoveryTime counts towards
--- the next decrement of failedTries.
+-- The passing of time, failed tries and power cycles satisfy `Pays`. After them, less than one
+-- recoveryTime counts towards the next decrement of failedTries.
 use Rattle.std.proofs.Common.{arith, ◌≡◌, ◌≢◌, ◌⊎◌, ℕ, ◌+◌, ◌*◌, ◌/◌, ◌%◌, ◌-◌, ◌<◌, ◌≤◌, Bool, true, false, cond, refl, sym, ap, ◌∙◌, inl, inr}
 use Rattle.std.specs.Prelude.{not, ◌&&◌, ◌==◌, nat_le}
 use Rattle.std.proofs.lemmas.Bool.{cases_eq, cases_lt, cond_both, leb-false, ne_eqb}

@@ -31,15 +31,16 @@ pub record Drawn : Type 0 where
 unfoldable pub draw_of : Record → Entry → ℕ
 draw_of r e = option_map_or (λ (s : Session). length s.nonce_tpm) (session_of r e) 0
 
--- draws a new nonce for an entry's session: the record after it, and the remaining random bytes
+-- the result of drawing a new nonce for an entry's session: the new record, and the remaining
+-- random bytes
 unfoldable pub entry_rolled : Record → Entry → List ℕ → Drawn
 entry_rolled r e left = record {
   after = record r { sessions = rolled r.sessions e.session (take (draw_of r e) left) };
   left = drop (draw_of r e) left;
 }
 
--- draws a new nonce for the session of each entry, in order: the record after them, and the
--- remaining random bytes
+-- the result of drawing a new nonce for the session of each entry, in order: the new record, and
+-- the remaining random bytes
 abbrev pub entries_rolled : Record → List Entry → List ℕ → Drawn
 entries_rolled r [] left = record { after = r; left = left }
 entries_rolled r (e ∷ es) left =

@@ -33,7 +33,7 @@ used_in c place = slice_get (authorized c) place
 -- ---- a password
 
 -- The hmac field of an entry contains the authValue of the handle that the entry has to authorize.
--- Trailing zeros in the field are ignored; the values in a history have none.
+-- Trailing zeros in the field are ignored; the authorization values of a history have none.
 abbrev pub HasPassword : History → AcceptedCommand → ℕ → Entry → Type 0
 HasPassword history c place e =
     trimmed e.hmac ≡ option_map_or (auth_of history) (used_in c.command place) []

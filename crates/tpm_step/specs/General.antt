@@ -99,7 +99,7 @@ body_of r header text = do
     parameters = entries.1;
   })
 
--- the command that a buffer encodes, or the first general check that refuses the buffer
+-- the command that a buffer encodes, or the refusal by the first general check that fails
 unfoldable pub general : Record → List ℕ → Result Whole RefusedCommand
 general r buffer = do
   header ← in_header (header_at buffer)

@@ -49,7 +49,8 @@ IsPolicyOf s None = ⊥
 IsPolicyOf s (Some entity) =
     (entity.hash ≡ s.hash) × ((policy_in s).digest ≡ entity.digest) × (entity.digest ≢ [])
 
--- whether the NV index whose handle is at this position is written; None for every other entity
+-- whether the NV index whose handle is at this position has WRITTEN set; None for every other
+-- entity
 abbrev pub written_at : AcceptedCommand → ℕ → Option Bool
 written_at c place = option_and_then view_written (slice_get c.views place)
 

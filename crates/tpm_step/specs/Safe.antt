@@ -12,7 +12,8 @@ use Rattle.tpm_step.specs.Entries.{DrawsFew}
 use Rattle.tpm_step.specs.Events.{PlainEvent, Given, Cycled, Placed}
 use Rattle.tpm_step.specs.Step.{Accepted, Stepped, accepted, counted_in}
 
--- the record after a command's elapsed time; unchanged by a power cycle and by a placed object
+-- the record after the elapsed time of a command; unchanged for a power cycle and for a placed
+-- object
 abbrev pub only_ticked : Record → PlainEvent → Record
 only_ticked r (Given buffer locality elapsed random) = ticked r elapsed
 only_ticked r Cycled = r

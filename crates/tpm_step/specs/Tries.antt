@@ -60,10 +60,11 @@ fails_try r (Given buffer locality elapsed random) =
 fails_try r Cycled = false
 fails_try r (Placed object) = false
 
--- An entry touches the entity whose authorization value the device uses to check the entry. This is
--- the entity that the entry has to authorize, if its value is compared with the password or is part
--- of the HMAC's key. Otherwise it is the entity to which the session was bound at its start. If a
--- session may not authorize the entity, nothing is compared and nothing is touched.
+-- The device checks an entry with the authorization value of one entity: the entry touches this
+-- entity. It is the entity that the entry has to authorize, if its value is compared with the
+-- password or is part of the HMAC's key. Otherwise it is the entity to which the session was bound
+-- at its start. If a session may not authorize the entity, nothing is compared and nothing is
+-- touched.
 
 -- the protection of the entity that a session's entry is checked with, if the entry has to
 -- authorize this handle. The last argument is the policy's demand, or the refusal if the session

@@ -1,4 +1,4 @@
--- What the view of a handle shows about its entity: its Name, its policy, whether it is written,
+-- What the view of a handle shows about its entity: its Name, its policy, whether WRITTEN is set,
 -- its protection against dictionary attacks, and what can authorize it. TPM 2.0 Library, Part 1,
 -- sections 16 (Names), 19.2 (roles), 19.7 (policies) and 19.8 (dictionary attacks), and Part 2,
 -- section 13.4 (TPMA_NV).
@@ -68,7 +68,7 @@ view_takes means nv_use (OfObject public) = object_takes means public
 view_takes means nv_use (OfIndex public) = index_takes means nv_use public
 view_takes means nv_use (OfHandle handle) = permanent_is_available means
 
--- whether an NV index is written; None for every other entity
+-- whether an NV index has WRITTEN set; None for every other entity
 abbrev pub view_written : View → Option Bool
 view_written (OfIndex public) = Some (index_has public.attributes mark.Written)
 view_written other = None

@@ -25,7 +25,7 @@ abbrev pub GrowsByOne : CommandCode → Type 0
 GrowsByOne c = (old new : Record) → Grows true old new → GrowsAsShaped c old new
 
 -- A success that leaves the sessions unchanged satisfies the laws about rows, if its changes, its
--- answer and its draws are those of its command.
+-- answer and its draws are as defined for its command.
 pub beside_sessions : (c : CommandCode) (r : Record) (q : Request) (s : Success)
     → leaves_sessions (part_of c) ≡ true → Touches (part_of c) r s.after → GrowsAsShaped c r s.after
     → ChangesIndices (part_of c) q r.nv s.after.nv → AnswersItsShape c s → DrawsAsSaid c q s → SuccessLaws c r q s
@@ -43,7 +43,7 @@ beside_sessions c r q s leaves touches grows changes answers draws = record {
     same = touched_same (part_of c) r s.after leaves touches
 
 -- A success that takes no more slots satisfies the laws about rows, if its changes, its answer and
--- its draws are those of its command.
+-- its draws are as defined for its command.
 pub in_place : (c : CommandCode) (r : Record) (q : Request) (s : Success)
     → leaves_sessions (part_of c) ≡ true → keeps_places (part_of c) ≡ true → GrowsNothing c
     → Touches (part_of c) r s.after → ChangesIndices (part_of c) q r.nv s.after.nv
