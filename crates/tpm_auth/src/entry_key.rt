@@ -1,5 +1,5 @@
-//! Checks the HMAC of a session's entry. Determines the authorization value in its key and the
-//! nonces in its text.
+//! Checks the HMAC of a session's entry. Determines the authorization value in the HMAC's key and
+//! the nonces in the HMAC's text.
 
 ghost use Rattle.std.specs.Prelude.{◌≡◌, ◌≤◌, length, map, option_map};
 ghost use Rattle.std.specs.Option.{ForSome};

@@ -77,9 +77,9 @@ pub fn answer_shape_laws()
         → IfOk (row_of r c q) (AnswersItsShape c) }
 {}
 
-/// The success of a command that grows takes one more slot. The success of any other command takes
-/// no more slots. The exception is TPM2_EvictControl, which may also remove an object: it takes or
-/// frees one slot.
+/// The success of a command that grows fills one more slot. The success of any other command fills
+/// no further slot. The exception is TPM2_EvictControl, which may also remove an object: it fills
+/// or frees one slot.
 #[inline(always)]
 #[tactic(auto, using(crate::proofs::rows::Table::row_grows))]
 pub fn growth_laws()

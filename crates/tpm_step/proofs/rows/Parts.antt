@@ -1,5 +1,5 @@
--- The part of the state that a success changes determines how many slots the success takes, and
--- what it does to sessions.
+-- The part of the state that a success changes determines how many further slots the success fills,
+-- and what it does to sessions.
 use Rattle.std.specs.Prelude.{is_some}
 use Rattle.std.proofs.Common.{◌∙◌, ◌≡◌, ◌≤◌, Bool, List, Option, ap, arith, false, inl, inr, length}
 use Rattle.std.proofs.Common.{true}

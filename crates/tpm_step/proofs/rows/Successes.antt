@@ -17,7 +17,7 @@ use Rattle.tpm_step.proofs.Binding.{ok_bind}
 use Rattle.tpm_step.proofs.rows.Parts.{keeps_places, leaves_sessions, sessions_same}
 use Rattle.tpm_step.proofs.rows.Parts.{touched_grows, touched_same}
 
--- A success that takes no more slots than before grows as the command's shape says.
+-- If a success fills no further slot, it does what the command's shape says about growth.
 abbrev pub GrowsNothing : CommandCode → Type 0
 GrowsNothing c = (old new : Record) → Grows false old new → GrowsAsShaped c old new
 
@@ -42,8 +42,8 @@ beside_sessions c r q s leaves touches grows changes answers draws = record {
     same : s.after.sessions ≡ r.sessions
     same = touched_same (part_of c) r s.after leaves touches
 
--- A success that takes no more slots satisfies the laws about rows, if its changes, its answer and
--- its draws are as defined for its command.
+-- A success that fills no further slot satisfies the laws about rows, if its changes, its answer
+-- and its draws are as defined for its command.
 pub in_place : (c : CommandCode) (r : Record) (q : Request) (s : Success)
     → leaves_sessions (part_of c) ≡ true → keeps_places (part_of c) ≡ true → GrowsNothing c
     → Touches (part_of c) r s.after → ChangesIndices (part_of c) q r.nv s.after.nv
@@ -61,5 +61,5 @@ pub drawn_as_read : {P : Type 0} (count : P → ℕ) (x : Result P Refused) (p :
     → x ≡ Ok p → count p ≡ read_or_none count x
 drawn_as_read count x p is = sym (ap (read_or_none count) is)
 
--- the rules for the rows of commands that take no more slots
+-- the rules for the rows of commands that fill no further slot
 pub ruleset in_place_steps = (rules, ok_bind, in_place, none_drawn)

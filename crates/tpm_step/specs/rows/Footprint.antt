@@ -21,7 +21,7 @@ KeepsSecrets old new = (h : HierarchyHandle) → secrets_of new h ≡ secrets_of
 
 -- the fixed part f after a startup. The fields that a startup sets are taken from the second
 -- argument: whether the device is started, the counts, platformAuth and the null hierarchy, whether
--- lockoutAuth is disabled, and the PCRs. No PCR update is counted yet
+-- lockoutAuth is disabled, and the PCRs. The number of PCR updates is 0
 abbrev pub begun : Fixed → Fixed → Fixed
 begun f after = record f {
   started = after.started;

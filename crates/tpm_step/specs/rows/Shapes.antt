@@ -46,13 +46,13 @@ abbrev pub taken_in : Record → ℕ
 taken_in r =
     taken_count r.sessions + taken_count r.objects + length r.persistent + length r.nv.indices
 
--- If the command grows something, it takes one more slot. Otherwise, no more slots are taken than
+-- If the command grows something, it fills one more slot. Otherwise, no more slots are filled than
 -- before.
 abbrev pub Grows : Bool → Record → Record → Type 0
 Grows true old new = taken_in new ≡ taken_in old + 1
 Grows false old new = taken_in new ≤ taken_in old
 
--- A success of TPM2_EvictControl takes or frees one slot. A success of any other command takes one
+-- A success of TPM2_EvictControl fills or frees one slot. A success of any other command fills one
 -- more slot if and only if its shape says that it grows.
 abbrev pub GrowsAsShaped : CommandCode → Record → Record → Type 0
 GrowsAsShaped command.EvictControl old new = Grows true old new ⊎ Grows true new old
