@@ -46,8 +46,8 @@ kind_passes r n e kind.Other = Err (entry_fault n code.Value)
 kind_passes r n e kind.Session = refused_if (is_none (session_of r e)) (reference_of n)
 kind_passes r n e kind.Password = Ok tt
 
--- whether entry n names a session that an earlier entry names, or is a password that authorizes
--- nothing
+-- whether entry n names a session that an earlier entry names, or is a password entry without a
+-- handle to authorize
 abbrev pub is_misplaced : CommandCode → ℕ → List Entry → Entry → Bool
 is_misplaced c n before e =
     if is_password e then nat_lt (authorized_handles c) n

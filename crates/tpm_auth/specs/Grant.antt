@@ -47,8 +47,9 @@ is_unavailable r c n used =
 abbrev pub used_protection : Record → Option Handle → Protection
 used_protection r used = option_map_or (protection_of r) used protection.None
 
--- the grant of entry n, a password. Its entity must allow authorization with its authorization
--- value, and must not be locked out. The password must be right
+-- the grant of entry n, if it is a password. The entity that the entry has to authorize must allow
+-- authorization with its authorization value, and must not be locked out. The password must be
+-- right
 unfoldable pub password_grant : Record
     → CommandCode → (n : ℕ) → Option Handle → Entry → Result (Option Grant) Refused
 password_grant state command number used entry = do

@@ -147,8 +147,8 @@ entry_protection r s (Some grant) =
     then or_protection (protection_of r grant.handle) (binding_protection s)
     else binding_protection s
 
--- the use that an entry of a policy session has to authorize, as the policy checks it. `number` is
--- the number of the entry
+-- the parts of a use that a policy checks. The entry with this number, which names a policy
+-- session, has to authorize the use
 unfoldable pub use_of : Record → Whole → (locality n : ℕ) → Handle → Session → UseParts
 use_of state command locality number handle session = record {
   entry = number;

@@ -28,8 +28,8 @@ pub trait Saver {
     /// How a saver changes when it saves a device with this record, including its clock.
     ghost saves: { Self → Record → Self → Type 0 };
 
-    /// How a saver changes when it saves a device with this record. If only the clock changed, it
-    /// need not save.
+    /// How a saver changes when it saves a device with this record. If only the clock changed, the
+    /// saver need not save.
     ghost saves_change: { Self → Record → Self → Type 0 };
 
     /// Whether a save has failed. Once true, this stays true.

@@ -94,7 +94,7 @@ abbrev is_failure : Refused → Bool
 is_failure e = is_try e.counted || is_auth_fail e.rc.code
 
 -- The refusal is that of entry n, which has to authorize the handle `used`, if any. The password or
--- the HMAC is wrong, and the entity whose authorization value the entry is checked with is not
+-- the HMAC is wrong, and the entity whose authorization value is used to check the entry is not
 -- locked out.
 record FailsAt (r : Record) (c : Whole) (locality n : ℕ) (used : Option Handle) (entry : Entry) (e : Refused) : Type 0 where
   unlocked : is_locked_out r.fixed.lockout (touched r c locality n used entry) ≡ false

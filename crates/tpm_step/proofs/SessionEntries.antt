@@ -1,5 +1,5 @@
--- After a row, the step changes sessions in the same way as the history: it draws new nonces,
--- resets policies and ends sessions.
+-- After a row, the step changes the sessions of a device in the same way as those of the history:
+-- it draws new nonces, resets policies and ends sessions.
 use Rattle.std.proofs.Common.{◌≡◌, ℕ, Bool, true, false, cond, List, [], ◌∷◌, length, take, drop, Option, Some, None, refl, ap, sym, subst, ◌∙◌}
 use Rattle.std.specs.Prelude.{not, is_some}
 use Rattle.std.specs.List.{zip}

@@ -94,8 +94,8 @@ unfoldable pub entry_restarted : Record → Entry → Record
 entry_restarted r e =
     option_map_or (λ (s : Session). restarted_by s.kind r e s.hash) (session_of r e) r
 
--- the record after an entry: without continueSession (bit 0) its session ends; otherwise, if the
--- entry authorized a handle, the session's policy is reset
+-- the record after an entry. Without continueSession (bit 0), the entry's session ends; otherwise,
+-- if the entry authorized a handle, the session's policy is reset
 unfoldable pub entry_ended : Record → Entry → Option Grant → Record
 entry_ended r e grant =
     if not (continues_session e.attributes) then record r { sessions = flushed r.sessions e.session }

@@ -36,7 +36,8 @@ abbrev pub in_command : {X : Type 0} → CommandCode → Result X Refused → Re
 in_command c (Ok x) = Ok x
 in_command c (Err e) = Err (record { code = code_number c; refused = e })
 
--- the check, G1 to G4, that refuses a header with this fault. The reported row then has the code 0
+-- the check, G1 to G4, that refuses a header with this fault. The reported row then has the command
+-- code 0
 abbrev pub header_check : HeaderFault → Check
 header_check fault.Length = check.Length
 header_check fault.Tag = check.Tag

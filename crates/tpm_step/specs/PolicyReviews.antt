@@ -136,8 +136,8 @@ NeedsPcrsAndPin history c =
 
 -- ---- policies of a PIN or a recovery secret
 
--- the written policy that requires the entity's own authorization value, or that of the entity with
--- this Name
+-- the written policy that requires either the entity's own authorization value or that of the
+-- entity with this Name
 abbrev pub by_pin_or_secret : (name reference : List ℕ) → PolicyExpression
 by_pin_or_secret name reference =
     PolicyOr (Branch (Then Nothing PolicyAuthValue)

@@ -66,24 +66,24 @@ fails_try r (Placed object) = false
 -- at its start. If a session may not authorize the entity, nothing is compared and nothing is
 -- touched.
 
--- the protection of the entity that a session's entry is checked with, if the entry has to
--- authorize this handle. The last argument is the policy's demand, or the refusal if the session
--- may not authorize the handle
+-- the protection of the entity whose authorization value is used to check a session's entry, if the
+-- entry has to authorize this handle. The last argument is the policy's demand, or the refusal if
+-- the session may not authorize the handle
 abbrev pub touched_where : Record → Session → Handle → Result Demand Refused → Protection
 touched_where r s handle (Ok demand) =
     entry_protection r s (Some (record { handle = handle; demand = demand }))
 touched_where r s handle (Err e) = protection.None
 
--- the protection of the entity that entry n is checked with, if the entry names this session. The
--- handle is the one that the entry has to authorize, if any
+-- the protection of the entity whose authorization value is used to check entry n, if the entry
+-- names this session. The handle is the one that the entry has to authorize, if any
 abbrev pub touched_of_session : Record → Whole → (locality n : ℕ) → Option Handle → Session
     → Protection
 touched_of_session r c locality n (Some handle) s =
     touched_where r s handle (demanded r c locality n handle s)
 touched_of_session r c locality n None s = entry_protection r s None
 
--- the protection of the entity whose authorization value an entry is checked with; a password is
--- checked with the value of the entity that it has to authorize
+-- the protection of the entity whose authorization value is used to check an entry; for a password,
+-- this is the entity that the password has to authorize
 abbrev pub touched_by : SessionKind → Record → Whole → (locality n : ℕ) → Option Handle → Entry
     → Protection
 touched_by kind.Password r c locality n used e = used_protection r used

@@ -142,7 +142,7 @@ pub fn live_session_laws()
 
 /// An entity that exists has the authorization value that the history determines for its handle.
 /// The value is empty for PCRs, for TPM_RH_NULL, and for every other handle that is not of a
-/// hierarchy, lockout, an NV index or an object. No authorization value ends in a zero.
+/// hierarchy, lockout, an NV index or an object. No authorization value ends in a zero byte.
 #[inline(always)]
 #[tactic(auto, using(crate::proofs::DeviceAuthValues::present_auth_value, crate::proofs::TrimmedValues::told_values_are_trimmed))]
 pub fn auth_value_laws()

@@ -49,7 +49,7 @@ ghost use Rattle.tpm_step.specs.rows.Sizes.{AreSized};
 
 use crate::event::Outcome;
 
-/// A success changes only the part of the state that its command's part (`part_of`) allows.
+/// A success changes only its command's part of the state (`part_of`).
 #[inline(always)]
 #[tactic(auto, using(crate::proofs::rows::Table::row_touches))]
 pub fn footprint_laws()

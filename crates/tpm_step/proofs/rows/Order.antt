@@ -90,7 +90,7 @@ spelled_faults n (kind ∷ kinds) text = err_bind _ (parameter n (behind_kind ki
 
 -- ---- steps that read a handle
 
--- authHandle, nvIndex and the index's attributes, as a row reads them
+-- how a row reads authHandle, nvIndex and the index's attributes
 abbrev target_at : Record → List Handle → Result Target Refused
 target_at r handles = do
   auth_handle ← first_handle handles

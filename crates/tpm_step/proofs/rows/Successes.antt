@@ -17,7 +17,8 @@ use Rattle.tpm_step.proofs.Binding.{ok_bind}
 use Rattle.tpm_step.proofs.rows.Parts.{keeps_places, leaves_sessions, sessions_same}
 use Rattle.tpm_step.proofs.rows.Parts.{touched_grows, touched_same}
 
--- If a success fills no further slot, it does what the command's shape says about growth.
+-- The command does not grow: if a success fills no further slot, this is what the command's shape
+-- requires.
 abbrev pub GrowsNothing : CommandCode → Type 0
 GrowsNothing c = (old new : Record) → Grows false old new → GrowsAsShaped c old new
 

@@ -18,7 +18,7 @@ IsLate Fit (check.Action own) = Unit {0}
 IsLate Fit check.Handles = Fit → ⊥
 IsLate Fit _ = ⊥
 
--- If the row refuses, the check that refused is a late one.
+-- If the row refuses, the failed check is a late one (`IsLate`).
 abbrev pub Late : {X : Type 0} → Type 0 → Result X Refused → Type 0
 Late Fit row = IfErr row (λ e. IsLate Fit e.check)
 
