@@ -28,31 +28,31 @@ AuthValues = Handle → List ℕ
 
 -- ---- the value that a command sets, and its handle
 
--- TPM2_HierarchyChangeAuth and TPM2_NV_ChangeAuth set the authorization value of the handle that
--- they name to newAuth, without trailing zeros.
+-- newAuth, without trailing zeros, becomes the authorization value of the handle that
+-- TPM2_HierarchyChangeAuth or TPM2_NV_ChangeAuth names.
 abbrev pub changed_value : Request → Result (Handle × List ℕ) Refused
 changed_value q = do
   handle ← first_handle q.handles
   value ← only (auth_value_at q.parameters)
   Ok (handle, value)
 
--- TPM2_NV_DefineSpace sets the authorization value of the index that it defines to auth, without
--- trailing zeros.
+-- auth, without trailing zeros, becomes the authorization value of the index that
+-- TPM2_NV_DefineSpace defines.
 abbrev pub defined_value : Request → Result (Handle × List ℕ) Refused
 defined_value q = do
   p ← definition.parameters_in q.parameters
   Ok (p.public.nv_index, p.auth_value)
 
--- TPM2_CreatePrimary sets the authorization value of the handle that it returns to userAuth,
--- without trailing zeros.
+-- userAuth, without trailing zeros, becomes the authorization value of the handle that
+-- TPM2_CreatePrimary returns.
 abbrev pub created_value : Request → (made : Option Handle) → Result (Handle × List ℕ) Refused
 created_value q made = do
   handle ← ok_or made handle_refusal
   p ← creation.parameters_in q.parameters
   Ok (handle, trimmed p.given.user_auth)
 
--- TPM2_Load sets the authorization value of the handle that it returns to the value in the
--- sensitive area, without trailing zeros.
+-- The authorization value in the sensitive area, without trailing zeros, becomes that of the handle
+-- that TPM2_Load returns.
 abbrev pub loaded_value : Option Sensitive → (made : Option Handle)
     → Result (Handle × List ℕ) Refused
 loaded_value area made = do

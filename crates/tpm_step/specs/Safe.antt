@@ -20,8 +20,9 @@ only_ticked r Cycled = r
 only_ticked r (Placed object) = r
 
 -- A refused command gets a response of ten bytes with the refusal's code, and the row reports the
--- check. The only changes in the record are the elapsed time and, if the refusal counts as a failed
--- try, the lockout state. Which command the row names is unspecified here.
+-- check. The elapsed time is added to the record. Nothing else changes, except the lockout state if
+-- the refusal counts as a failed try or disables lockoutAuth. Which command the row names is
+-- unspecified here.
 abbrev pub IsHarmless : Record → PlainEvent → Stepped → Type 0
 IsHarmless r event x = x.row.check ≢ 0
     → (length x.response ≡ 10)
