@@ -40,8 +40,8 @@ use Rattle.tpm_step.proofs.rows.Readings.{read_one, trimmed_read}
 
 -- ---- consequences of the order
 
--- a row that refuses in order (`InOrder`) refuses parameters if and only if they are not of their
--- kinds
+-- a row that refuses in order (`InOrder`) does not refuse parameters of its kinds, and refuses
+-- others with their first fault, unless it refuses a handle first
 pub in_order_reads : {X : Type 0} (Fit : Type 0) (s : Result (Unit {0}) Refused)
     (row : Result X Refused) → InOrder Fit s row → ReadsParameters s row
 in_order_reads Fit (Ok u) (Ok x) order = tt
