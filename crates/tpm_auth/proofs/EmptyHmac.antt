@@ -39,7 +39,8 @@ mac_some s value parts is =
     let some = digest_some s.hash in
     absurd (omega (arith, size, none, some))
 
--- If an entry with an empty HMAC passes the test, its key is empty.
+-- If the HMAC of an entry is accepted, and the entry's HMAC is empty but the computed one is not,
+-- then the HMAC key is empty.
 by_test : (key hmac mac : List ℕ) → (length key == 0 && length hmac == 0 || bytes_eq hmac mac) ≡ true → hmac ≡ [] → (mac ≡ [] → ⊥) → key ≡ []
 by_test [] hmac mac is empty some = refl
 by_test (byte ∷ key) hmac mac is empty some =
@@ -58,7 +59,7 @@ authentic r c n grant e s is empty =
 abbrev HasNoKey : Record → Session → Option Grant → Type 0
 HasNoKey r s accepted = (entry_key s (used_auth_value r s accepted) ≡ []) ⊎ ((demands_password accepted ≡ true) × (trimmed (granted_value r accepted) ≡ []))
 
--- An empty password is right only for an empty authorization value.
+-- An empty password matches only an empty authorization value.
 no_value : (value password : List ℕ) → is_password_of value password ≡ true → password ≡ [] → trimmed value ≡ []
 unfolding trimmed
 no_value value password is empty = sym ((bytes_eq-Decides (trimmed password) (trimmed value)).0 is) ∙ ap trimmed empty

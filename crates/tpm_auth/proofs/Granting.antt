@@ -20,13 +20,13 @@ use Rattle.tpm_auth.specs.Grant.{authorize, authorized, grant, grants_pass}
 use Rattle.tpm_auth.specs.Granting.{IsGranted, IsGranting}
 use Rattle.tpm_auth.specs.declared.session_grant.Grant.{Grant}
 
--- If a property holds for each success of the second step, whatever the first step returned, it
--- holds for each success of both steps together.
+-- If each success of the second step has a property, for every result of the first step, then each
+-- success of both steps in sequence has it.
 ok_bind_is : {A B E : Type 0} (Q : B → Type 0) (x : Result A E) (f : A → Result B E) → ((a : A) → x ≡ Ok a → IfOk (f a) Q) → IfOk (x >>= f) Q
 ok_bind_is Q (Ok a) f h = h a refl
 ok_bind_is Q (Err e) f h = tt
 
--- Turning a fault into a refusal does not change a success.
+-- `checked` turns faults into refusals and does not change a success.
 checked_ok : {X : Type 0} (check : Check) (x : Result X Rc) (y : X) → checked check x ≡ Ok y → x ≡ Ok y
 checked_ok check (Ok x) y is = cc
 checked_ok check (Err rc) y is = absurd cc
@@ -34,7 +34,7 @@ checked_ok check (Err rc) y is = absurd cc
 -- ---- checking the entries in order
 
 module _ (r : Record) (c : Whole) (locality : ℕ) where
-  -- The list `given` contains the grants of the entries `es`, the first of which is at the position
+  -- The list `given` contains the grants of the entries `es`. The position of the first of them is
   -- `first`.
   record AreOf (first : ℕ) (es : List Entry) (given : List (Option Grant)) : Type 0 where
     as_many : length given ≡ length es

@@ -36,7 +36,7 @@ found_in r (y ∷ ys) (h ∷ hs) zero x are is =
     (ap Some (sym handle), ap (λ (f : Found). f.entity) here ∙ ap (entity_at r) (sym handle))
 found_in r (y ∷ ys) (h ∷ hs) (suc place) x are is = found_in r ys hs place x (first_found r y ys h hs are).1 is
 
--- If both lists are cut to prefixes of the same length, the entities are those of the handles.
+-- The first n entities found are those of the first n handles.
 taken_found : (r : Record) (n : ℕ) (resolved : List Resolved) (handles : List Handle) → AreFound r resolved handles → AreFound r (take n resolved) (take n handles)
 taken_found r zero [] [] are = refl
 taken_found r (suc n) [] [] are = refl
@@ -49,7 +49,8 @@ taken_found r (suc n) (x ∷ xs) (h ∷ hs) are =
     let here = both.0 in
     ap (λ f. f ∷ map found_by (take n xs)) here ∙ ap (λ l. found_at r h ∷ l) others
 
--- The entry at a position within the first handles has to authorize the handle at that position.
+-- If an entity was found at a position among the first n handles, it is the entity of the handle at
+-- that position.
 pub used_in : (r : Record) (handles : List Handle) (resolved : List Resolved) (n place : ℕ) (used : Resolved) → AreFound r resolved handles → slice_get (take n resolved) place ≡ Some used → IsUsedFor r (slice_get (take n handles) place) (Some used)
 used_in r handles resolved n place used are is =
     let both = found_in r (take n resolved) (take n handles) place used (taken_found r n resolved handles are) is in (both.0, record { found = both.1 })
@@ -83,8 +84,7 @@ head_of_map f [] n x y at is = absurd cc
 head_of_map f (z ∷ zs) zero x y at is = absurd cc
 head_of_map f (z ∷ zs) (suc n) x y at is = cc
 
--- If the handle at the next position is the first handle again, the first Name is the Name of the
--- handle there.
+-- If the handle at the next position equals the first handle, its Name is the first Name.
 pub next_again : (r : Record) (resolved : List Resolved) (handles : List Handle) (names : List (List ℕ)) (place : ℕ) (first x : Resolved) (name : List ℕ) → AreFound r resolved handles → names ≡ map (name_of r) (take (length names) handles) → slice_get resolved 0 ≡ Some first → slice_get resolved place ≡ Some x → slice_get names 0 ≡ Some name → first.handle.number ≡ x.handle.number → Some name ≡ option_map (name_of r) (slice_get handles place)
 next_again r resolved handles names place first x name are names_are at_first at_x at_name same =
     let one = found_in r resolved handles 0 first are at_first in
@@ -93,7 +93,7 @@ next_again r resolved handles names place first x name are names_are at_first at
     let again : name ≡ name_of r x.handle = named ∙ ap (name_of r) (same_handle first.handle x.handle same) in
     sym (ap (option_map (name_of r)) other.0 ∙ ap Some (sym again))
 
--- A prefix of a mapped list, with the next mapped element added, is the prefix that is longer by
+-- A prefix of a mapped list, followed by the next mapped element, is the prefix that is longer by
 -- one.
 one_more : {X Y : Type 0} (f : X → Y) (xs : List X) (n m : ℕ) (y : Y) → m ≡ suc n → Some y ≡ option_map f (slice_get xs n) → map f (take n xs) ++ y ∷ [] ≡ map f (take m xs)
 one_more f [] n m y next is = absurd cc

@@ -43,8 +43,8 @@ is_locked_out lockout protection.None = false
 is_locked_out lockout protection.Tries = is_locked lockout.fields
 is_locked_out lockout protection.Lockout = lockout.fields.closed
 
--- the check that an entity is not locked out (TPM_RC_LOCKOUT); if it is, nothing is compared, and
--- no failed try is counted
+-- the check that an entity is not locked out. If it is locked out, the result is TPM_RC_LOCKOUT:
+-- nothing is compared, and failedTries is not incremented
 abbrev pub may_be_tried : LockoutState → Option Grant → Protection → Result (Unit {0}) Refused
 may_be_tried lockout grant protection =
     refused_if (is_locked_out lockout protection) (refusal (check_of grant) (plain code.Lockout))

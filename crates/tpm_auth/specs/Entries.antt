@@ -40,22 +40,22 @@ reference_of n =
     plain (if n == 1 then code.ReferenceS0
     else (if n == 2 then code.ReferenceS1 else code.ReferenceS2))
 
--- the check that the session named by an entry's handle exists; a password always passes
+-- the check that the session named by an entry's handle exists; a password entry always passes
 abbrev pub kind_passes : Record → ℕ → Entry → SessionKind → Result (Unit {0}) Rc
 kind_passes r n e kind.Other = Err (entry_fault n code.Value)
 kind_passes r n e kind.Session = refused_if (is_none (session_of r e)) (reference_of n)
 kind_passes r n e kind.Password = Ok tt
 
--- whether entry n names a session that an earlier entry names, or is a password that authorizes
--- nothing
+-- whether entry n names a session that an earlier entry names, or is a password entry without a
+-- handle to authorize
 abbrev pub is_misplaced : CommandCode → ℕ → List Entry → Entry → Bool
 is_misplaced c n before e =
     if is_password e then nat_lt (authorized_handles c) n
     else list_any (λ earlier. earlier.session.number == e.session.number) before
 
--- whether an entry requests an audit session, which is not supported; or decrypt or encrypt with a
--- password; or decrypt or encrypt although an earlier entry requests the same, or although the
--- first parameter of the command or of its response is not a sized buffer
+-- whether an entry has a wrong attribute: audit, which is not supported; or decrypt or encrypt in a
+-- password entry, in an entry after another one with the same attribute, or if the first parameter
+-- of the command (decrypt) or of its response (encrypt) is not a sized buffer
 abbrev pub has_wrong_attributes : CommandCode → List Entry → Entry → Bool
 has_wrong_attributes c before e =
     audits e.attributes

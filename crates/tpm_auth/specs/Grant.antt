@@ -32,12 +32,12 @@ use Rattle.tpm_auth.specs.declared.grant.Grants.{Grants}
 use Rattle.tpm_types.specs.declared.refused.Refused.{Refused}
 use Rattle.tpm_auth.specs.declared.session_grant.Grant.{Grant}
 
--- the grant of a handle, without a demand of a policy
+-- the grant for a handle if no policy demands anything
 abbrev pub undemanding : Handle → Grant
 undemanding handle = record { handle = handle; demand = demand.None }
 
--- whether the handle that entry n has to authorize cannot be authorized with its authorization
--- value
+-- whether entry n has to authorize a handle whose entity does not allow authorization with its
+-- authorization value
 abbrev pub is_unavailable : Record → CommandCode → (n : ℕ) → Option Handle → Bool
 is_unavailable r c n used =
     option_map_or (λ handle. not (is_available r handle means.AuthValue (nv_use_at c (n - 1))))
@@ -47,8 +47,9 @@ is_unavailable r c n used =
 abbrev pub used_protection : Record → Option Handle → Protection
 used_protection r used = option_map_or (protection_of r) used protection.None
 
--- the grant of entry n, a password. Its entity must allow authorization with its authorization
--- value, and must not be locked out. The password must be right
+-- the grant of entry n, if it is a password. The entity that the entry has to authorize must allow
+-- authorization with its authorization value, and must not be locked out. The password must be
+-- right
 unfoldable pub password_grant : Record
     → CommandCode → (n : ℕ) → Option Handle → Entry → Result (Option Grant) Refused
 password_grant state command number used entry = do
@@ -83,7 +84,7 @@ unfoldable pub grant : Record
 grant state command locality number used entry =
     grant_by (session_kind entry.session) state command locality number used entry
 
--- the handles of a command that need authorization, which are the first ones
+-- the handles of a command that need authorization. They come before its other handles
 abbrev pub authorized : Whole → List Handle
 authorized c = take (authorized_handles c.code) c.handles
 
@@ -98,10 +99,10 @@ grants_pass state command locality before (entry ∷ entries) = do
       (slice_get (authorized command) (length before)) entry
   grants_pass state command locality (before ++ this ∷ []) entries
 
--- the whole authorization of a command, after the check of the area's size. G8: each entry's own
--- checks, then whether there is an entry for each handle that needs authorization. G9: each of
--- these handles. G10: the other entries, and whether the parameter that a session decrypts is
--- complete. The result is what each entry authorizes
+-- the authorization of a whole command, after the check of the area's size. It returns what each
+-- entry authorizes. G8 checks each entry on its own, and then whether there is an entry for each
+-- handle that needs authorization. G9 checks the entries of these handles. G10 checks the other
+-- entries, and whether the parameter that a session decrypts is complete
 unfoldable pub authorize : Record → Whole → (locality : ℕ) → Result (List (Option Grant)) Refused
 authorize r c locality = do
   own ← checked check.Entries (entries_pass r c.code [] c.entries)

@@ -137,9 +137,9 @@ or_protection protection.None other = other
 or_protection protection.Tries other = protection.Tries
 or_protection protection.Lockout other = protection.Lockout
 
--- the dictionary-attack protection for a session's entry: that of the entity whose authorization
--- value is compared, in a key or as a password, if that entity is protected; otherwise that of the
--- entity to which the session was bound
+-- the dictionary-attack protection that applies to a session's entry. If the entry uses the
+-- authorization value of a protected entity, in the HMAC key or as a password, it is the protection
+-- of that entity. Otherwise, it is that of the entity to which the session was bound
 unfoldable pub entry_protection : Record → Session → Option Grant → Protection
 entry_protection r s None = binding_protection s
 entry_protection r s (Some grant) =
@@ -147,7 +147,8 @@ entry_protection r s (Some grant) =
     then or_protection (protection_of r grant.handle) (binding_protection s)
     else binding_protection s
 
--- the use of a handle that entry n, of a policy session, has to authorize
+-- the parts of a use that a policy checks. The entry with this number, which names a policy
+-- session, has to authorize the use
 unfoldable pub use_of : Record → Whole → (locality n : ℕ) → Handle → Session → UseParts
 use_of state command locality number handle session = record {
   entry = number;
@@ -202,9 +203,9 @@ comparison state command number grant entry session = do
       (failure (check_of grant) number (entry_protection state session grant))
   Ok grant
 
--- the grant of entry n, whose handle names a session. The entry has to authorize the given handle,
--- or none. A trial session may be used in an entry that has no handle to authorize, for example to
--- encrypt a parameter (this device's own choice)
+-- the grant of entry n, whose handle names a session. If the entry has a handle to authorize, the
+-- session must be able to authorize it. If not, even a trial session may be used, for example to
+-- encrypt a parameter (the specification leaves this open; this device allows it)
 unfoldable pub session_grant : Record
     → Whole → (locality n : ℕ) → Option Handle → Entry → Session → Result (Option Grant) Refused
 session_grant state command locality number None entry session =

@@ -1,5 +1,5 @@
-//! Checks the HMAC of a session's entry. Determines the authorization value in its key and the
-//! nonces in its text.
+//! Checks the HMAC of a session's entry. Determines the authorization value in the HMAC's key and
+//! the nonces in the HMAC's text.
 
 ghost use Rattle.std.specs.Prelude.{◌≡◌, ◌≤◌, length, map, option_map};
 ghost use Rattle.std.specs.Option.{ForSome};
@@ -44,7 +44,7 @@ fn is_bound_to<K: Keep>(
 }
 
 /// Whether the HMAC key of an entry includes the authorization value of the entity that the entry
-/// authorizes, if the session's policy has this demand.
+/// authorizes. `demand` is what the session's policy demands in the entry.
 #[tactic(auto, unfolding(crate::specs::SessionGrant::takes_value))]
 pub fn takes_value<K: Keep>(
     keep: &K,

@@ -37,7 +37,7 @@ pub struct Grants {
     pub grants: ArrayVec<Option<Grant>, 3>,
 }
 
-/// Checks the password in the entry with this number, for the entity of a handle.
+/// Checks whether the password in the entry with this number authorizes a handle.
 #[tactic(auto, unfolding(crate::specs::Grant::password_grant, tpm_record::specs::Entity::auth_value_of, tpm_record::specs::Entity::is_available, tpm_record::specs::Entity::protection_of))]
 fn check_value<K: Keep>(
     keep: &K,
@@ -71,8 +71,8 @@ fn check_value<K: Keep>(
     }
 }
 
-/// Checks the password in the entry with this number, for the handle that the entry has to
-/// authorize. If there is no such handle, the password must be empty.
+/// Checks the password in the entry with this number. It has to authorize the handle at the entry's
+/// position or, if there is no such handle, be empty.
 #[tactic(auto, unfolding(crate::specs::Grant::password_grant))]
 fn check_password<K: Keep>(
     keep: &K,
@@ -93,8 +93,8 @@ fn check_password<K: Keep>(
     }
 }
 
-/// Checks the entry with this number, for the handle that it has to authorize, if any. Returns what
-/// the entry authorizes.
+/// Checks the entry with this number against the handle that it has to authorize, if any. Returns
+/// what the entry authorizes.
 #[tactic(auto, unfolding(crate::specs::Grant::grant))]
 fn check_grant<K: Keep>(
     keep: &K,
@@ -178,8 +178,8 @@ fn resolved_at<'a>(resolved: &[Resolved<'a>], place: usize) -> Resolved<'a>
     resolved[place]
 }
 
-/// The Name of the next handle, if `names` contains the Names of the handles before it. A handle
-/// that equals the first one gets a copy of the first Name.
+/// The Name of the next handle. `names` contains the Names of the handles before it. If the handle
+/// equals the first one, the first Name is copied.
 fn next_name<K: Keep>(keep: &K, sent: &Sent, names: &[Name], latest: &mut LatestName) -> Name
     requires resolved { IsResolved (K.record_of keep.now) sent.now }
     requires named { names.now ≡ map (name_of (K.record_of keep.now))

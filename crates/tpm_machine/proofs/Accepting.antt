@@ -80,7 +80,7 @@ accepted_draws random c grants (Ok a) answer effect n is (same, granted, written
     ∙ ap (λ (x : Record). bytes_drawn random x c.entries a.success.answer.drawn) left
     ∙ ap (λ (x : Whole). bytes_drawn random a.success.after x.entries a.success.answer.drawn) (sym same)
 
--- the rules for an authorized command
+-- the rules with which the execution of an authorized command is proved
 pub ruleset acting = (accepted_answers, accepted_modest, accepted_draws, refused_answers)
 
 -- a command that is refused, or that runs out of memory, draws no random bytes
@@ -89,7 +89,7 @@ refused_so can random c (Err refused) e is = refl
 refused_so can random c (Ok a) e (may, same, grows, is) =
     ap (λ (f : Refused). drawn_by_command random (in_command c.code (Ok a)) (check_number f.check)) (sym is)
 
--- if the row reports the check of the refusal, the command draws no random bytes
+-- if the row reports the check that failed, the command draws no random bytes
 pub refused_draws : (can : Bool) (random : List ℕ) (c : Whole) (a : Result Accepted Refused) (e : Refused) (check : ℕ) → check ≡ check_number e.check → RefusesOrWantsMemory can c a e → 0 ≡ drawn_by_command random (in_command c.code a) check
 refused_draws can random c a e check reported is =
     subst (λ (n : ℕ). 0 ≡ drawn_by_command random (in_command c.code a) n) (sym reported) (refused_so can random c a e is)
@@ -99,8 +99,8 @@ pub not_authorized : (can : Bool) (r : Record) (c : Whole) (locality : ℕ) (ran
 unfolding acceptance
 not_authorized can r c locality random e refused = rw (refused) refl
 
--- if a decoded command is refused or runs out of memory, the refusal is the answer that `Answers`
--- requires
+-- if a decoded command is refused or runs out of memory, the step of that refusal satisfies
+-- `Answers`
 pub command_refused : (can : Bool) (r : Record) (buffer : List ℕ) (locality : ℕ) (random : List ℕ) (c : Whole) (e : Refused) (x : Stepped) → general r buffer ≡ Ok c → RefusesOrWantsMemory can c (acceptance r c locality random) e → x ≡ refusal_step r (record { code = code_number c.code; refused = e }) → Answers can r random (accepted r buffer locality random) x
 unfolding accepted
 command_refused can r buffer locality random c e x decoded is seen =
@@ -112,7 +112,7 @@ unfolding accepted
 unauthorized_draws can r buffer locality random c e check reported decoded is =
     rw decoded (refused_draws can random c (acceptance r c locality random) e check reported is)
 
--- if the row of an authorized command refuses or runs out of memory, the refusal is the answer that
--- `Answers` requires
+-- if the row of an authorized command refuses or runs out of memory, the step of that refusal
+-- satisfies `Answers`
 pub row_refused : (can : Bool) (r : Record) (random : List ℕ) (c : Whole) (a : Result Accepted Refused) (e : Refused) (x : Stepped) → RefusesOrWantsMemory can c a e → x ≡ refusal_step r (record { code = code_number c.code; refused = e }) → Answers can r random (in_command c.code a) x
 row_refused can r random c a e x is seen = rw seen (refused_answers can r random c a e is)

@@ -54,7 +54,7 @@ answered_with c grants a effect random mid after entries granted draws left para
     spelled
     (rw (← paired) ended)
 
--- the number of random bytes that remain after those of the row and of the new nonces
+-- the number of random bytes that are left after the row and the new nonces have drawn theirs
 left_behind : (r mid : Record) (entries sent : List Entry) (draws left random : List ℕ) (drawn : ℕ)
     → entries ≡ sent → draws ≡ drop drawn random → entries_rolled r entries draws ≡ record { after = mid; left = left } → length left ≡ length (entries_rolled r sent (drop drawn random)).left
 left_behind r mid entries sent draws left random drawn same behind rolled =

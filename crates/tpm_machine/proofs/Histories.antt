@@ -14,7 +14,8 @@ use Rattle.tpm_step.proofs.Following.{execution_follows, manufactured_follows, r
 pub new_follows : (r : Record) (random : List ℕ) → r ≡ manufactured random → Follows r []
 new_follows r random is = subst (λ (x : Record). Follows x []) (sym is) (manufactured_follows random)
 
--- An execution on a device that follows a history leads to a device that follows it on.
+-- If a device follows a history, then after an event it follows the same history, to which the
+-- event is added if it was accepted.
 pub follows_on : (can : Bool) (old : Record) (event : PlainEvent) (x : Stepped) → Executes can old event x → FollowsOn old event x
 follows_on can old event x executes =
     let next : After Follows old event x = λ history follows. execution_follows can old event x history executes follows in

@@ -1,4 +1,4 @@
--- The nonce that is drawn for an entry's session has the same size as the session's present nonce.
+-- The nonce that is drawn for an entry's session has the same size as the session's current nonce.
 use Rattle.std.proofs.Common.{◌≡◌, ◌≤◌, ℕ, List, Option, Some, None, length, take, arith}
 use Rattle.std.specs.Prelude.{IfSome}
 use Rattle.std.specs.Option.{option_map_or}

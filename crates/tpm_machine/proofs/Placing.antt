@@ -41,7 +41,8 @@ place_executes can old object (Err Full) new is record_is (adds, same) =
     (same ∙ ap (λ (objects : List (Option Object)). record old { objects = objects }) adds.1 ∙ placed_is old object None adds.0)
 place_executes can old object (Err NoMemory) new is record_is (adds, same) = tt
 
--- If `P` implies `Q`, and `P` holds unless an allocation failed, then so does `Q`.
+-- If `P` implies `Q`, and `P` holds unless an allocation failed, then `Q` holds unless an
+-- allocation failed.
 if_memory : (P Q : Type 0) (result : Result Handle SlotFault) → (P → Q) → IfMemory result P → IfMemory result Q
 if_memory P Q (Ok handle) so holds = so holds
 if_memory P Q (Err Full) so holds = so holds

@@ -1,4 +1,5 @@
--- The response to a refusal is its encoding. A refusal changes only the time and the lockout state.
+-- The response to a refusal encodes the refusal. A refusal changes only the time and the lockout
+-- state.
 use Rattle.std.proofs.Common.{◌≡◌, ◌≢◌, ℕ, List, length, Bool, true, false, cond, Result, Ok, Err, refl, ap, sym, ◌∙◌}
 use Rattle.std.proofs.lemmas.Bool.{false≢true}
 use Rattle.tpm_types_command.specs.Command.{Whole}
@@ -24,7 +25,7 @@ answer_leaves : (r : Record) (random : List ℕ) (a : Result Accepted RefusedCom
 answer_leaves r random (Ok a) refused = absurd (refused refl)
 answer_leaves r random (Err e) refused = (refl, e.refused, refl, refl, refl)
 
--- MEMORY instead of a success also satisfies `LeavesRecord`
+-- a response of MEMORY instead of a success also satisfies `LeavesRecord`
 success_without_memory_leaves : (grows : Bool) (r : Record) (random : List ℕ) (a : Accepted) → LeavesRecord r (cond grows (refusal_without_memory r a.command) (success_step a random))
 success_without_memory_leaves true r random a refused = (refl, memory_refusal, refl, refl, refl)
 success_without_memory_leaves false r random a refused = absurd (refused refl)

@@ -11,12 +11,12 @@ use Rattle.tpm_step.specs.Step.{Stepped, Steps, outcome_step, step}
 use Rattle.tpm_step.specs.declared.event.Event.{Event}
 use Rattle.tpm_step.specs.declared.event.Outcome.{Outcome}
 
--- if event i is executed, and the events after it run from the resulting state, then all events
--- from i on run
+-- if event i is executed, and the events after it are a run from the resulting state, then the
+-- events from i on are a run
 pub run_more : {F : Type 0} {g : Mut F (Bor Outcome × Unit {0}) (Unit {0})} (can : Bool) (old mid new : Record) {p next : F} (q : F) (events : List Event) (i : ℕ) (event : Event) (outcome : Outcome) → i < length events → event ≡ get_or events i event → Executes can old (plain_event event) (outcome_step mid outcome) → CalledAt g p outcome tt next → Runs g can mid next (map plain_event (drop (i + 1) events)) new q → Runs g can old p (map plain_event (drop i events)) new q
 run_more can old mid new q events i event outcome below is executed called rest = rw (drop_more events i event below, ← is) (outcome, _, _, executed, called, rest)
 
--- if no allocation can fail, the execution of an event equals its step
+-- if no allocation can fail, the execution of an event has exactly the outcome that `step` defines
 pub exactly : (can : Bool) (old : Record) (event : PlainEvent) (x : Stepped) → can ≡ false → Steps can old event x → x ≡ step old event
 exactly can old event x cannot (false, only, is) = is
 exactly can old event x cannot (true, only, is) = absurd (false≢true (sym cannot ∙ only refl))

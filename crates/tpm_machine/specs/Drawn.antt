@@ -13,8 +13,8 @@ abbrev pub bytes_drawn : List ℕ → Record → List Entry → (drawn : ℕ) �
 bytes_drawn random r entries drawn =
     length random - length (entries_rolled r entries (drop drawn random)).left
 
--- the number of random bytes that a command draws, if its row reports this check. A refusal draws
--- none, and neither does MEMORY instead of a success
+-- the number of random bytes that a command draws, given the check that its row reports. If a check
+-- failed, or if the response is MEMORY, the command draws none
 abbrev pub drawn_by_command : {E : Type 0} → List ℕ → Result Accepted E → (check : ℕ) → ℕ
 drawn_by_command random (Ok a) zero =
     bytes_drawn random a.success.after a.command.entries a.success.answer.drawn

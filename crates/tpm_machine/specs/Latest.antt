@@ -1,4 +1,4 @@
--- The latest execution of a machine, as the machine and the outcome determine it.
+-- The latest execution of a machine, reconstructed from the machine and the outcome.
 use Rattle.std.specs.Prelude.{◌≡◌, ℕ, Bool}
 use Rattle.tpm_record.specs.Record.{Record}
 use Rattle.tpm_step.specs.Events.{PlainEvent}

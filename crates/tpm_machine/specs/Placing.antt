@@ -14,7 +14,7 @@ abbrev pub placing_seen : Record → Stepped
 placing_seen r = record { response = []; row = record { code = 0; check = 0 }; after = r }
 
 -- On success, the object got the lowest free handle. On an error, all slots were taken, or an
--- allocation failed, and the record is unchanged. Allocations can fail only if the flag is true.
+-- allocation failed, and the record is unchanged. Allocations can fail only if `can` is true.
 abbrev pub Places : Bool → Record → Result Handle SlotFault → Record → Type 0
 Places can old (Ok handle) new = next_handle old.objects ≡ Some handle
 Places can old (Err Full) new = (next_handle old.objects ≡ None) × (new ≡ old)

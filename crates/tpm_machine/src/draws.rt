@@ -18,7 +18,7 @@ impl<'a> Model for Draws<'a> {
 }
 
 impl<'a> Draws<'a> {
-    /// Draws from these random bytes, none of which is used yet.
+    /// Starts with these random bytes, none of which is used yet.
     pub fn new(left: &'a [u8]) -> Draws<'a>
         ensures { result ≡ left.now }
     {
@@ -32,7 +32,7 @@ impl<'a> Draws<'a> {
         self.left.len()
     }
 
-    /// Draws a nonce, which consists of the first `size` of these bytes.
+    /// Draws a nonce, which consists of the first `size` unused bytes.
     pub fn nonce(&mut self, size: usize) -> Nonce
         requires small { size ≤ 32 }
         requires enough { size ≤ length self.old }

@@ -143,8 +143,8 @@ fn answer_entry<K: Keep>(
     }
 }
 
-/// Appends the answer to each entry, in order. `grants` says which handle each entry authorized, if
-/// any.
+/// Appends the answer to each entry of a command, in order. `grants` says which handle each entry
+/// authorized, if any.
 pub fn answer_entries<K: Keep>(
     keep: &K,
     hashes: &mut ParameterHashes,

@@ -98,9 +98,9 @@ impl<K: Keep> Machine<K> {
         &mut self.keep
     }
 
-    /// Returns how many of its random bytes the latest event drew, from the first one on: those for
-    /// the command itself and for new session nonces. A refused command or a power cycle draws
-    /// none.
+    /// Returns how many random bytes the latest event drew, for the command itself and for new
+    /// session nonces. An event draws its random bytes in order, starting with the first. A refused
+    /// command or a power cycle draws none.
     pub fn drawn(&self) -> usize
         ensures { result ≡ latest_drawn self.now }
     {
@@ -115,8 +115,8 @@ impl<K: Keep> Machine<K> {
             (plain_event event.now) (outcome_step (state_of K.record_of self.new) result) }
 
         // If the device followed a history, it now follows that history, extended by this event if
-        // it was accepted. `FollowsOn` says what the history then determines, and what it proves of
-        // each use and each replay.
+        // it was accepted. `FollowsOn` lists what the history then determines, and what holds for
+        // each replay and for each use of a handle in it.
         ensures follows { FollowsOn (state_of K.record_of self.old) (plain_event event.now)
             (outcome_step (state_of K.record_of self.new) result) }
     {
@@ -136,8 +136,8 @@ impl<K: Keep> Machine<K> {
             (plain_event event.now) outcome.new.row.check }
 
         // If the device followed a history, it now follows that history, extended by this event if
-        // it was accepted. `FollowsOn` says what the history then determines, and what it proves of
-        // each use and each replay.
+        // it was accepted. `FollowsOn` lists what the history then determines, and what holds for
+        // each replay and for each use of a handle in it.
         ensures follows { FollowsOn (state_of K.record_of self.old) (plain_event event.now)
             (outcome_step (state_of K.record_of self.new) outcome.new) }
     {

@@ -89,8 +89,9 @@ fn pass_by<K: Keep>(
     }
 }
 
-/// Decrypts the first parameter of a command, or encrypts that of its answer, with the session of
-/// the first entry that asks for it. `grants` says which handle each entry authorizes, if any.
+/// Decrypts the first parameter of a command, or encrypts the first parameter of its answer, with
+/// the session of the first entry that asks for it. `grants` says which handle each entry
+/// authorizes, if any.
 pub fn pass_parameters<K: Keep>(
     direction: Direction,
     keep: &K,

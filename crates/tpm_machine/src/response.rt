@@ -126,8 +126,8 @@ fn encrypt_answer<K: Keep>(
     pass_parameters(Direction::Encrypt, keep, entries, grants, text);
 }
 
-/// Writes the response to a successful command with entries, renews the nonces of their sessions,
-/// ends those that do not continue, and returns how many random bytes the command drew.
+/// Writes the response to a successful command with entries. Renews the nonces of the entries'
+/// sessions, and ends those that do not continue. Returns how many random bytes the command drew.
 #[inline(never)]
 fn write_with_sessions<K: Keep>(
     keep: &mut K,
@@ -166,7 +166,7 @@ fn write_with_sessions<K: Keep>(
     drawn
 }
 
-/// Writes the response to a successful command, and returns how many random bytes it drew.
+/// Writes the response to a successful command, and returns how many random bytes the command drew.
 #[tactic(auto, unfolding(tpm_step::specs::Answer::success_text, tpm_step::specs::Answer::answer_to))]
 pub fn write_success<K: Keep>(
     keep: &mut K,

@@ -25,11 +25,11 @@ pub struct Unsaved;
 /// Saves a device while it is used. Contracts describe each successful call as a relation between
 /// the saver before the call, the record of the device, and the saver after the call.
 pub trait Saver {
-    /// The saver before and after it received a device to save, including its clock.
+    /// How a saver changes when it saves a device with this record, including its clock.
     ghost saves: { Self → Record → Self → Type 0 };
 
-    /// The saver before and after it received a device to save, where a change of only the clock
-    /// may remain unsaved.
+    /// How a saver changes when it saves a device with this record. If only the clock changed, the
+    /// saver need not save.
     ghost saves_change: { Self → Record → Self → Type 0 };
 
     /// Whether a save has failed. Once true, this stays true.
@@ -54,7 +54,7 @@ pub trait Saver {
 /// successful call as a relation between the witness before the call, the execution, and the
 /// witness after the call.
 pub trait Witness {
-    /// The witness before and after it received an execution.
+    /// How a witness changes when it receives an execution.
     ghost notes: { Self → Execution → Self → Type 0 };
 
     /// Whether a note has failed. Once true, this stays true.
@@ -74,7 +74,7 @@ pub trait Witness {
         ensures stays { note_failed self.old ≡ true → note_failed self.new ≡ true };
 }
 
-/// A saver and witness that saves nothing, for a device that nobody needs any more.
+/// A saver and witness that saves nothing, for a device that is no longer needed afterwards.
 #[derive(Clone, Copy, PartialEq, Eq)]
 pub struct SavesNothing;
 

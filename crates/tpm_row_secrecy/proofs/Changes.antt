@@ -210,8 +210,8 @@ module _ (s : Secrecy) where
         alike_step success (refused_if (nat_lt i.public.data_size (offset + size)) read_fault.PastData) _ _ (λ inside.
         alike_end success _ _ refl)))
 
-    -- If the data of an index is not secret, a read of it returns the same bytes with and without
-    -- the device's secrets erased.
+    -- If the data of an index is not secret, a read returns the same bytes on a device and on the
+    -- device with its secrets erased.
     pub read_shown : (offset size : ℕ) → option_map_or (is_secret_index s) (index_at n handle) false ≡ false → read_at (bare_nv s n) handle offset size ≡ read_at n handle offset size
     unfolding read_at
     read_shown offset size shown = ap (λ (found : Option NvIndex). ok_or found read_fault.Undefined >>= reading offset size) (index_at_bare s n handle) ∙ by (index_at n handle) shown

@@ -97,8 +97,8 @@ module _ {X Y : Type 0} (f : X → Y) where
   free_each zero = refl
   free_each (suc n) = ap (λ (others : List (Option Y)). None ∷ others) (free_each n)
 
-  -- If the function preserves the kind of a value, looking up a number after the function was
-  -- applied gives the function's result for the value found before.
+  -- Suppose that a function preserves the kind of each value and is applied to all values. Looking
+  -- up a number afterwards finds the function's result for the value that was found before.
   module _ (kind : Y → ℕ) (was : X → ℕ) (kept : (x : X) → kind (f x) ≡ was x) where
     of_kind : (number : ℕ) (found : Option X) → option_and_then (if_of_kind kind number) (option_map f found) ≡ option_map f (option_and_then (if_of_kind was number) found)
     of_kind number None = refl

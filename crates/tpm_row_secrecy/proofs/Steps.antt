@@ -117,5 +117,5 @@ same_target_is s r q f g more =
     subst (λ (x : Result Target Refused). Same s (x >>= f) (target_of r q >>= g)) (sym (target_bare s r q))
     (alike_step_is (bare_success s) (target_of r q) f g (λ t is. more t (target_second r q t is)))
 
--- the steps that read no secret, and the end of a row that changes nothing
+-- the rules for steps that read no secret, and for the end of a row that changes nothing
 pub ruleset same_steps = (same_step, same_unchanged)

@@ -48,8 +48,8 @@ unless secret bytes = if secret then [] else bytes
 abbrev pub has_secret_data : Secrecy → Object → Bool
 has_secret_data s o = is_keyed_hash o.public && s.object_data o.public
 
--- an object with its secrets erased. These are the authorization value, and the sealed data or key
--- together with the seedValue, because `unique` is computed from both
+-- an object with its secrets erased. The secrets are the authorization value, and the sealed data
+-- or key together with the seedValue, because `unique` is computed from both
 abbrev pub bare_object : Secrecy → Object → Object
 bare_object s o = record o {
   auth_value = unless (s.object_values o.public) o.auth_value;
@@ -59,8 +59,8 @@ bare_object s o = record o {
 
 -- ---- NV indices
 
--- an index with its secrets erased; the map keeps its handle, and the largest value of any counter
--- is unchanged
+-- an index with its secrets erased; neither its handle nor the largest value of any counter is
+-- erased
 abbrev pub bare_index : Secrecy → NvIndex → NvIndex
 bare_index s i = record i {
   auth_value = unless (s.index_values i.public.nv_index.number) i.auth_value;

@@ -95,8 +95,8 @@ module _ (s : Secrecy) (covers : CoversKeys s) where
           let parts = neither (has_secret_key s x.binding) _ free in
           absurd (true≢false (sym (or_second (is_hmac_session x.kind || demands_value (Some g)) (uses_encryption e) asked) ∙ not_second _ _ parts.1 is))
 
-  -- Suppose that two devices differ only in secrets. A value that is computed from the session of
-  -- an entry that uses no secret is the same on both.
+  -- Suppose that two devices differ only in secrets. If an entry uses no secret, a value that is
+  -- computed from the entry's session is the same on both.
   of_session : {X : Type 0} (r : Record) (e : Entry) (g : Option Grant) (none : X) (f h : Session → X) → uses_secret s r e g ≡ false → ((x : Session) → session_uses s r x e g ≡ false → f x ≡ h x) → option_map_or f (session_of (without_secrets s r) e) none ≡ option_map_or h (session_of r e) none
   of_session {X} r e g none f h free same =
       ap (λ (found : Option Session). option_map_or f found none) (session_at_bare s r.sessions e.session) ∙ by (session_of r e) (λ x is. session_unused s r e g x free is)

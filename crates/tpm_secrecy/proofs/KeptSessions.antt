@@ -204,7 +204,7 @@ unfolding shape_of
 flush_forbids = refl
 
 -- If a command may have sessions, its success preserves all sessions, as `SessionsKeep` defines.
--- TPM2_FlushContext may have none.
+-- TPM2_FlushContext may not have sessions.
 pub sessions_keep : (c : CommandCode) (r : Record) (q : Request) → (shape_of c).forbids_sessions ≡ false → IfOk (row_of r c q) (RowKeeps r)
 sessions_keep command.FlushContext r q allows = absurd (false≢true (sym allows ∙ flush_forbids))
 sessions_keep command.StartAuthSession r q allows = started_row_keeps r q

@@ -73,7 +73,8 @@ use Rattle.tpm_types.specs.declared.handle.HierarchyHandle.TheVariants as hierar
 abbrev number_in : NvIndex → ℕ
 number_in i = i.public.nv_index.number
 
--- Each handle has an index exactly if it had one before, with the same number in its public area.
+-- Each handle has an index if and only if it had one before, with the same number in its public
+-- area.
 abbrev KeepsNumbers : NvContents → NvContents → Type 0
 KeepsNumbers old new = (h : Handle) → option_map number_in (index_at new h) ≡ option_map number_in (index_at old h)
 

@@ -110,7 +110,7 @@ is_guess s r c locality place e =
     guesses_by (session_kind e.session) s r c locality (place + 1)
     (slice_get (authorized c) place) e
 
--- Each entry of a command that is a guess is refused. This includes entries after the first
+-- Every guess among the entries of a command is refused. This includes entries after the first
 -- refused one, which the device does not examine.
 abbrev pub GuessesFail : Secrecy → Record → Whole → (locality : ℕ) → Type 0
 GuessesFail s r c locality =
@@ -119,9 +119,9 @@ GuessesFail s r c locality =
     → is_ok (grant r c locality (place + 1) (slice_get (authorized c) place) e) ≡ false
 
 -- If an entity has the Name to which a session with a secret key is bound, it has the protection
--- that the bound entity had. This can fail only if two entities have the same Name: an object or an
--- index with the same Name has the same noDA, and two entities named by equal handles are the same
--- entity.
+-- that the bound entity had. This can fail only if two different entities have the same Name: two
+-- objects, or two indices, with the same public area have the same noDA, and equal handles name the
+-- same entity.
 abbrev pub BindingHolds : Secrecy → Record → Session → Type 0
 BindingHolds s r x =
     IfSome x.binding (λ b.

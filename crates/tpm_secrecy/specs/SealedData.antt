@@ -35,9 +35,9 @@ sealed objects = of_data (λ number. false) objects
 -- ---- an accepted command that reads sealed data
 
 -- An accepted command reads the secret data of an object with one of these public areas: TPM2_HMAC
--- if the object signs, otherwise TPM2_Unseal. If the object has no userWithAuth, and its authPolicy
--- is the digest of a policy, then a policy session authorized the command and satisfied the policy,
--- or the hash is broken.
+-- if the object signs, otherwise TPM2_Unseal. Unless the hash is broken, a policy session
+-- authorized the command and satisfied the policy, if the object has no userWithAuth and its
+-- authPolicy is the digest of a policy.
 pub record ReadsSealed (objects : Public → Bool) (history : History) (c : AcceptedCommand) : Type 0
   where
     pub public : Public
@@ -142,9 +142,9 @@ disk_policy hash selection values name reference =
     PolicyOr (Branch (Then (by_pcrs hash selection values) PolicyAuthValue)
     (Branch (Then Nothing (PolicySecret name reference)) NoBranch))
 
--- The command is an accepted TPM2_Unseal of the disk's key. Its session proves that the PCRs had
--- these values and that the PIN, which is the key's authorization value, was presented; or that the
--- recovery secret was presented; or the hash is broken.
+-- The command is an accepted TPM2_Unseal of the disk's key. Unless the hash is broken, its session
+-- proves one of two things: the PCRs had these values, and the PIN, which is the key's
+-- authorization value, was presented; or the recovery secret was presented.
 pub record OpensDiskKey (public : Public) (selection : List BankSelection)
     (values name reference : List ℕ) (history : History) (c : AcceptedCommand) : Type 0
   where

@@ -136,7 +136,7 @@ RunTellsNothing =
 -- ---- wrong guesses
 
 -- In a command that passed the general checks, all guesses fail, and the command reads no secret
--- data. The bindings of the device's sessions hold.
+-- data. The bindings of the device's sessions satisfy `BindingHolds`.
 pub record KeepsSecrets (s : Secrecy) (r : Record) (c : Whole) (locality : ℕ) (random : List ℕ)
     : Type 0
   where
@@ -151,8 +151,8 @@ EventKeepsSecrets s r (Given buffer locality elapsed random) =
 EventKeepsSecrets s r Cycled = Unit {0}
 EventKeepsSecrets s r (Placed object) = Unit {0}
 
--- Suppose that two devices differ only in secrets. An event reveals nothing about these if all
--- guesses of an authorization value fail on both devices, and neither reads secret data. The
+-- Suppose that two devices differ only in secrets. An event reveals nothing about the secrets if
+-- all guesses of an authorization value fail on both devices, and neither reads secret data. The
 -- condition names both devices because a guess that is wrong on one may be right on the other.
 -- Objects that the two devices place may differ in secrets.
 abbrev pub WrongGuessesTellNothing : Type 0

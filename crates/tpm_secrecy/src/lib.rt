@@ -20,8 +20,8 @@ ghost use Rattle.tpm_secrecy.specs.Tells.{WrongGuessesTellNothing};
 /// Suppose that two devices differ only in secret data. An event that does not read this data on
 /// one device reveals nothing about it: both devices return the same response, report the same row,
 /// and afterwards differ only in this data. This also holds for a list of events up to the first
-/// one that reads the data. An event reads the data on both devices, or on neither. A failed
-/// allocation makes no difference.
+/// one that reads the data. An event reads the data on both devices, or on neither. Allocations may
+/// fail on both devices, or on neither.
 #[inline(always)]
 pub fn secrecy_laws()
     ensures event { EventTellsNothing }
@@ -31,10 +31,10 @@ pub fn secrecy_laws()
 
 /// After any executions since a device was manufactured, an execution reveals nothing about the
 /// sealed data or the key of an object, unless it is an accepted TPM2_Unseal or TPM2_HMAC with that
-/// object. If the object has a policy and no userWithAuth, the policy was satisfied, or the hash is
-/// broken. For example, nothing reveals a disk's key until a TPM2_Unseal of it is accepted; then
-/// either the PCRs had their values and the PIN was presented, or the recovery secret was
-/// presented, or the hash is broken.
+/// object. If the object has a policy and no userWithAuth, the policy was satisfied unless the hash
+/// is broken. For example, nothing reveals a disk's key until a TPM2_Unseal of it is accepted.
+/// Then, unless the hash is broken, either the PCRs had their values and the PIN was presented, or
+/// the recovery secret was presented.
 #[inline(always)]
 pub fn sealed_data_laws()
     ensures each { SealedDataNeedPolicy }

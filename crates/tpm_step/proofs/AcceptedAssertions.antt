@@ -138,7 +138,8 @@ module _ (r : Record) (c : AcceptedCommand) (history : History) (are : AreIndice
   abbrev q : Request
   q = c.request
 
-  -- If the device's assertion meets its condition, so does the history's version of it.
+  -- If the assertion that the device makes meets its condition, so does the assertion that the
+  -- history determines for the command.
   abbrev Agrees : Code → (Session → Assertion) → Type 0
   Agrees code made =
       (s : Session) (told : Assertion) → assertion_by code c history s.hash s.nonce_tpm ≡ Ok told
@@ -150,7 +151,7 @@ module _ (r : Record) (c : AcceptedCommand) (history : History) (are : AreIndice
       let one : tell s x ≡ told = ok_is {E = Refused} (tell s x) told (sym (tells s ∙ ap (λ (y : Result X Refused). y >>= λ x. let it : Result Assertion Refused = Ok (tell s x) in it) found) ∙ is) in
       subst (λ (b : Assertion). Finds b p × HasWidths s.hash b) one (same s x p holds))
 
-  -- The history's version of this command's assertion meets its condition on every policy.
+  -- The assertion that the history determines for this command meets its condition on every policy.
   abbrev TellsPlainly : Code → Type 0
   TellsPlainly code = (s : Session) → IfOk (assertion_by code c history s.hash s.nonce_tpm) (λ told. (p : Policy) → Finds told p × HasWidths s.hash told)
 
@@ -184,7 +185,8 @@ module _ (r : Record) (c : AcceptedCommand) (history : History) (are : AreIndice
   -- ---- the assertion of an accepted command
 
   -- If an accepted command makes an assertion on a policy session that is not a trial session, the
-  -- history's version of the assertion meets its condition on the session's policy.
+  -- assertion that the history determines for the command meets its condition on the session's
+  -- policy.
   abbrev pub FindsItsOwn : Code → Type 0
   FindsItsOwn code =
       (handle : Handle) (s : Session) (told : Assertion) → session_handle code q.handles ≡ Ok handle

@@ -50,7 +50,8 @@ Keeps old new handle = Kept (auth_seen old handle) (auth_seen new handle)
 abbrev pub KeepsAll : (old new : Record) → Type 0
 KeepsAll old new = (handle : Handle) → Keeps old new handle
 
--- a handle keeps its authorization value if each part of the record keeps its value for this handle
+-- a handle keeps its authorization value if each part of the record that could contain this value
+-- keeps it
 pub parts_keep : (old new : Record) (h : Handle) → Kept (index_auth (index_at old.nv h)) (index_auth (index_at new.nv h)) → Kept (object_auth (persistent_at old.persistent h)) (object_auth (persistent_at new.persistent h)) → Kept (object_auth (object_at old.objects h)) (object_auth (object_at new.objects h)) → permanent_auth_value new h ≡ permanent_auth_value old h → Keeps old new h
 parts_keep old new h index persistent transient permanent = by (is_nv_index h) (is_persistent h) (is_transient h)
   where
@@ -133,7 +134,7 @@ auth_handle auth.Platform = platform_handle
 pub named_is : (h : Handle) (a : HierarchyAuth) → hierarchy_auth_of h ≡ Some a → h ≡ auth_handle a
 named_is h a is = let same : h.number ≡ (auth_handle a).number = grind (arith, nat_tests) in same_handle h (auth_handle a) same
 
--- the record with another authorization value of a hierarchy or of lockout
+-- the record after the authorization value of a hierarchy or of lockout was replaced
 abbrev pub with_auth : Record → HierarchyAuth → List ℕ → Record
 with_auth r a value = record r { fixed = record r.fixed { hierarchies = with_hierarchy_auth r.fixed.hierarchies a value } }
 

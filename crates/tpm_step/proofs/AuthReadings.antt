@@ -1,5 +1,5 @@
--- The authorization values in the parameters of commands do not end in a zero, and the handles in
--- these parameters have the right types.
+-- The authorization values in the parameters of commands do not end in a zero byte, and the handles
+-- in these parameters have the right types.
 use Rattle.std.proofs.Common.{rules, ◌≡◌, true, List, ℕ, length, ◌==◌, not, Result, Ok, Err, IfOk}
 use Rattle.tpm_bytes.specs.Reading.{◌>>=◌, refused_if}
 use Rattle.tpm_types.proofs.Trimming.{trimmed_twice}
@@ -40,7 +40,7 @@ filled_holds P read text holds =
 
 -- ---- authorization values
 
--- This value does not end in a zero.
+-- This value does not end in a zero byte.
 abbrev pub IsTrimmed : List ℕ → Type 0
 IsTrimmed value = trimmed value ≡ value
 
@@ -69,8 +69,8 @@ pub wanted_named : (text : List ℕ) → IfOk (only (persistent_handle_at text))
 unfolding persistent_handle_at
 wanted_named text = search (rules, only_holds, ok_bind, ok_bind_is, asked)
 
--- In the parameters of TPM2_NV_DefineSpace, the authorization value does not end in a zero, and the
--- handle is that of an NV index.
+-- In the parameters of TPM2_NV_DefineSpace, the authorization value does not end in a zero byte,
+-- and the handle is that of an NV index.
 pub record IsDefinition (p : definition.Parameters) : Type 0 where
   pub value : IsTrimmed p.auth_value
   pub named : is_nv_index p.public.nv_index ≡ true

@@ -1,5 +1,5 @@
--- Time, failed tries and power cycles satisfy `Pays`, and less than one recoveryTime counts towards
--- the next decrement of failedTries.
+-- The passing of time, failed tries and power cycles satisfy `Pays`. After them, less than one
+-- recoveryTime counts towards the next decrement of failedTries.
 use Rattle.std.proofs.Common.{arith, ◌≡◌, ◌≢◌, ◌⊎◌, ℕ, ◌+◌, ◌*◌, ◌/◌, ◌%◌, ◌-◌, ◌<◌, ◌≤◌, Bool, true, false, cond, refl, sym, ap, ◌∙◌, inl, inr}
 use Rattle.std.specs.Prelude.{not, ◌&&◌, ◌==◌, nat_le}
 use Rattle.std.proofs.lemmas.Bool.{cases_eq, cases_lt, cond_both, leb-false, ne_eqb}
@@ -52,7 +52,7 @@ same_pays old new same = record {
   within = inl refl;
 }
 
--- Forgiving tries satisfies the inequality of `Pays`, if each forgiven try takes n milliseconds.
+-- Forgiving one try for every n milliseconds satisfies the inequality of `Pays`.
 forgiven : (n tries passed elapsed : ℕ) → n * tries + cond ((tries - (passed + elapsed) / n) == 0) 0 (cond ((tries - (passed + elapsed) / n) == 0) 0 ((passed + elapsed) % n)) ≤ n * (tries - (passed + elapsed) / n) + cond (tries == 0) 0 passed + elapsed
 forgiven n tries passed elapsed = by (cases_eq tries 0) (cases_lt (time / n) tries)
   where
@@ -135,7 +135,7 @@ refusal_pays s counted.Lockout counts unlocked = same_pays s (closed_by_failure 
 -- ---- a stretch of events
 
 -- Either no try has failed since this state, or no more tries have failed than maxTries and the
--- passed milliseconds allow.
+-- elapsed milliseconds allow.
 abbrev pub IsPaid : LockoutState → (failed elapsed : ℕ) → Type 0
 IsPaid s failed elapsed =
     (failed ≡ 0)

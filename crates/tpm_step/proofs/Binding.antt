@@ -16,19 +16,20 @@ pub checked_ok : {X : Type 0} (check : Check) (x : Result X Rc) (y : X) → chec
 checked_ok {X} check (Ok x) y e = ap (λ (z : X). let r : Result X Rc = Ok z in r) (ok_is {E = Refused} x y e)
 checked_ok check (Err rc) y e = absurd cc
 
--- if each success after a step has a property, each success of the whole computation has it
+-- if each success of the steps after the first has a property, each success of the whole
+-- computation has it
 pub ok_bind : {A B E : Type 0} (Q : B → Type 0) (x : Result A E) (f : A → Result B E) → ((a : A) → IfOk (f a) Q) → IfOk (x >>= f) Q
 ok_bind Q (Ok a) f h = h a
 ok_bind Q (Err e) f h = tt
 
--- if each success after a step has a property, given the step's result, each success of the whole
--- computation has it
+-- if each success of the steps after the first has a property, given the first step's result, each
+-- success of the whole computation has it
 pub ok_bind_is : {A B E : Type 0} (Q : B → Type 0) (x : Result A E) (f : A → Result B E) → ((a : A) → x ≡ Ok a → IfOk (f a) Q) → IfOk (x >>= f) Q
 ok_bind_is Q (Ok a) f h = h a refl
 ok_bind_is Q (Err e) f h = tt
 
--- if each success after a step has a property, given another property of the step's success, each
--- success of the whole computation has it
+-- if each success of the steps after the first has a property, given another property of the first
+-- step's success, each success of the whole computation has it
 pub ok_then : {A B E : Type 0} (P : A → Type 0) (Q : B → Type 0) (x : Result A E) (f : A → Result B E) → IfOk x P → ((a : A) → P a → IfOk (f a) Q) → IfOk (x >>= f) Q
 ok_then P Q (Ok a) f k h = h a k
 ok_then P Q (Err e) f k h = tt
@@ -55,7 +56,7 @@ pub err_bind_is : {A B E : Type 0} (Q : E → Type 0) (x : Result A E) (f : A �
 err_bind_is Q (Ok a) f k h = h a refl
 err_bind_is Q (Err e) f k h = k
 
--- if the only refusal of a test has a property, each refusal of the test has it
+-- if a fault has a property, each refusal of a test that reports this fault has it
 pub err_if : {E : Type 0} (Q : E → Type 0) (b : Bool) (e : E) → Q e → IfErr (refused_if b e) Q
 err_if Q true e h = h
 err_if Q false e h = tt

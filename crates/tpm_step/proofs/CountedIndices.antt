@@ -1,4 +1,5 @@
--- A row changes the counters among the NV indices as the history does for its command.
+-- A command's row changes the counters among a device's NV indices in the same way as the counters
+-- of the history.
 use Rattle.std.proofs.Common.{arith, ◌≡◌, ℕ, zero, suc, ◌+◌, ◌<◌, ◌^◌, Bool, true, false, cond, List, [], ◌∷◌, get_or, Option, Some, None, IfOk, refl, sym, ap, subst, ◌∙◌, inl, inr}
 use Rattle.std.specs.Prelude.{◌&&◌, max, ◌==◌}
 use Rattle.std.specs.Int.{w64, from_be_bytes, to_be_bytes}
@@ -41,7 +42,7 @@ use Rattle.tpm_step.proofs.HandleMap.{at_other, at_same}
 use Rattle.tpm_step.proofs.IndexChanges.{CountsUp, incremented_counts}
 use Rattle.tpm_step.proofs.Indices.{OthersStay, changed_each, cleared_each, defined_each, removed_each, started_each}
 
--- The counter has the value that this map has for its handle.
+-- If the index is a counter, it has the value that `at` has for this handle.
 abbrev Counts : (Handle → Option ℕ) → Handle → NvIndex → Type 0
 Counts at handle index = IsCounter index → IsCounted index (at handle)
 
@@ -170,7 +171,7 @@ clear_counted contents c up are = record { most = are.most; each = cleared_each 
 
 -- ---- the effect of a startup
 
--- Two sets of attributes have the same WRITTEN, CLEAR_STCLEAR and type of the index.
+-- Two sets of attributes have the same WRITTEN, CLEAR_STCLEAR and index type.
 abbrev Alike : NvAttributes → NvAttributes → Type 0
 Alike a b = (index_type b ≡ index_type a) × (has b attribute.Written ≡ has a attribute.Written) × (has b attribute.ClearStClear ≡ has a attribute.ClearStClear)
 

@@ -1,4 +1,4 @@
--- A device has the authorization values of its history.
+-- A device has the authorization values that its history determines.
 use Rattle.std.proofs.Common.{arith, ◌≡◌, ℕ, Bool, true, false, cond, List, [], ◌∷◌, length, map, not, ◌||◌, ◌==◌, Option, Some, None, option_map, option_and_then, refl, sym, ap, ap₂, subst, ◌∙◌, inr, zero, suc, slice_get}
 use Rattle.std.specs.Option.{option_map_or}
 use Rattle.std.proofs.lemmas.Bool.{cond-false, false≢true, or_parts}

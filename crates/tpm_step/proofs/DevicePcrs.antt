@@ -1,4 +1,4 @@
--- A device has the PCRs of its history.
+-- A device has the PCRs that its history determines.
 use Rattle.std.proofs.Common.{arith, ◌≡◌, ℕ, ◌<◌, Bool, true, false, cond, List, [], ◌∷◌, length, IfOk, refl, ap, sym, subst, ◌∙◌}
 use Rattle.std.specs.Prelude.{slice_index_or}
 use Rattle.std.proofs.lemmas.List.{get_or-take, length-take}
@@ -105,7 +105,7 @@ module _ (r : Record) (a : Accepted) (locality : ℕ) (random : List ℕ) (histo
       settled_saved (shape_of a.command.code).keeps_shutdown answered (saved_by a.command.code pcrs)
       (subst (λ (x : SavedState). IsSavedAs x (saved_by a.command.code pcrs)) (sym same) row)
 
-  -- the PCRs are those of the history, if the record's banks have all 24 values
+  -- the PCRs are those that the history determines, if the record's banks have all 24 values
   pub pcrs_done : HaveAll after.fixed.banks → HasPcrs after (Done (command_of r a) ∷ history)
   pcrs_done all = record {
     all = all;

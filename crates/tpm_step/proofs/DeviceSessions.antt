@@ -1,4 +1,4 @@
--- A device has the sessions of its history.
+-- A device has the sessions that its history determines.
 use Rattle.std.proofs.Common.{arith, ◌≡◌, ◌⊎◌, ◌≤◌, ℕ, Bool, true, false, cond, List, [], ◌∷◌, length, length-drop, drop, map, Option, Some, None, option_map, refl, ap, sym, subst, ◌∙◌, inl, inr}
 use Rattle.std.proofs.lemmas.Bool.{cases_Bool, false≢true}
 use Rattle.std.specs.List.{zip}
@@ -70,8 +70,8 @@ module _ (r : Record) (a : Accepted) (locality : ℕ) (random : List ℕ) (histo
       many pcrs has.live a.command.code)
       is.row refl
 
-  -- The row drew as many bytes as the command's code and parameters say; or the command has no
-  -- entries, and `draws_of` is 0.
+  -- The row drew as many bytes as the command's code and parameters determine; or the command has
+  -- no entries, and `draws_of` is 0.
   drew : (a.success.answer.drawn ≡ draws_of a.command.code a.request) ⊎ ((a.command.entries ≡ []) × (draws_of a.command.code a.request ≡ 0))
   drew =
       elim (cases_Bool (is_startup a.command.code)) [

@@ -130,7 +130,7 @@ module _ (r : Record) (c : AcceptedCommand) (history : History) (locality : ℕ)
     kind_same : s.kind ≡ l.kind
     kind_same = ap (λ (f : SessionFacts). f.start.kind) same
 
-    -- If the update counter that a session recorded is the device's counter, the session's
+    -- If the update counter that a session recorded equals the device's counter, the session's
     -- assertions about PCRs hold.
     holds_pcrs : RecordsUpdates e.session history l → is_other s.policy.update_count r.fixed.banks.update_count ≡ false → HoldsPcrs e.session history l
     holds_pcrs records counter =

@@ -1,5 +1,6 @@
 -- An event is a failed try if and only if its authorization is refused with AUTH_FAIL for an entry
--- that touches a protected entity. The response reports this refusal.
+-- that is checked with the authorization value of a protected entity other than lockout. The
+-- response reports this refusal.
 use Rattle.std.proofs.Common.{arith, rules, ◌≡◌, ℕ, ◌+◌, Bool, true, false, List, [], ◌∷◌, ◌++◌, append_assoc, length, length-append, slice_get, Option, Some, None, option_map, Result, Ok, Err, IfErr, refl, sym, ap, subst, ◌∙◌}
 use Rattle.std.specs.Prelude.{not, nat_lt, ◌&&◌, ◌||◌, is_none}
 use Rattle.std.specs.List.{list_any}
@@ -88,17 +89,18 @@ err_other Q check (Err rc) other h = h rc other
 
 -- ---- checking the password or the HMAC of an entry
 
--- whether a refusal counts a failed try or is AUTH_FAIL
+-- whether a refusal increments failedTries or is AUTH_FAIL
 abbrev is_failure : Refused → Bool
 is_failure e = is_try e.counted || is_auth_fail e.rc.code
 
--- The refusal is that of entry n, which has to authorize the handle `used`, if any. The entity that
--- the entry touches is not locked out, and the password or the HMAC is wrong.
+-- The refusal is that of entry n, which has to authorize the handle `used`, if any. The password or
+-- the HMAC is wrong, and the entity whose authorization value is used to check the entry is not
+-- locked out.
 record FailsAt (r : Record) (c : Whole) (locality n : ℕ) (used : Option Handle) (entry : Entry) (e : Refused) : Type 0 where
   unlocked : is_locked_out r.fixed.lockout (touched r c locality n used entry) ≡ false
   is : e ≡ failure (check_for used) n (touched r c locality n used entry)
 
--- If the refusal counts a failed try or is AUTH_FAIL, it is the refusal of entry n.
+-- If the refusal increments failedTries or is AUTH_FAIL, it is the refusal of entry n.
 abbrev IfFailsAt : Record → Whole → (locality n : ℕ) → Option Handle → Entry → Refused → Type 0
 IfFailsAt r c locality n used entry e = is_failure e ≡ true → FailsAt r c locality n used entry e
 
@@ -207,7 +209,7 @@ failed_number check n m protection.None is = cc
 failed_number check n m protection.Tries is = cc
 failed_number check n m protection.Lockout is = cc
 
--- a wrong password or HMAC counts as a failed try only on a protected entity other than LOCKOUT
+-- a wrong password or HMAC increments failedTries only for a protected entity other than lockout
 counts_at : (check : Check) (n : ℕ) (p : Protection) → is_try (failure check n p).counted ≡ true → p ≡ protection.Tries
 counts_at check n protection.Tries tries = refl
 counts_at check n _ tries = absurd (false≢true tries)
@@ -268,7 +270,7 @@ accepted_of r buffer locality random =
     Q : RefusedCommand → Type 0
     Q e = IfTryOf r locality buffer e.refused
 
--- a command whose refusal counts a failed try is refused with AUTH_FAIL
+-- a command whose refusal increments failedTries is refused with AUTH_FAIL
 pub try_of : (r : Record) (buffer : List ℕ) (locality : ℕ) (random : List ℕ) → counts_try (accepted r buffer locality random) ≡ true → FailsTry r locality buffer
 try_of r buffer locality random = by (accepted r buffer locality random) (accepted_of r buffer locality random)
   where

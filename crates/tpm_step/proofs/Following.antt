@@ -285,8 +285,8 @@ stretch_follows can old executions new history leads follows =
 
 -- ---- runs, with their history
 
--- The events of a run are executions one after another, and a closure was called with their
--- outcomes.
+-- Executions of the events lead from the old record to the new one, and a closure was called with
+-- each outcome.
 abbrev RunLeads : {F : Type 0} → Mut F (Bor Outcome × Unit {0}) (Unit {0}) → Bool → Record → F → List PlainEvent → Record → F → Type 0
 RunLeads g can old p events new q =
     (executions : List Execution) × (map (λ (one : Execution). one.event) executions ≡ events)
@@ -309,8 +309,8 @@ run_follows g can old p events new q history run follows =
       stretch = stretch_follows can old executions new history leads follows;
     }
 
--- If a closure was called with the outcomes of these executions, one after another, the executions
--- are a run of their events.
+-- If executions lead from one record to another, and a closure was called with each outcome in
+-- order, the executions are a run of their events.
 pub told_runs : {F : Type 0} (g : Mut F (Bor Outcome × Unit {0}) (Unit {0})) (can : Bool) (old : Record) (p : F) (executions : List Execution) (new : Record) (q : F) → Leads can old executions new → Tells g p executions q → Runs g can old p (map (λ (one : Execution). one.event) executions) new q
 told_runs g can old p [] new q leads told = (leads, told)
 told_runs g can old p (one ∷ executions) new q (first, executes, leads) (outcome, next, is, called, told) =

@@ -54,7 +54,7 @@ leaving_row r code q quiet =
     ok_weaker (λ s. Touches (part_of code) r s.after) (λ s. SameTries r.fixed.lockout s.after.fixed.lockout) (row_of r code q) (row_touches r code q)
     (λ s touches. same_part (part_of code) r s.after (leaves_if code quiet) touches)
 
--- an accepted command that is not a reset leaves the failed tries unchanged
+-- an accepted command that is not a reset leaves failedTries unchanged
 pub same_done : (r : Record) (a : Accepted) (locality : ℕ) (random : List ℕ) → IsAcceptance r locality random a → resets_tries a.command.code ≡ false → SameTries r.fixed.lockout (success_step a random).after.fixed.lockout
 same_done r a locality random is quiet =
     subst (λ (s : LockoutState). SameTries r.fixed.lockout s) (sym (ap (λ (x : Record). x.fixed.lockout) (success_leaves a random)))

@@ -58,7 +58,8 @@ continues_then a b c first then = record {
     by (inl same) = subst (λ (nonce : List ℕ). IsAmong nonce (all_nonces c)) (sym same) then.latest
     by (inr among) = inr (then.earlier a.nonce_tpm among)
 
--- This is the same session at two times, with the same assertions or without any.
+-- This is the same session at two times. At the later time, it has the same assertions as before,
+-- or none.
 pub record Keeps (old new : LiveSession) : Type 0 where
   pub continues : Continues old new
   pub asserted : (new.assertions ≡ old.assertions) ⊎ (new.assertions ≡ [])
@@ -166,7 +167,7 @@ rolled_less live (e ∷ es) left =
     let first = entry_rolled live e left in
     omega (arith, rolled_less first.sessions es first.left, length-drop (nonce_size (live e.session)) left)
 
--- If some random bytes are left after all nonces, enough bytes were left for the first nonce.
+-- If random bytes are left after all nonces were drawn, there were enough for the first nonce.
 enough_first : (live : LiveSessions) (e : Entry) (es : List Entry) (left : List ℕ) → 1 ≤ length (entries_rolled live (e ∷ es) left).left → nonce_size (live e.session) ≤ length left
 enough_first live e es left some =
     let first = entry_rolled live e left in
@@ -182,7 +183,8 @@ rolls_kept live (e ∷ es) left handle new some is =
 
 -- ---- entries that name the session
 
--- The nonce that a session had before a command is among its earlier nonces after it.
+-- The nonce that a session had before a command is one of the session's earlier nonces after the
+-- command.
 abbrev Renewed : Option LiveSession → LiveSession → Type 0
 Renewed found new = (old : LiveSession) × (found ≡ Some old) × Keeps old new × IsAmong old.nonce_tpm new.earlier_nonces
 

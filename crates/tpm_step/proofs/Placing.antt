@@ -1,4 +1,4 @@
--- Placing an object is an execution of its event, and the new record satisfies the invariant of all
+-- Placing an object is the execution of an event, and the new record satisfies the invariant of all
 -- records.
 use Rattle.std.proofs.Common.{arith, ◌≡◌, ℕ, Bool, false, [], ◌∷◌, length, length-set, Option, Some, None, refl, ◌∙◌}
 use Rattle.std.proofs.lemmas.Bool.{false≢true}

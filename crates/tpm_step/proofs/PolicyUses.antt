@@ -1,5 +1,5 @@
--- Each use by a policy session meets every policy whose digest is the entity's authPolicy, or the
--- hash is broken.
+-- Unless the hash is broken, each use by a policy session meets every policy whose digest is the
+-- entity's authPolicy.
 use Rattle.std.proofs.Common.{◌≡◌, ◌⊎◌, ℕ, Bool, true, false, cond, List, [], ◌∷◌, Option, Some, None, IfSome, IfOk, refl, ap, sym, subst, ◌∙◌, inl, inr}
 use Rattle.std.proofs.lemmas.Option.{same_Some}
 use Rattle.std.specs.Int.{bit_at, w8, w32}
@@ -92,8 +92,8 @@ all_at P one (other ∷ assertions) all (inr among) = all_at P one assertions al
 
 -- ---- the command of each assertion
 
--- If the assertion is one of TPM2_PolicySecret or TPM2_PolicyNV, this command made it. It contains
--- the Name of the entity that the command's handle names.
+-- If the assertion is one of TPM2_PolicySecret or TPM2_PolicyNV, it was made by this command, and
+-- contains the Name of the entity that the command's handle names.
 abbrev IsOf : Code → AcceptedCommand → Assertion → Type 0
 IsOf code c (assertion.Secret parts) = (code ≡ command.PolicySecret) × (name_in c.views 0 ≡ parts.name)
 IsOf code c (assertion.Nv parts) = (code ≡ command.PolicyNv) × (name_in c.views 1 ≡ parts.name)
@@ -160,7 +160,7 @@ module _ (u : PolicyUse) (used : used_in u.command.command u.place ≡ Some u.ha
       }
   secret_shown name reference one says origin = absurd says
 
-  -- if a session made an assertion of a written policy, the use meets that assertion
+  -- if a written policy contains an assertion that the session has, the use meets that assertion
   met_by : (written : PolicyAssertion) (one : Assertion) → IsAmong one assertions → Says one written → IsMetBy u written
   met_by (PolicyPcr selection digest) (assertion.Pcr parts) among says =
       let holds = meets.pcrs (any_pcr parts assertions among) in

@@ -1,4 +1,4 @@
--- A power cycle is an execution of its event. Two stretches of executions make one if the second
+-- A power cycle is the execution of an event. Two stretches of executions make one if the second
 -- begins where the first ended.
 use Rattle.std.proofs.Common.{arith, ◌≡◌, ◌≢◌, ℕ, zero, suc, Bool, false, List, [], ◌∷◌, ◌++◌, length, refl, subst}
 use Rattle.std.proofs.lemmas.Bool.{false≢true}

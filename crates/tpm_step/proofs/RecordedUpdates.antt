@@ -216,7 +216,7 @@ module _ (r : Record) (a : Accepted) (locality : ℕ) (random : List ℕ) (histo
   updates_add command.Startup is = absurd cc
   updates_add _ is = refl
 
-  -- The assertions about PCRs that held before a command still hold after it, if it updates no PCR.
+  -- If a command updates no PCR, the assertions about PCRs that held before it still hold after it.
   holds_more : (handle : Handle) (s : LiveSession) → has_pcrs (Done c ∷ history) handle ≡ true → IsQuiet (Done c) → HoldsPcrs handle history s → HoldsPcrs handle (Done c ∷ history) s
   holds_more handle s now quiet holds = record {
     quiet = one_more handle (Done c) history now quiet holds.quiet;
@@ -265,8 +265,8 @@ module _ (r : Record) (a : Accepted) (locality : ℕ) (random : List ℕ) (histo
     quiet_pcr : IsQuiet (Done c)
     quiet_pcr = (ap is_startup code, ap (λ (x : Code). writes x c.request) code)
 
-    -- The first TPM2_PolicyPCR on a session begins a period in which no PCR changes. At a later
-    -- TPM2_PolicyPCR, the earlier assertions about PCRs hold.
+    -- After a TPM2_PolicyPCR on a session, no PCR has changed since the session's first
+    -- TPM2_PolicyPCR, and the session's earlier assertions about PCRs hold.
     holds_first : (asserts : Bool) → asserts_pcrs old ≡ asserts → AreQuietSince handle (Done c ∷ history) × AllByRecursion (HoldsOf history old.hash) old.assertions
     holds_first false asserts = (
       record {

@@ -50,8 +50,8 @@ accepted_spells r buffer locality random =
 
 -- ---- accepted events
 
--- This event accepted the command: the buffer encodes the command, and the event is recorded as the
--- command after any history.
+-- The event was this accepted command: the buffer encodes it, and every history records the event
+-- as this command.
 record IsAcceptedAt (buffer : List ℕ) (one : Execution) (c : AcceptedCommand) : Type 0 where
   spelled : command_at buffer ≡ Ok (c.command, [])
   is : (before : History) → with_execution one before ≡ Done c ∷ before

@@ -1,5 +1,5 @@
--- After a row, the step changes sessions as the history does: it draws new nonces, resets policies
--- and ends sessions.
+-- After a row, the step changes the sessions of a device in the same way as those of the history:
+-- it draws new nonces, resets policies and ends sessions.
 use Rattle.std.proofs.Common.{◌≡◌, ℕ, Bool, true, false, cond, List, [], ◌∷◌, length, take, drop, Option, Some, None, refl, ap, sym, subst, ◌∙◌}
 use Rattle.std.specs.Prelude.{not, is_some}
 use Rattle.std.specs.List.{zip}
@@ -32,7 +32,7 @@ size_same r e live are =
     of_both (λ found told. option_map_or (λ (s : Session). length s.nonce_tpm) found 0 ≡ nonce_size told)
     (λ s l same. ap (λ (f : SessionFacts). length f.nonce_tpm) same) refl (session_of r e) (live e.session) (are e.session)
 
--- The sessions after new nonces, and the remaining random bytes, are those of the history.
+-- After new nonces are drawn, the sessions and the remaining random bytes are those of the history.
 abbrev RollAs : Record → List Entry → List ℕ → LiveSessions → List ℕ → Type 0
 RollAs r es left live told =
     AreLive (device.entries_rolled r es left).after.sessions (entries_rolled live es told).sessions

@@ -1,4 +1,4 @@
--- No authorization value of a history ends in a zero.
+-- No authorization value of a history ends in a zero byte.
 use Rattle.std.proofs.Common.{rules, ◌≡◌, ℕ, List, [], ◌∷◌, Option, Result, Ok, Err, IfOk, ◌==◌, refl}
 use Rattle.std.proofs.lemmas.Bool.{cond_both}
 use Rattle.tpm_types.proofs.Trimming.{trimmed_twice}

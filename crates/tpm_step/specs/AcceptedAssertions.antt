@@ -29,7 +29,7 @@ Finds (assertion.Nv parts) p = (bytes : List ℕ) × (parts.compared ≡ Ok byte
 Finds _ p = Unit {0}
 
 -- Each assertion in the list, the latest first, met its condition, given the assertions before it.
--- Its numbers fit their types.
+-- The numbers in each assertion fit their types.
 abbrev pub AllFind : HashAlg → List Assertion → Type 0
 AllFind hash [] = Unit {0}
 AllFind hash (latest ∷ earlier) =

@@ -28,30 +28,31 @@ AuthValues = Handle → List ℕ
 
 -- ---- the value that a command sets, and its handle
 
--- TPM2_HierarchyChangeAuth and TPM2_NV_ChangeAuth set the value of the handle that they name to
--- newAuth, without trailing zeros.
+-- newAuth, without trailing zeros, becomes the authorization value of the handle that
+-- TPM2_HierarchyChangeAuth or TPM2_NV_ChangeAuth names.
 abbrev pub changed_value : Request → Result (Handle × List ℕ) Refused
 changed_value q = do
   handle ← first_handle q.handles
   value ← only (auth_value_at q.parameters)
   Ok (handle, value)
 
--- TPM2_NV_DefineSpace sets the value of the index that it defines to auth, without trailing zeros.
+-- auth, without trailing zeros, becomes the authorization value of the index that
+-- TPM2_NV_DefineSpace defines.
 abbrev pub defined_value : Request → Result (Handle × List ℕ) Refused
 defined_value q = do
   p ← definition.parameters_in q.parameters
   Ok (p.public.nv_index, p.auth_value)
 
--- TPM2_CreatePrimary sets the value of the handle that it returns to userAuth, without trailing
--- zeros.
+-- userAuth, without trailing zeros, becomes the authorization value of the handle that
+-- TPM2_CreatePrimary returns.
 abbrev pub created_value : Request → (made : Option Handle) → Result (Handle × List ℕ) Refused
 created_value q made = do
   handle ← ok_or made handle_refusal
   p ← creation.parameters_in q.parameters
   Ok (handle, trimmed p.given.user_auth)
 
--- TPM2_Load sets the value of the handle that it returns to the authorization value in the
--- sensitive area, without trailing zeros.
+-- The authorization value in the sensitive area, without trailing zeros, becomes that of the handle
+-- that TPM2_Load returns.
 abbrev pub loaded_value : Option Sensitive → (made : Option Handle)
     → Result (Handle × List ℕ) Refused
 loaded_value area made = do
@@ -59,8 +60,8 @@ loaded_value area made = do
   sensitive ← ok_or area handle_refusal
   Ok (handle, trimmed sensitive.auth_value)
 
--- TPM2_EvictControl copies the value of objectHandle to persistentHandle. If it removes a
--- persistent object, both are the same handle, and nothing changes.
+-- TPM2_EvictControl copies the authorization value of objectHandle to persistentHandle. If it
+-- removes a persistent object, both are the same handle, and nothing changes.
 abbrev pub copied_value : Request → AuthValues → Result (Handle × List ℕ) Refused
 copied_value q values = do
   handle ← second_handle q.handles
@@ -71,22 +72,24 @@ abbrev pub with_value : Result (Handle × List ℕ) Refused → AuthValues → A
 with_value (Ok set) values = with_at set.0 set.1 values
 with_value (Err e) values = values
 
--- the values after TPM2_Startup; with CLEAR, platformAuth becomes empty
+-- the authorization values after TPM2_Startup; with CLEAR, platformAuth becomes empty
 abbrev pub started_values : Result StartupType Refused → AuthValues → AuthValues
 started_values (Ok type.Clear) values = with_at platform_handle [] values
 started_values (Ok type.State) values = values
 started_values (Err e) values = values
 
--- the values after TPM2_Clear, which makes ownerAuth, endorsementAuth and lockoutAuth empty
+-- the authorization values after TPM2_Clear, which makes ownerAuth, endorsementAuth and lockoutAuth
+-- empty
 abbrev pub cleared_values : AuthValues → AuthValues
 cleared_values values =
     with_at owner_handle [] (with_at endorsement_handle [] (with_at lockout_handle [] values))
 
 -- ---- the values after a history
 
--- the values after an accepted command, given its request, the handle that it returned, and the
--- sensitive area that it loaded. A command that removes an object or an index changes no value: its
--- handle then names no entity, and the next entity with this handle gets a value of its own
+-- the authorization values after an accepted command, given its request, the handle that it
+-- returned, and the sensitive area that it loaded. A command that removes an object or an index
+-- changes no value: its handle then names no entity, and the next entity with this handle gets a
+-- value of its own
 abbrev pub values_by : CommandCode → Request → (made : Option Handle) → Option Sensitive
     → AuthValues → AuthValues
 values_by command.HierarchyChangeAuth q made area values = with_value (changed_value q) values

@@ -34,7 +34,7 @@ auth_seen r handle =
     (object_auth (persistent_at r.persistent handle)) (object_auth (object_at r.objects handle))
     (Some (permanent_auth_value r handle))
 
--- The map has the authorization value of each existing entity, by the entity's handle.
+-- `values` has the authorization value of each existing entity, at the entity's handle.
 abbrev pub HaveValues : Record → AuthValues → Type 0
 HaveValues r values =
     (handle : Handle) (value : List ℕ) → auth_seen r handle ≡ Some value → value ≡ values handle

@@ -31,15 +31,16 @@ pub record Drawn : Type 0 where
 unfoldable pub draw_of : Record → Entry → ℕ
 draw_of r e = option_map_or (λ (s : Session). length s.nonce_tpm) (session_of r e) 0
 
--- draws a new nonce for an entry's session: the record after it, and the remaining random bytes
+-- the result of drawing a new nonce for an entry's session: the new record, and the remaining
+-- random bytes
 unfoldable pub entry_rolled : Record → Entry → List ℕ → Drawn
 entry_rolled r e left = record {
   after = record r { sessions = rolled r.sessions e.session (take (draw_of r e) left) };
   left = drop (draw_of r e) left;
 }
 
--- draws a new nonce for the session of each entry, in order: the record after them, and the
--- remaining random bytes
+-- the result of drawing a new nonce for the session of each entry, in order: the new record, and
+-- the remaining random bytes
 abbrev pub entries_rolled : Record → List Entry → List ℕ → Drawn
 entries_rolled r [] left = record { after = r; left = left }
 entries_rolled r (e ∷ es) left =
@@ -59,7 +60,8 @@ password_answer = 0 ∷ 0 ∷ 1 ∷ 0 ∷ 0 ∷ []
 -- the HMAC in the response to an entry. Its key contains the entity's authorization value after the
 -- command's effect. If the command changed this value, a session that was bound to the entity is no
 -- longer bound to it. The HMAC is empty if the policy demanded a password. It is also empty if the
--- command's HMAC was empty, even if the key is no longer empty (this device's own choice)
+-- command's HMAC was empty, even if the key is no longer empty (the specification leaves this open;
+-- this device chooses the empty HMAC)
 unfoldable pub answer_mac : Record → HashedParts → Option Grant → Entry → Session → List ℕ
 answer_mac r hashed grant e s =
     if length e.hmac == 0 || demands_password grant then []
@@ -92,8 +94,8 @@ unfoldable pub entry_restarted : Record → Entry → Record
 entry_restarted r e =
     option_map_or (λ (s : Session). restarted_by s.kind r e s.hash) (session_of r e) r
 
--- the record after an entry: without continueSession (bit 0) its session ends; otherwise, if the
--- entry authorized a handle, the session's policy is reset
+-- the record after an entry. Without continueSession (bit 0), the entry's session ends; otherwise,
+-- if the entry authorized a handle, the session's policy is reset
 unfoldable pub entry_ended : Record → Entry → Option Grant → Record
 entry_ended r e grant =
     if not (continues_session e.attributes) then record r { sessions = flushed r.sessions e.session }

@@ -33,7 +33,7 @@ used_in c place = slice_get (authorized c) place
 -- ---- a password
 
 -- The hmac field of an entry contains the authValue of the handle that the entry has to authorize.
--- Trailing zeros in the field are ignored, and no value of a history ends in zeros.
+-- Trailing zeros in the field are ignored; the authorization values of a history have none.
 abbrev pub HasPassword : History → AcceptedCommand → ℕ → Entry → Type 0
 HasPassword history c place e =
     trimmed e.hmac ≡ option_map_or (auth_of history) (used_in c.command place) []
@@ -98,8 +98,8 @@ HasHmac history c place e s =
 -- ---- every command of a history
 
 -- Each entry that names an HMAC session has the right HMAC, whether or not it authorizes a handle.
--- The command has 256 random bytes and draws at most 192. So at least 64 are left after all new
--- nonces, and no nonce was cut short.
+-- The command has 256 random bytes and draws at most 192. Therefore at least 64 are left after all
+-- new nonces, and no nonce was cut short.
 pub record ShowsHmacs (history : History) (c : AcceptedCommand) : Type 0 where
   pub hmacs : (place : ℕ) (e : Entry) (s : LiveSession)
       → slice_get c.command.entries place ≡ Some e → session_kind e.session ≡ kind.Session

@@ -7,9 +7,9 @@ use Rattle.tpm_step.specs.declared.event.Event as declared
 use Rattle.tpm_step.specs.declared.event.Event.TheVariants as event
 
 -- An event. A command has its bytes, its locality, its random bytes, and its elapsed time: the
--- milliseconds since the command before it. A power cycle has no time of its own. An object is
--- placed when the completing layer loads a saved context: the object that the context contains gets
--- the lowest free slot of the transient objects. The code's own type `Event` has no variant for a
+-- milliseconds since the command before it. A power cycle has no elapsed time. An object is placed
+-- when the completing layer loads a saved context: the object that the context contains gets the
+-- lowest free slot of the transient objects. The code's own type `Event` has no variant for a
 -- placed object.
 pub data PlainEvent : Type 0 where
   Given : (buffer : List ℕ) (locality elapsed : ℕ) (random : List ℕ) → PlainEvent

@@ -30,8 +30,8 @@ protected_index = record {
 }
 
 -- a started device with this index, at this time, after this many failed tries. `forgiving` is the
--- number of milliseconds that already count towards the next decrement of failedTries. Its maxTries
--- is 3, its recoveryTime 1,000 seconds.
+-- number of milliseconds that already count towards the next decrement of failedTries. The device's
+-- maxTries is 3, and its recoveryTime is 1,000 seconds.
 abbrev pub tried : (failed forgiving time : ℕ) → Record
 tried failed forgiving time =
     let r : Record = manufactured zeros in

@@ -39,14 +39,14 @@ pub record Shape (sessions : List (Option Session)) (objects : List (Option Obje
   pub persistent_ascend : Ascends persistent
   pub indices_ascend : Ascends indices
 
--- A device follows a history: its counters, PCRs, authorization values and sessions are those of
--- the history. In the history, each entry of an HMAC session had the right HMAC; therefore each
--- replay repeats a nonce or an HMAC. The update counters that policies recorded are right. Each use
--- of a handle was authorized. The assertions of policy sessions met their conditions. Therefore
--- each use by a policy session met every policy whose digest is the used entity's authPolicy,
--- unless the hash is broken. No decrement of failedTries is overdue. The record has all its slots,
--- and its persistent objects and NV indices are sorted by handle. The fields of its sessions and NV
--- indices have the right sizes.
+-- A device follows a history: its counters, PCRs, authorization values and sessions are those that
+-- the history determines. In the history, each entry of an HMAC session had the right HMAC;
+-- therefore each replay repeats a nonce or an HMAC. The update counters that policies recorded are
+-- right. Each use of a handle was authorized. The assertions of policy sessions met their
+-- conditions. Therefore, unless the hash is broken, each use by a policy session met every policy
+-- whose digest is the used entity's authPolicy. No decrement of failedTries is overdue. The record
+-- has all its slots, and its persistent objects and NV indices are sorted by handle. The fields of
+-- its sessions and NV indices have the right sizes.
 pub record Follows (r : Record) (history : History) : Type 0 where
   pub counters : HasCounters r history
   pub forgiving : IsForgiving r.fixed.lockout
@@ -76,9 +76,9 @@ After Holds old event x =
 -- If the device followed a history before this event, it now follows that history, extended by the
 -- event if it was accepted: the history determines its counters, PCRs, authorization values and
 -- sessions. In the history, every replay repeats a nonce or an HMAC, and every use of a handle that
--- needs authorization was authorized by a password, an HMAC session or a policy session. In the last
--- case, the use satisfies each policy whose digest is the entity's authPolicy, unless the hash is
--- broken.
+-- needs authorization was authorized by a password, an HMAC session or a policy session. In the
+-- last case, unless the hash is broken, the use satisfies each policy whose digest is the entity's
+-- authPolicy.
 pub record FollowsOn (old : Record) (event : PlainEvent) (x : Stepped) : Type 0 where
   pub history : After Follows old event x
   pub counters : After HasCounters old event x

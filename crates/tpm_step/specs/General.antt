@@ -1,7 +1,7 @@
 -- The order of refusals: the checks that every command passes before its own parameters are read.
 -- The response reports the first check that fails. The checks are those of TPM 2.0 Library, Part 3,
 -- sections 5.2 (header), 5.3 (mode), 5.4 (handles) and 5.5 (sizes of the session area). Their order
--- and the codes are this device's own.
+-- and their response codes are this device's choice.
 use Rattle.std.specs.Prelude.{◌≡◌, ℕ, ◌==◌, ◌&&◌, nat_lt, not, Bool, true, false, List, Result, Ok, Err}
 use Rattle.tpm_bytes.specs.Many.{each_at}
 use Rattle.tpm_bytes.specs.Reading.{◌>>=◌, refused_if}
@@ -36,7 +36,8 @@ abbrev pub in_command : {X : Type 0} → CommandCode → Result X Refused → Re
 in_command c (Ok x) = Ok x
 in_command c (Err e) = Err (record { code = code_number c; refused = e })
 
--- the check, G1 to G4, that refuses a header with this fault. The reported row then has the code 0
+-- the check, G1 to G4, that refuses a header with this fault. The reported row then has the command
+-- code 0
 abbrev pub header_check : HeaderFault → Check
 header_check fault.Length = check.Length
 header_check fault.Tag = check.Tag
@@ -99,7 +100,7 @@ body_of r header text = do
     parameters = entries.1;
   })
 
--- the command that a buffer encodes, or the first general check that refuses the buffer
+-- the command that a buffer encodes, or the refusal by the first general check that fails
 unfoldable pub general : Record → List ℕ → Result Whole RefusedCommand
 general r buffer = do
   header ← in_header (header_at buffer)

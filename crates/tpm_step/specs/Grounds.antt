@@ -24,8 +24,8 @@ use Rattle.tpm_step.specs.Sessions.{LiveSession, policy_in, sessions_of}
 use Rattle.tpm_step.specs.View.{View}
 use Rattle.tpm_step.specs.Views.{is_there, view_policy, view_takes, view_written}
 
--- whether the viewed entity exists, and accepts this means of authorization for a command with this
--- use
+-- whether the viewed entity exists, and accepts this means of authorization for a command that uses
+-- it in this way
 abbrev pub allows : Means → NvUse → View → Bool
 allows means nv_use view = is_there view && view_takes means nv_use view
 
@@ -49,7 +49,8 @@ IsPolicyOf s None = ⊥
 IsPolicyOf s (Some entity) =
     (entity.hash ≡ s.hash) × ((policy_in s).digest ≡ entity.digest) × (entity.digest ≢ [])
 
--- whether the NV index whose handle is at this position is written; None for every other entity
+-- whether the NV index whose handle is at this position has WRITTEN set; None for every other
+-- entity
 abbrev pub written_at : AcceptedCommand → ℕ → Option Bool
 written_at c place = option_and_then view_written (slice_get c.views place)
 
@@ -60,10 +61,10 @@ NamesCommand role.Admin number = is_some number ≡ true
 
 -- A policy session may authorize the entity at this position of a command's handles. The entity
 -- accepts policies, and the session meets its authPolicy. Since the first TPM2_PolicyPCR no PCR was
--- written and no TPM2_Clear was accepted, so every assertion about PCRs still holds. If the policy
--- recorded a command code, it is this command's code; the role ADMIN requires a recorded code. A
--- recorded cpHash is that of this command, and a recorded written state is that of this NV index.
--- The command's locality is allowed.
+-- written and no TPM2_Clear was accepted; therefore every assertion about PCRs still holds. If the
+-- policy recorded a command code, it is this command's code; the role ADMIN requires a recorded
+-- code. A recorded cpHash is that of this command, and a recorded written state is that of this NV
+-- index. The command's locality is allowed.
 pub record MeetsPolicy (history : History) (c : AcceptedCommand) (place : ℕ) (e : Entry)
     (s : LiveSession) : Type 0 where
   pub allowed : allows_in means.Policy c place ≡ true
@@ -76,7 +77,7 @@ pub record MeetsPolicy (history : History) (c : AcceptedCommand) (place : ℕ) (
   pub locality : bit_at (policy_in s).localities c.request.locality ≡ 1
 
 -- The entry of a policy session contains the password if the session's policy demands one, and
--- otherwise its HMAC.
+-- otherwise the right HMAC.
 abbrev pub HasDemanded : Bool → History → AcceptedCommand → ℕ → Entry → LiveSession → Type 0
 HasDemanded true history c place e s = HasPassword history c place e
 HasDemanded false history c place e s = HasHmac history c place e s

@@ -11,7 +11,8 @@ with_at handle x all other = if other.number == handle.number then x else all ot
 abbrev pub changed_at : {X : Type 0} → Handle → (X → X) → (Handle → X) → Handle → X
 changed_at handle change all = with_at handle (change (all handle)) all
 
--- the map after the change at the handle that a command names; unchanged if it names none
+-- the map after the change at the handle that a command names; unchanged if the command names no
+-- handle
 abbrev pub by_handle : {X : Type 0} → Result Handle Refused → (Handle → X → X) → X → X
 by_handle (Ok handle) change x = change handle x
 by_handle (Err e) change x = x

@@ -79,8 +79,9 @@ pub data PastEvent : Type 0 where
 abbrev pub History : Type 0
 History = List PastEvent
 
--- the history with one more command, if its row reports check 0. The history records neither a
--- refused command, nor a command that returned MEMORY instead of succeeding
+-- the history with one more command if it was accepted, that is, if its row reports check 0. The
+-- history records neither a refused command, nor a command that returned MEMORY instead of
+-- succeeding
 abbrev pub with_command : Record → Result Accepted RefusedCommand → (check : ℕ)
     → History → History
 with_command r (Ok a) zero history = Done (command_of r a) ∷ history

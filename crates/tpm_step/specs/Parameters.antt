@@ -20,10 +20,10 @@ abbrev pub asks_for : Direction → Entry → Bool
 asks_for direction.Decrypt e = decrypts e
 asks_for direction.Encrypt e = encrypts e
 
--- these bytes, decrypted or encrypted by a session. The nonces are nonceCaller and nonceTPM to
--- decrypt, and the new nonceTPM and nonceCaller to encrypt. The key contains the authorization
--- value of the handle that the session authorizes, even if the session is bound to that entity
--- (unlike the key of an HMAC)
+-- these bytes, decrypted or encrypted by a session. Decryption uses nonceCaller and nonceTPM;
+-- encryption uses the new nonceTPM and nonceCaller. The key contains the authorization value of the
+-- handle that the session authorizes, even if the session is bound to that entity (unlike the key
+-- of an HMAC)
 abbrev pub session_bytes : Direction → Session → (value : List ℕ) → Entry → List ℕ → List ℕ
 session_bytes direction.Decrypt s value e = plain_parameter s value e.nonce s.nonce_tpm
 session_bytes direction.Encrypt s value e = encrypted_parameter s value s.nonce_tpm e.nonce

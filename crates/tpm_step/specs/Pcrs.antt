@@ -35,7 +35,7 @@ names_pcr (handle ∷ handles) pcr = handle.number == pcr
 
 -- ---- how a command changes the value of a PCR in a bank
 
--- a PCR's value after it is extended by each digest of its bank in turn
+-- a PCR's value after it is extended with each digest of its bank in turn
 abbrev pub extended_by_all : HashAlg → Result (List DigestValue) Refused → List ℕ → List ℕ
 extended_by_all bank (Ok digests) old = fold (value_extended bank) old digests
 extended_by_all bank (Err e) old = old

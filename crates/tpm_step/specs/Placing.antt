@@ -6,7 +6,7 @@ use Rattle.tpm_object.specs.declared.object.Object.{Object}
 use Rattle.tpm_record.specs.Objects.{with_object}
 use Rattle.tpm_record.specs.Record.{Record}
 
--- the slots of the transient objects, with this object in this slot; unchanged if there is no slot
+-- the slots of the transient objects, with this object in this slot; unchanged if the slot is None
 abbrev pub placed_at : Option ℕ → Object → List (Option Object) → List (Option Object)
 placed_at (Some place) object places = with_object places place object
 placed_at None object places = places

@@ -1,5 +1,5 @@
 -- Policies, computed from the history alone. TPM 2.0 Library, Part 3, section 23, and Part 1,
--- section 19.7. An accepted assertion passed its checks, so only its effect on the policy is
+-- section 19.7. An accepted assertion passed its checks. Therefore only its effect on the policy is
 -- defined here.
 use Rattle.std.specs.Prelude.{ℕ, Bool, List, [], ◌∷◌, Result, Ok, Err}
 use Rattle.std.specs.Int.{w8, w32}
@@ -37,8 +37,8 @@ pcr_parts_in history hash p = record {
 
 -- the assertion of a command after a history, on a session with this hash and this nonceTPM. For
 -- TPM2_PolicyNV the policy contains the Name of the index, but not the compared bytes, which a
--- history does not record. So `compared` is empty here; the effect of the assertion does not depend
--- on it
+-- history does not record. Therefore `compared` is empty here; the effect of the assertion does not
+-- depend on it
 abbrev pub assertion_by : Code → AcceptedCommand → History → HashAlg → (nonce_tpm : List ℕ)
     → Result Assertion Refused
 assertion_by command.PolicyPcr c history hash nonce_tpm = do
@@ -82,7 +82,7 @@ assertion_by command.PolicyNv c history hash nonce_tpm = do
   }))
 assertion_by _ c history hash nonce_tpm = Err handle_refusal
 
--- the list of assertions, with the new assertion in front if it could be parsed
+-- the list of assertions, with the new assertion added at the front if it could be parsed
 abbrev pub with_assertion : Result Assertion Refused → List Assertion → List Assertion
 with_assertion (Ok assertion) assertions = assertion ∷ assertions
 with_assertion (Err e) assertions = assertions

@@ -23,9 +23,8 @@ abbrev pub HasPolicyOf : HashAlg → List Assertion → Option EntityParts → T
 HasPolicyOf hash assertions (Some entity) = entity.digest ≡ (evaluated hash false assertions).digest
 HasPolicyOf hash assertions None = ⊥
 
--- the assertion that the selected PCRs have the values that they have after this history. A
--- policy's digest contains neither the pcrDigest argument nor the update counter, so these are
--- empty
+-- the assertion that the selected PCRs have the values that they have after this history. The
+-- pcrDigest argument and the update counter are empty, because a policy's digest contains neither
 abbrev pub pcrs_as_in : History → HashAlg → List BankSelection → PcrParts
 pcrs_as_in history hash selection = record {
   given = [];
@@ -54,8 +53,8 @@ UsesItsCommand =
     → HasPolicyOf s.hash (CommandCode (code_number c.command.code) ∷ []) (policy_at c place)
 
 -- If a session whose only assertion is TPM2_PolicyNvWritten authorizes the use of an entity, the
--- entity is an NV index, and it is WRITTEN or not as its policy requires. Therefore an index whose
--- policy requires that it is not written does not have WRITTEN at the use.
+-- entity is an NV index, and it has WRITTEN set or not as its policy requires. Therefore an index
+-- whose policy requires that it is not written does not have WRITTEN set at the use.
 abbrev pub UsesAsWritten : Type 0
 UsesAsWritten =
     (history : History) (c : AcceptedCommand) (place : ℕ) (e : Entry) (s : LiveSession)

@@ -68,8 +68,8 @@ pub record WritesIndex (c : AcceptedCommand) (place : ℕ) (public : NvPublic)
     pub no_auth_write : index_has public.attributes mark.AuthWrite ≡ false
     pub auth_policy : public.auth_policy ≡ policy_digest public.name_alg policy
 
--- The entry at this position of a command names a policy session with this hash. The property holds
--- for the use, unless texts of the policy and of the session break the hash.
+-- The entry at this position of a command names a policy session with this hash. Unless texts of
+-- the policy and of the session break the hash, the property holds for the use.
 pub record IsUsedBySession (history : History) (c : AcceptedCommand) (place : ℕ) (hash : HashAlg)
     (policy : PolicyExpression) (Holds : PolicyUse → Type 0) : Type 0
   where
@@ -136,8 +136,8 @@ NeedsPcrsAndPin history c =
 
 -- ---- policies of a PIN or a recovery secret
 
--- the written policy that requires the entity's own authorization value, or that of the entity with
--- this Name
+-- the written policy that requires either the entity's own authorization value or that of the
+-- entity with this Name
 abbrev pub by_pin_or_secret : (name reference : List ℕ) → PolicyExpression
 by_pin_or_secret name reference =
     PolicyOr (Branch (Then Nothing PolicyAuthValue)

@@ -53,8 +53,9 @@ ShowsAuthValue u =
     ≡ auth_of u.history u.handle)
 
 -- A use meets an assertion of its policy. The command code, the cpHash, the locality and the
--- written state are those of the use itself (Part 3, sections 23.11, 23.13, 23.8 and 23.20).
--- TPM2_PolicySecret and TPM2_PolicyNV were accepted for its session before the use.
+-- written state that the assertion requires are those of the use (Part 3, sections 23.11, 23.13,
+-- 23.8 and 23.20). TPM2_PolicySecret and TPM2_PolicyNV were accepted for its session before the
+-- use.
 abbrev pub IsMetBy : PolicyUse → PolicyAssertion → Type 0
 IsMetBy u (PolicyPcr selection digest) = HasPcrsNow u selection digest
 IsMetBy u PolicyAuthValue = ShowsAuthValue u
@@ -79,9 +80,9 @@ pub record HasAuthPolicy (c : AcceptedCommand) (place : ℕ) (hash : HashAlg)
     pub auth_policy : policy_at c place
         ≡ Some (record { hash = hash; digest = policy_digest hash policy })
 
--- If a policy session authorizes a use, the use meets every policy whose digest is the entity's
--- authPolicy, along one branch at each TPM2_PolicyOR, unless texts of the policy and of the session
--- break the hash.
+-- If a policy session authorizes a use, then, unless texts of the policy and of the session break
+-- the hash, the use meets every policy whose digest is the entity's authPolicy, along one branch at
+-- each TPM2_PolicyOR.
 abbrev pub MeetsPolicies : (history : History) (c : AcceptedCommand) (place : ℕ) → Handle
     → (e : Entry) → Ground history c place e → Type 0
 MeetsPolicies history c place handle e (ByPassword names takes has) = Unit {0}

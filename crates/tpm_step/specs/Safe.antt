@@ -12,15 +12,17 @@ use Rattle.tpm_step.specs.Entries.{DrawsFew}
 use Rattle.tpm_step.specs.Events.{PlainEvent, Given, Cycled, Placed}
 use Rattle.tpm_step.specs.Step.{Accepted, Stepped, accepted, counted_in}
 
--- the record after a command's elapsed time; unchanged by a power cycle and by a placed object
+-- the record after the elapsed time of a command; unchanged for a power cycle and for a placed
+-- object
 abbrev pub only_ticked : Record → PlainEvent → Record
 only_ticked r (Given buffer locality elapsed random) = ticked r elapsed
 only_ticked r Cycled = r
 only_ticked r (Placed object) = r
 
 -- A refused command gets a response of ten bytes with the refusal's code, and the row reports the
--- check. The record changes only by the elapsed time and by a failed try, if the refusal counts
--- one. Which command the row names is unspecified here.
+-- check. The elapsed time is added to the record. Nothing else changes, except the lockout state if
+-- the refusal counts as a failed try or disables lockoutAuth. Which command the row names is
+-- unspecified here.
 abbrev pub IsHarmless : Record → PlainEvent → Stepped → Type 0
 IsHarmless r event x = x.row.check ≢ 0
     → (length x.response ≡ 10)

@@ -68,7 +68,7 @@ acceptance r c locality random = do
   Ok (record { command = c; grants = grants; request = q; success = success })
 
 -- The command is refused as the definition says. Or an allocation can fail, and a command that
--- would succeed and grows something is refused with MEMORY.
+-- would succeed, but may allocate, is refused with MEMORY.
 abbrev pub RefusesOrWantsMemory : Bool → Whole → Result Accepted Refused → Refused → Type 0
 RefusesOrWantsMemory can c (Err refused) e = e ≡ refused
 RefusesOrWantsMemory can c (Ok a) e =
@@ -89,8 +89,8 @@ abbrev pub Accepts : Bool → Result Accepted Refused → Whole → List (Option
 Accepts can a c grants old (Ok done) answer new = Succeeds a c grants answer new
 Accepts can a c grants old (Err e) answer new = (new ≡ old) × RefusesOrWantsMemory can c a e
 
--- the accepted command that a buffer encodes, or the first refusal. In the record, the command's
--- elapsed time has already passed
+-- the accepted command that a buffer encodes, or the first refusal. The command's elapsed time has
+-- already been added to the record
 unfoldable pub accepted : Record → List ℕ → ℕ → List ℕ → Result Accepted RefusedCommand
 accepted r buffer locality random = do
   command ← general r buffer
@@ -142,7 +142,7 @@ abbrev pub refusal_without_memory : Record → Whole → Stepped
 refusal_without_memory r c =
     refusal_step r (record { code = code_number c.code; refused = memory_refusal })
 
--- the step of an accepted command when allocations fail: MEMORY if the command grows something, and
+-- the step of an accepted command when allocations fail: MEMORY if the command may allocate, and
 -- otherwise its success
 abbrev pub success_without_memory : Record → List ℕ → Accepted → Stepped
 success_without_memory r random a =
@@ -159,8 +159,8 @@ abbrev pub answer_where : Bool → Record → List ℕ → Result Accepted Refus
 answer_where false r random a = stepped_of r random a
 answer_where true r random a = answer_without_memory r random a
 
--- the step of an event, when allocations fail (true) or succeed (false); the elapsed time of a
--- command passes first. A placed object has no response, and it changes nothing if all slots are
+-- the step of an event, when allocations fail (true) or succeed (false). The elapsed time of a
+-- command is added first. A placed object has no response, and it changes nothing if all slots are
 -- taken
 abbrev pub step_where : Bool → Record → PlainEvent → Stepped
 step_where refused r (Given buffer locality elapsed random) =

@@ -41,47 +41,49 @@ use Rattle.tpm_step.specs.Potential.{period}
 
 -- ---- events that are failed tries
 
--- whether a refusal counts a failed try on a protected entity other than LOCKOUT
+-- whether a refusal increments failedTries: it is a failed try for a protected entity other than
+-- lockout
 abbrev pub is_try : Counted → Bool
 is_try counted.None = false
 is_try counted.Try = true
 is_try counted.Lockout = false
 
--- whether a command is refused and the refusal counts a failed try
+-- whether a command is refused and the refusal increments failedTries
 abbrev pub counts_try : Result Accepted RefusedCommand → Bool
 counts_try (Ok a) = false
 counts_try (Err e) = is_try e.refused.counted
 
--- whether an event is a command whose refusal counts a failed try
+-- whether an event is a command whose refusal increments failedTries
 abbrev pub fails_try : Record → PlainEvent → Bool
 fails_try r (Given buffer locality elapsed random) =
     counts_try (accepted (ticked r elapsed) buffer locality random)
 fails_try r Cycled = false
 fails_try r (Placed object) = false
 
--- An entry touches the entity whose authorization value the device uses to check the entry. This is
--- the entity that the entry has to authorize, if its value is compared with the password or is part
--- of the HMAC's key. Otherwise it is the entity to which the session was bound at its start. If a
--- session may not authorize the entity, nothing is compared and nothing is touched.
+-- The device checks an entry with the authorization value of one entity: the entry touches this
+-- entity. It is the entity that the entry has to authorize, if its value is compared with the
+-- password or is part of the HMAC's key. Otherwise it is the entity to which the session was bound
+-- at its start. If a session may not authorize the entity, nothing is compared and nothing is
+-- touched.
 
--- the protection of the entity that a session's entry touches, if the entry has to authorize this
--- handle. The last argument is the policy's demand, or the refusal if the session may not authorize
--- the handle
+-- the protection of the entity whose authorization value is used to check a session's entry, if the
+-- entry has to authorize this handle. The last argument is the policy's demand, or the refusal if
+-- the session may not authorize the handle
 abbrev pub touched_where : Record → Session → Handle → Result Demand Refused → Protection
 touched_where r s handle (Ok demand) =
     entry_protection r s (Some (record { handle = handle; demand = demand }))
 touched_where r s handle (Err e) = protection.None
 
--- the protection of the entity that entry n touches, if the entry names this session. The handle is
--- the one that the entry has to authorize, if any
+-- the protection of the entity whose authorization value is used to check entry n, if the entry
+-- names this session. The handle is the one that the entry has to authorize, if any
 abbrev pub touched_of_session : Record → Whole → (locality n : ℕ) → Option Handle → Session
     → Protection
 touched_of_session r c locality n (Some handle) s =
     touched_where r s handle (demanded r c locality n handle s)
 touched_of_session r c locality n None s = entry_protection r s None
 
--- the protection of the entity that an entry touches; a password touches the entity that it has to
--- authorize
+-- the protection of the entity whose authorization value is used to check an entry; for a password,
+-- this is the entity that the password has to authorize
 abbrev pub touched_by : SessionKind → Record → Whole → (locality n : ℕ) → Option Handle → Entry
     → Protection
 touched_by kind.Password r c locality n used e = used_protection r used
@@ -93,7 +95,8 @@ abbrev pub touched : Record → Whole → (locality n : ℕ) → Option Handle �
 touched r c locality n used e = touched_by (session_kind e.session) r c locality n used e
 
 -- The command's authorization is refused with AUTH_FAIL for the entry at this position, counted
--- from 0, and the entry touches a protected entity other than LOCKOUT.
+-- from 0. The entry was checked with the authorization value of a protected entity other than
+-- lockout.
 pub record FailsTry (r : Record) (locality : ℕ) (buffer : List ℕ) : Type 0 where
   pub command : Whole
   pub place : ℕ
@@ -121,7 +124,8 @@ abbrev pub check_for : Option Handle → Check
 check_for (Some handle) = check.Authorization
 check_for None = check.Others
 
--- the refusal with AUTH_FAIL of an entry that touches a protected entity other than LOCKOUT
+-- the refusal with AUTH_FAIL of an entry that was checked with the authorization value of a
+-- protected entity other than lockout
 abbrev pub try_refusal : Whole → (place : ℕ) → Refused
 try_refusal c place = failure (check_for (used_in c place)) (place + 1) protection.Tries
 
@@ -153,7 +157,7 @@ elapsed_in executions = sum_by (λ (one : Execution). elapsed_of one.event) exec
 abbrev pub failures_in : List Execution → ℕ
 failures_in executions = count_by (λ (one : Execution). fails_try one.before one.event) executions
 
--- whether a command clears the failed tries or sets their parameters
+-- whether a command clears failedTries or sets the lockout parameters
 abbrev pub resets_tries : CommandCode → Bool
 resets_tries command.DictionaryAttackLockReset = true
 resets_tries command.DictionaryAttackParameters = true
@@ -165,7 +169,7 @@ is_reset (Done c) = resets_tries c.command.code
 is_reset PowerCycled = false
 is_reset (ObjectPlaced at object) = false
 
--- No command of this history clears the failed tries or sets their parameters.
+-- No command of this history clears failedTries or sets the lockout parameters.
 abbrev pub HasNoReset : History → Type 0
 HasNoReset history = AllByRecursion (λ (one : PastEvent). is_reset one ≡ false) history
 
@@ -198,7 +202,7 @@ FailsFew can old executions new =
     → old.fixed.lockout.fields.recovery_time ≢ 0
     → failures_in executions ≤ tries_at_most old executions
 
--- The event is an accepted command that clears the failed tries or sets their parameters.
+-- The event is an accepted command that clears failedTries or sets the lockout parameters.
 pub record IsReset (one : PastEvent) : Type 0 where
   pub accepted : AcceptedCommand
   pub is : one ≡ Done accepted

@@ -1,4 +1,4 @@
--- What the view of a handle shows about its entity: its Name, its policy, whether it is written,
+-- What the view of a handle shows about its entity: its Name, its policy, whether WRITTEN is set,
 -- its protection against dictionary attacks, and what can authorize it. TPM 2.0 Library, Part 1,
 -- sections 16 (Names), 19.2 (roles), 19.7 (policies) and 19.8 (dictionary attacks), and Part 2,
 -- section 13.4 (TPMA_NV).
@@ -48,9 +48,9 @@ abbrev pub object_takes : Means → Public → Bool
 object_takes means.AuthValue public = has public.attributes attribute.UserWithAuth
 object_takes means.Policy public = is_policy public.auth_policy
 
--- whether an NV index accepts this means of authorization for a command with this use. It accepts
--- its authValue if it has AUTHREAD or AUTHWRITE, but never in the role ADMIN. If it has a policy,
--- it accepts the policy if it has POLICYREAD or POLICYWRITE, and always in the role ADMIN
+-- whether an NV index accepts this means of authorization for a command that uses it in this way.
+-- It accepts its authValue if it has AUTHREAD or AUTHWRITE, but never in the role ADMIN. If it has
+-- a policy, it accepts the policy if it has POLICYREAD or POLICYWRITE, and always in the role ADMIN
 abbrev pub index_takes : Means → NvUse → NvPublic → Bool
 index_takes means.AuthValue does.Read public = index_has public.attributes mark.AuthRead
 index_takes means.AuthValue does.Write public = index_has public.attributes mark.AuthWrite
@@ -61,13 +61,14 @@ index_takes means.Policy does.Write public =
     index_has public.attributes mark.PolicyWrite && is_policy public.auth_policy
 index_takes means.Policy does.Administer public = is_policy public.auth_policy
 
--- whether the viewed entity accepts this means of authorization, for a command with this use
+-- whether the viewed entity accepts this means of authorization, for a command that uses it in this
+-- way
 abbrev pub view_takes : Means → NvUse → View → Bool
 view_takes means nv_use (OfObject public) = object_takes means public
 view_takes means nv_use (OfIndex public) = index_takes means nv_use public
 view_takes means nv_use (OfHandle handle) = permanent_is_available means
 
--- whether an NV index is written; None for every other entity
+-- whether an NV index has WRITTEN set; None for every other entity
 abbrev pub view_written : View → Option Bool
 view_written (OfIndex public) = Some (index_has public.attributes mark.Written)
 view_written other = None

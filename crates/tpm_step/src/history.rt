@@ -98,8 +98,8 @@ pub fn stretch_history_laws()
 {}
 
 /// A run executes its events one after another. After the run, the device follows the history with
-/// all accepted events. Conversely, executions one after another are a run if a closure is called
-/// with each outcome.
+/// all accepted events added. Conversely, executions one after another are a run if a closure is
+/// called with each outcome.
 #[inline(always)]
 pub fn run_history_laws<F: FnMut(&Outcome)>()
     ensures follows { (can : Bool) (old : Record) (p : F) (events : List PlainEvent) (new : Record)
@@ -121,7 +121,8 @@ pub fn view_laws()
         → c.views ≡ map (view_of r) c.command.handles }
 {}
 
-/// A TPM Resume restores the values that the PCRs had at the last shutdown.
+/// The values that a history records as saved are those that the PCRs had at the last shutdown. A
+/// TPM Resume restores them for PCR 0 to 15.
 #[inline(always)]
 #[tactic(auto, using(crate::proofs::DevicePcrs::saved_are))]
 pub fn shutdown_laws()
@@ -141,7 +142,7 @@ pub fn live_session_laws()
 
 /// An entity that exists has the authorization value that the history determines for its handle.
 /// The value is empty for PCRs, for TPM_RH_NULL, and for every other handle that is not of a
-/// hierarchy, lockout, an NV index or an object. No authorization value ends in a zero.
+/// hierarchy, lockout, an NV index or an object. No authorization value ends in a zero byte.
 #[inline(always)]
 #[tactic(auto, using(crate::proofs::DeviceAuthValues::present_auth_value, crate::proofs::TrimmedValues::told_values_are_trimmed))]
 pub fn auth_value_laws()
@@ -181,8 +182,8 @@ pub fn counter_laws()
         → ExceedsEarlier new history meanwhile handle after }
 {}
 
-/// If the execution of a command reports check 0, the history records the command, and the event's
-/// buffer encodes it.
+/// If a command is accepted (its row reports check 0), the history records it as the command that
+/// the event's buffer encodes.
 #[inline(always)]
 pub fn recorded_laws()
     ensures { (can : Bool) (old : Record) (buffer : List ℕ) (locality elapsed : ℕ)
@@ -200,9 +201,9 @@ pub fn grounds_laws()
         → AllHaveGrounds (history_after [] executions) }
 {}
 
-/// If a buffer with an HMAC is accepted twice, and its HMAC session survives in between, the
-/// session has the nonceTPM of the first event again, unless two different texts have the same
-/// HMAC, each with the key at its event.
+/// If a buffer with an HMAC is accepted twice, and its HMAC session survives in between, then the
+/// session has the nonceTPM of the first event again, or two different texts have the same HMAC.
+/// Each of the two HMACs is computed with the key at its event.
 #[inline(always)]
 pub fn replay_laws()
     ensures { (can : Bool) (random : List ℕ) (executions : List Execution) (new : Record)
@@ -224,7 +225,8 @@ pub fn policy_laws()
 {}
 
 /// An event is a failed try if and only if its authorization is refused with AUTH_FAIL for an entry
-/// that touches a protected entity other than LOCKOUT. The response is AUTH_FAIL for that entry.
+/// that is checked with the authorization value of a protected entity other than lockout. The
+/// response is AUTH_FAIL for that entry.
 #[inline(always)]
 pub fn failed_try_laws()
     ensures exactly { (old : Record) (event : PlainEvent)
@@ -241,7 +243,7 @@ pub fn session_start_laws()
 {}
 
 /// Only an accepted TPM2_DictionaryAttackLockReset, TPM2_DictionaryAttackParameters or TPM2_Clear
-/// clears the failed tries or sets their parameters.
+/// clears failedTries or sets the lockout parameters.
 #[inline(always)]
 pub fn reset_laws()
     ensures { (one : PastEvent) → (is_reset one ≡ true ↔ IsReset one) }
@@ -277,9 +279,9 @@ pub fn alike_laws()
 {}
 
 /// In every history of a device, each use of an entity was authorized by a password, an HMAC
-/// session or a policy session. Each use by a policy session met every policy whose digest is the
-/// authPolicy of the used entity, along one branch at each TPM2_PolicyOR, unless texts of the
-/// policy and of the session break the hash.
+/// session or a policy session. Unless texts of the policy and of the session break the hash, each
+/// use by a policy session met every policy whose digest is the authPolicy of the used entity,
+/// along one branch at each TPM2_PolicyOR.
 #[inline(always)]
 pub fn auth_policy_laws()
     ensures { (can : Bool) (random : List ℕ) (executions : List Execution) (new : Record)

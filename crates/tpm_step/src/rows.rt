@@ -49,7 +49,7 @@ ghost use Rattle.tpm_step.specs.rows.Sizes.{AreSized};
 
 use crate::event::Outcome;
 
-/// A success changes nothing except its command's part of the state.
+/// A success changes only its command's part of the state (`part_of`).
 #[inline(always)]
 #[tactic(auto, using(crate::proofs::rows::Table::row_touches))]
 pub fn footprint_laws()
@@ -57,10 +57,10 @@ pub fn footprint_laws()
         → IfOk (row_of r c q) (λ s. Touches (part_of c) r s.after) }
 {}
 
-/// A success changes the NV indices only as its command's part of the state allows. An index is
-/// written or locked, a counter is incremented, an authorization value changes, or an index is
-/// defined or undefined. A startup and TPM2_Clear have their effects on all indices. Every other
-/// success leaves the indices unchanged.
+/// A success changes the NV indices only as allowed for its command. An index is written or locked,
+/// a counter is incremented, an authorization value changes, or an index is defined or undefined. A
+/// startup and TPM2_Clear have their effects on all indices. Every other success leaves the indices
+/// unchanged.
 #[inline(always)]
 #[tactic(auto, using(crate::proofs::rows::Table::row_changes))]
 pub fn index_change_laws()
@@ -77,9 +77,9 @@ pub fn answer_shape_laws()
         → IfOk (row_of r c q) (AnswersItsShape c) }
 {}
 
-/// The success of a command that grows takes one more slot. The success of any other command takes
-/// no more slots. The exception is TPM2_EvictControl, which may also remove an object: it takes or
-/// frees one slot.
+/// The success of a command that grows fills one more slot. The success of any other command fills
+/// no further slot. The exception is TPM2_EvictControl, which may also remove an object: it fills
+/// or frees one slot.
 #[inline(always)]
 #[tactic(auto, using(crate::proofs::rows::Table::row_grows))]
 pub fn growth_laws()
@@ -165,8 +165,8 @@ pub fn later_handle_laws()
         → general r buffer ≡ Ok c → Passes check.Handles (acceptance r c locality random) }
 {}
 
-/// If a command passes the general checks, the whole buffer encodes it. So a buffer decodes to only
-/// one command, whatever the record.
+/// If a command passes the general checks, the whole buffer encodes it. Therefore a buffer decodes
+/// to only one command, whatever the record.
 #[inline(always)]
 #[tactic(auto, using(crate::proofs::Decoding::general_reads, crate::proofs::Decoding::one_command))]
 pub fn decoding_laws()
@@ -223,7 +223,8 @@ pub fn acceptance_laws()
         → IfOk (accepted r buffer locality random) (IsAcceptance r locality random) }
 {}
 
-/// After a row, the step changes only sessions and the state that a shutdown saved.
+/// After the row's effect, the rest of the step changes only sessions and the state that a shutdown
+/// saved.
 #[inline(always)]
 #[tactic(auto, using(crate::proofs::rows::Leaving::answered_only, crate::proofs::rows::Leaving::success_leaves))]
 pub fn effect_laws()
@@ -242,8 +243,8 @@ pub fn started_laws()
         → (success_step a random).after.fixed.started ≡ true }
 {}
 
-/// Only the authorization counts failed tries or disables lockoutAuth. General checks and rows do
-/// not.
+/// Only refusals by the authorization checks increment failedTries or disable lockoutAuth. Refusals
+/// by general checks and by rows do not.
 #[inline(always)]
 #[tactic(auto, using(crate::proofs::rows::Table::row_plain, crate::proofs::rows::Uncounted::general_plain))]
 pub fn uncounted_laws()
@@ -262,9 +263,9 @@ pub fn new_device_size_laws()
     ensures cycled { (r : Record) → AreSized (cycled r) }
 {}
 
-/// A success draws no more of the event's 256 random bytes than the limit, and exactly as many as
-/// the command's code and parameters say. TPM2_Startup counts as 0 here: it has no entries, and so
-/// no nonces are drawn after its own bytes.
+/// A success draws at most `draw_limit` of the event's 256 random bytes, and exactly as many as the
+/// command's code and parameters determine. TPM2_Startup counts as 0 here: it has no entries, and
+/// therefore no nonces are drawn after its own bytes.
 #[inline(always)]
 #[tactic(auto, using(crate::proofs::rows::Table::row_draws, crate::proofs::rows::Table::row_draws_so))]
 pub fn draw_laws()

@@ -355,7 +355,7 @@ late_counted : (Fit : Type 0) (x : Result BankValues ChangeFault)
     → Late Fit (or_refusal (λ fault. action_refusal action.Second (plain code.Failure)) x)
 late_counted Fit x = grind arith
 
--- TPM2_Clear counts an update of the PCRs, or is refused
+-- the PCR update of TPM2_Clear is refused, or it increments the number of updates
 clear_counts : (refusal : ChangeFault → Refused) (banks : BankValues)
     → IfOk (or_refusal refusal (clear_counted banks))
     (λ new. new ≡ record banks { update_count = banks.update_count + 1 })

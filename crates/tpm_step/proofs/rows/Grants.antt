@@ -52,7 +52,7 @@ unfolding session_grant demanded
 session_refuses r c locality n None e s = search (rules, err_bind, err_if, failure_is)
 session_refuses r c locality n (Some handle) e s = search (rules, err_bind, err_if, failure_is, demand_refuses)
 
--- if the session of an entry exists, only check G9 or G10 refuses the entry
+-- if the session of an entry exists, only check G9 or G10 can refuse the entry
 there_refuses : (r : Record) (c : Whole) (locality n : ℕ) (used : Option Handle) (e : Entry) (o : Option Session) → is_some o ≡ true → RefusesAuthorization (session_grant_if r c locality n used e o)
 there_refuses r c locality n used e None there = absurd (false≢true there)
 there_refuses r c locality n used e (Some s) there = session_refuses r c locality n used e s
@@ -66,7 +66,7 @@ grant_refuses : (r : Record) (c : Whole) (locality n : ℕ) (used : Option Handl
 unfolding grant
 grant_refuses r c locality n used e has = kind_refuses (session_kind e.session) r c locality n used e has
 
--- if the sessions of all entries exist, only check G9 or G10 refuses the entries
+-- if the sessions of all entries exist, only check G9 or G10 can refuse the entries
 walk_refuses : (r : Record) (c : Whole) (locality : ℕ) (before : List (Option Grant)) (es : List Entry) → HaveSessions r es → RefusesAuthorization (grants_pass r c locality before es)
 walk_refuses r c locality before [] have = tt
 walk_refuses r c locality before (e ∷ es) have =

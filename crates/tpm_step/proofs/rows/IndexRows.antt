@@ -86,8 +86,8 @@ late_if : {F : Type 0} (Fit : Type 0) (refusal : F → Refused) (b : Bool) (faul
 late_if Fit refusal true fault late = late
 late_if Fit refusal false fault late = tt
 
--- A command looks up the index that it changes. If the index is missing, a late check refuses; but
--- the index exists if the handles fit.
+-- A step that looks up an index refuses late (`Late`), if the index exists whenever the handles
+-- fit, and if the later steps refuse late.
 late_index : {X F : Type 0} (Fit : Type 0) (refusal : F → Refused) (nv : NvContents) (h : Handle)
     (absence : F) (f : NvIndex → Result X F) → refusal absence ≡ handle_refusal
     → (Fit → is_some (index_at nv h) ≡ true) → ((i : NvIndex) → Late Fit (or_refusal refusal (f i)))
@@ -136,8 +136,8 @@ late_read_locked : (Fit : Type 0) (nv : NvContents) (h : Handle)
 unfolding read_locked
 late_read_locked Fit nv h there = search changes
 
--- If a command sets a new authorization value of its only handle, an NV index, only late checks
--- refuse in this step.
+-- Setting the authorization value of an NV index refuses late (`Late`), if the handle fits a rule
+-- for NV indices whenever all handles of the command fit.
 late_auth_value : (Fit : Type 0) (r : Record) (role : Option Role) (h : Handle) (value : List ℕ)
     → (Fit → FitsRule r (record { kind = handle_kind.NvIndex; role = role }) h)
     → Late Fit (or_refusal (λ absence. handle_refusal) (with_auth_value r.nv h value))
@@ -303,7 +303,7 @@ nv_increment_laws = record {
   tells = λ s covers r q free. index_secrets.nv_increment_tells s r q free;
 }
 
--- the row of TPM2_NV_ChangeAuth, whose only handle is nvIndex, refuses in order
+-- the row of TPM2_NV_ChangeAuth, whose only handle is nvIndex, satisfies `Orders`
 change_auth_orders : (r : Record) (q : Request)
     → Orders r (admin handle_kind.NvIndex ∷ []) q.handles (kind.Buffer 32 ∷ []) q.parameters (nv_change_auth_row r q)
 unfolding nv_change_auth_row

@@ -1,4 +1,5 @@
--- After a row, the step changes only sessions and the state that a shutdown saved.
+-- After the row's effect, the rest of the step changes only sessions and the state that a shutdown
+-- saved.
 use Rattle.std.proofs.Common.{ℕ, Bool, true, false, cond, List, [], ◌∷◌, Option, Some, None, drop, refl, ap, sym, subst, ◌∙◌}
 use Rattle.std.specs.Option.{option_map_or}
 use Rattle.tpm_mac.specs.declared.algorithm.HashAlg.{HashAlg}

@@ -1,4 +1,4 @@
--- The steps of a row that refuses in order, and consequences of the order.
+-- The order in which a row refuses (`Orders`): its proof, step by step, and its consequences.
 use Rattle.std.specs.Option.{option_map_or}
 use Rattle.std.specs.Prelude.{◌==◌, ◌||◌, if◌then◌else◌, is_some, not, ok_or}
 use Rattle.std.proofs.Common.{◌+◌, ◌∙◌, ◌∷◌, ◌≡◌, ◌⊎◌, Bool, Err, IfErr, List, None, Ok, Option}
@@ -40,7 +40,8 @@ use Rattle.tpm_step.proofs.rows.Readings.{read_one, trimmed_read}
 
 -- ---- consequences of the order
 
--- a row that refuses in order refuses parameters if and only if they are not of their kinds
+-- a row that refuses in order (`InOrder`) does not refuse parameters of its kinds, and refuses
+-- others with their first fault, unless it refuses a handle first
 pub in_order_reads : {X : Type 0} (Fit : Type 0) (s : Result (Unit {0}) Refused)
     (row : Result X Refused) → InOrder Fit s row → ReadsParameters s row
 in_order_reads Fit (Ok u) (Ok x) order = tt
@@ -52,7 +53,7 @@ in_order_reads Fit (Err fault) (Err e) (inl handle) = inr handle.0
 in_order_reads Fit (Err fault) (Err e) (inr (inl same)) = inl (sym cc)
 in_order_reads Fit (Err fault) (Err e) (inr (inr late)) = let never = late.0 in absurd cc
 
--- a row that refuses in order refuses no handle if the handles fit
+-- a row that refuses in order (`InOrder`) refuses no handle if the handles fit
 pub in_order_passes : {X : Type 0} (Fit : Type 0) (s : Result (Unit {0}) Refused)
     (row : Result X Refused) → IfErr s (λ e. e.check ≡ check.Parameters) → InOrder Fit s row → Fit
     → Passes check.Handles row
@@ -64,7 +65,7 @@ in_order_passes Fit s (Err e) faults (inr (inl fault)) fit = λ same.
     absurd cc
 in_order_passes Fit s (Err e) faults (inr (inr late)) fit = λ same. subst (IsLate Fit) same late.1 fit
 
--- a row that refuses in order never refuses with MEMORY
+-- a row that refuses in order (`InOrder`) never refuses with MEMORY
 pub in_order_wants : {X : Type 0} (Fit : Type 0) (s : Result (Unit {0}) Refused)
     (row : Result X Refused) → IfErr s (λ e. e.check ≡ check.Parameters) → InOrder Fit s row
     → Passes check.Memory row
@@ -89,7 +90,7 @@ spelled_faults n (kind ∷ kinds) text = err_bind _ (parameter n (behind_kind ki
 
 -- ---- steps that read a handle
 
--- authHandle, nvIndex and the index's attributes, as a row reads them
+-- how a row reads authHandle, nvIndex and the index's attributes
 abbrev target_at : Record → List Handle → Result Target Refused
 target_at r handles = do
   auth_handle ← first_handle handles
@@ -97,7 +98,7 @@ target_at r handles = do
   attributes ← attributes_of r handle
   Ok (record { auth_handle = auth_handle; handle = handle; attributes = attributes })
 
--- a row refuses in order, if it reads the first handle and the rest refuses in order
+-- a row satisfies `Orders` if it reads the first handle, and the rest of the row satisfies `Orders`
 pub behind_first : {X : Type 0} (r : Record) (rule : HandleRule) (rules : List HandleRule)
     (handles : List Handle) (kinds : List ParameterKind) (text : List ℕ)
     (f : Handle → Result X Refused)
@@ -107,7 +108,8 @@ pub behind_first : {X : Type 0} (r : Record) (rule : HandleRule) (rules : List H
 behind_first r rule rules [] kinds text f more = record { order = inl (refl, λ fit. fit) }
 behind_first r rule rules (h ∷ hs) kinds text f more = more h (λ fit. fit.0)
 
--- a row refuses in order, if it reads the second handle and the rest refuses in order
+-- a row satisfies `Orders` if it reads the second handle, and the rest of the row satisfies
+-- `Orders`
 pub behind_second : {X : Type 0} (r : Record) (first rule : HandleRule) (rules : List HandleRule)
     (handles : List Handle) (kinds : List ParameterKind) (text : List ℕ)
     (f : Handle → Result X Refused)
@@ -118,7 +120,7 @@ behind_second r first rule rules [] kinds text f more = record { order = inl (re
 behind_second r first rule rules (h ∷ []) kinds text f more = record { order = inl (refl, λ fit. fit.1) }
 behind_second r first rule rules (h ∷ k ∷ hs) kinds text f more = more k (λ fit. fit.1.0)
 
--- a row refuses in order, if it reads the third handle and the rest refuses in order
+-- a row satisfies `Orders` if it reads the third handle, and the rest of the row satisfies `Orders`
 pub behind_third : {X : Type 0} (r : Record) (first second rule : HandleRule)
     (rules : List HandleRule) (handles : List Handle) (kinds : List ParameterKind) (text : List ℕ)
     (f : Handle → Result X Refused)
@@ -130,8 +132,8 @@ behind_third r first second rule rules (h ∷ []) kinds text f more = record { o
 behind_third r first second rule rules (h ∷ k ∷ []) kinds text f more = record { order = inl (refl, λ fit. fit.1.1) }
 behind_third r first second rule rules (h ∷ k ∷ l ∷ hs) kinds text f more = more l (λ fit. fit.1.1.0)
 
--- a row refuses in order, if it reads the first handle of TPM2_PolicySecret for its assertion and
--- the rest refuses in order
+-- a row satisfies `Orders` if it makes an assertion from its first handle, as TPM2_PolicySecret
+-- does, and the rest of the row satisfies `Orders`
 pub behind_entity : {A X : Type 0} (r : Record) (rule : HandleRule) (rules : List HandleRule)
     (handles : List Handle) (kinds : List ParameterKind) (text : List ℕ)
     (g : Handle → Result A Refused) (f : A → Result X Refused)
@@ -140,8 +142,8 @@ pub behind_entity : {A X : Type 0} (r : Record) (rule : HandleRule) (rules : Lis
 behind_entity r rule rules [] kinds text g f more = record { order = inl (refl, λ fit. fit) }
 behind_entity r rule rules (h ∷ hs) kinds text g f more = more h
 
--- a row refuses in order, if it looks up the entity of a handle, which exists if the handles fit,
--- and the rest refuses in order
+-- a row satisfies `Orders` if it looks up an entity that exists whenever the handles fit, and the
+-- rest of the row satisfies `Orders`
 pub behind_found : {A X : Type 0} (r : Record) (rules : List HandleRule) (handles : List Handle)
     (o : Option A) (kinds : List ParameterKind) (text : List ℕ) (f : A → Result X Refused)
     → (HandlesFit r rules handles → is_some o ≡ true)
@@ -191,8 +193,8 @@ pub behind_index : {X : Type 0} (r : Record) (rules : List HandleRule) (handles 
     → Orders r rules handles kinds text (index_or_refusal r h >>= f)
 behind_index r rules handles role h kinds text f fits more = behind_found r rules handles (index_at r.nv h) kinds text f (λ fit. index_there r role h (fits fit)) more
 
--- a row refuses in order, if it reads authHandle, nvIndex and the index's attributes, and the rest
--- refuses in order
+-- a row satisfies `Orders` if it reads authHandle, nvIndex and the index's attributes, and the rest
+-- of the row satisfies `Orders`
 pub behind_target : {X : Type 0} (r : Record) (first : HandleRule) (others : List HandleRule)
     (handles : List Handle) (kinds : List ParameterKind) (text : List ℕ)
     (f : Target → Result X Refused)
@@ -219,8 +221,8 @@ behind_target r first others (h ∷ k ∷ hs) kinds text f more =
     found (Some i) there next = next i.public.attributes there
     found None there next = record { order = inl (refl, λ fit. false≢true (there fit)) }
 
--- a row refuses in order, if it reads authHandle, nvIndex and the index's attributes for an
--- assertion, and the rest refuses in order
+-- a row satisfies `Orders` if it makes an assertion from authHandle, nvIndex and the index's
+-- attributes, and the rest of the row satisfies `Orders`
 pub behind_target_asserted : {A X : Type 0} (r : Record) (first : HandleRule)
     (others : List HandleRule) (handles : List Handle) (kinds : List ParameterKind) (text : List ℕ)
     (g : Target → Result A Refused) (f : A → Result X Refused)
@@ -239,7 +241,8 @@ late_after : {X : Type 0} (Fit : Type 0) (s : Result (Unit {0}) Refused)
 late_after Fit s (Ok x) is late = is
 late_after Fit s (Err e) is late = inr (inr (is, late))
 
--- a row refuses in order, if it reads all parameters and then refuses only by late checks
+-- a row satisfies `Orders` if it parses all parameters first, and everything after that refuses
+-- late (`Late`)
 pub behind_reading : {P X : Type 0} (r : Record) (rules : List HandleRule) (handles : List Handle)
     (kinds : List ParameterKind) (text : List ℕ) (read : Result P Refused)
     (f : P → Result X Refused) → outcome read ≡ spelled 1 kinds text
@@ -248,8 +251,8 @@ pub behind_reading : {P X : Type 0} (r : Record) (rules : List HandleRule) (hand
 behind_reading r rules handles kinds text (Ok p) f is late = record { order = late_after _ _ (f p) (sym is) (late p) }
 behind_reading r rules handles kinds text (Err e) f is late = record { order = inr (inl (sym is)) }
 
--- a row refuses in order, if it reads all parameters, makes another value of them, such as an
--- assertion, and then refuses only by late checks
+-- a row satisfies `Orders` if it parses all parameters first and converts them, for example to an
+-- assertion, and everything after that refuses late (`Late`)
 pub behind_handed : {P A X : Type 0} (r : Record) (rules : List HandleRule) (handles : List Handle)
     (kinds : List ParameterKind) (text : List ℕ) (read : Result P Refused) (g : P → A)
     (f : A → Result X Refused) → outcome read ≡ spelled 1 kinds text
@@ -260,18 +263,19 @@ behind_handed r rules handles kinds text (Err e) g f is late = behind_reading r 
 
 -- ---- steps that refuse late
 
--- one of the command's own checks is a late check
+-- a refusal by one of the command's own checks is late (`Late`)
 pub late_own_fault : {X : Type 0} (Fit : Type 0) (x : Result X ActionFault)
     → Late Fit (or_refusal fault_refusal x)
 late_own_fault Fit (Ok u) = tt
 late_own_fault Fit (Err fault) = tt
 
--- the proof steps for rows: those that read handles or parameters, and those that refuse late
+-- the rules for the steps of rows: those that read handles, those that read parameters, and those
+-- that refuse late
 pub ruleset handle_steps = (behind_first, behind_second, behind_third, behind_entity, behind_index, behind_target, behind_target_asserted)
 
 pub ruleset reading_steps = (behind_reading, behind_handed, all_read_outcome, only_read, read_one, read_all, trimmed_read)
 
 pub ruleset late_steps = (rules, err_bind, err_if, err_or, err_fault, late_own_fault)
 
--- the proof steps for all rows that refuse in order
+-- the rules with which `Orders` is proved for a row
 pub ruleset ordered_steps = (handle_steps, reading_steps, late_steps)

@@ -1,5 +1,5 @@
--- The part of the state that a success changes determines how many slots the success takes, and
--- what it does to sessions.
+-- The part of the state that a success changes determines how many further slots the success fills,
+-- and what it does to sessions.
 use Rattle.std.specs.Prelude.{is_some}
 use Rattle.std.proofs.Common.{◌∙◌, ◌≡◌, ◌≤◌, Bool, List, Option, ap, arith, false, inl, inr, length}
 use Rattle.std.proofs.Common.{true}
@@ -48,8 +48,8 @@ pub same_sessions : (r : Record) (sessions : List (Option Session))
     → Grows false r (record r { sessions = sessions })
 same_sessions r sessions same = omega (arith, same)
 
--- whether a success that changes this part takes no more slots of sessions, objects (transient or
--- persistent) and NV indices, however it changes the part
+-- whether a success that changes this part never needs another slot for a session, an object
+-- (transient or persistent) or an NV index, however it changes the part
 abbrev pub keeps_places : Part → Bool
 keeps_places Nothing = true
 keeps_places AuthValues = true

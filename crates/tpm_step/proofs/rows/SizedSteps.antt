@@ -129,7 +129,7 @@ answer_sized c grants a effect random enough sized =
 -- ---- steps
 
 -- An accepted command leaves a record in which the fields of all sessions have the right sizes, and
--- it leaves enough of 256 random bytes for new nonces.
+-- it leaves enough of the 256 random bytes for new nonces.
 abbrev Fits : Accepted → Type 0
 Fits a = AreSized a.success.after × (a.success.answer.drawn + 32 * length a.command.entries ≤ 256)
 

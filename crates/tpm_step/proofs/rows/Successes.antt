@@ -17,7 +17,8 @@ use Rattle.tpm_step.proofs.Binding.{ok_bind}
 use Rattle.tpm_step.proofs.rows.Parts.{keeps_places, leaves_sessions, sessions_same}
 use Rattle.tpm_step.proofs.rows.Parts.{touched_grows, touched_same}
 
--- If a success takes no more slots, it grows as the command's shape says.
+-- The command does not grow: if a success fills no further slot, this is what the command's shape
+-- requires.
 abbrev pub GrowsNothing : CommandCode → Type 0
 GrowsNothing c = (old new : Record) → Grows false old new → GrowsAsShaped c old new
 
@@ -25,7 +26,7 @@ abbrev pub GrowsByOne : CommandCode → Type 0
 GrowsByOne c = (old new : Record) → Grows true old new → GrowsAsShaped c old new
 
 -- A success that leaves the sessions unchanged satisfies the laws about rows, if its changes, its
--- answer and its draws are those of its command.
+-- answer and its draws are as defined for its command.
 pub beside_sessions : (c : CommandCode) (r : Record) (q : Request) (s : Success)
     → leaves_sessions (part_of c) ≡ true → Touches (part_of c) r s.after → GrowsAsShaped c r s.after
     → ChangesIndices (part_of c) q r.nv s.after.nv → AnswersItsShape c s → DrawsAsSaid c q s → SuccessLaws c r q s
@@ -42,8 +43,8 @@ beside_sessions c r q s leaves touches grows changes answers draws = record {
     same : s.after.sessions ≡ r.sessions
     same = touched_same (part_of c) r s.after leaves touches
 
--- A success that takes no more slots satisfies the laws about rows, if its changes, its answer and
--- its draws are those of its command.
+-- A success that fills no further slot satisfies the laws about rows, if its changes, its answer
+-- and its draws are as defined for its command.
 pub in_place : (c : CommandCode) (r : Record) (q : Request) (s : Success)
     → leaves_sessions (part_of c) ≡ true → keeps_places (part_of c) ≡ true → GrowsNothing c
     → Touches (part_of c) r s.after → ChangesIndices (part_of c) q r.nv s.after.nv
@@ -55,10 +56,11 @@ in_place c r q s leaves keeps nothing touches changes answers draws =
 pub none_drawn : 0 ≤ 96
 none_drawn = omega arith
 
--- if a command draws as many bytes as its parameters say, it draws `draws_of`
+-- the number of bytes that is computed from parsed parameters is the number that `read_or_none`
+-- computes
 pub drawn_as_read : {P : Type 0} (count : P → ℕ) (x : Result P Refused) (p : P)
     → x ≡ Ok p → count p ≡ read_or_none count x
 drawn_as_read count x p is = sym (ap (read_or_none count) is)
 
--- the proof steps for rows that take no more slots
+-- the rules for the rows of commands that fill no further slot
 pub ruleset in_place_steps = (rules, ok_bind, in_place, none_drawn)

@@ -94,7 +94,8 @@ pub row_touches : (r : Record) (c : CommandCode) (q : Request)
     → IfOk (row_of r c q) (λ s. Touches (part_of c) r s.after)
 row_touches r c q = of_success _ r c q (λ s laws. laws.touches)
 
--- a success changes the NV indices as its command's part of the state allows
+-- a success changes the NV indices only as allowed for the part of the state that its command
+-- changes
 pub row_changes : (r : Record) (c : CommandCode) (q : Request)
     → IfOk (row_of r c q) (λ s. ChangesIndices (part_of c) q r.nv s.after.nv)
 row_changes r c q = of_success _ r c q (λ s laws. laws.changes)

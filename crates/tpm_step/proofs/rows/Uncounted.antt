@@ -1,4 +1,4 @@
--- No general check counts a failed try or disables lockoutAuth.
+-- No refusal by a general check increments failedTries or disables lockoutAuth.
 use Rattle.std.proofs.Common.{Err, IfErr, List, Ok, Result, refl, rules, ℕ}
 use Rattle.tpm_types.specs.declared.refused.Refused.{Refused}
 use Rattle.tpm_commands.specs.CommandCode.{code_number}

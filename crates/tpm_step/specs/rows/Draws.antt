@@ -1,5 +1,5 @@
--- The number of an event's random bytes that a command itself draws, by its code and its
--- parameters. The nonces of its entries are drawn after these. TPM 2.0 Library, Part 3, sections
+-- How many of an event's random bytes a command itself draws, as its code and its parameters
+-- determine. The nonces of its entries are drawn after these. TPM 2.0 Library, Part 3, sections
 -- 11.1 (TPM2_StartAuthSession), 12.1 (TPM2_Create), 16.1 (TPM2_GetRandom) and 24.6 (TPM2_Clear).
 use Rattle.std.specs.Prelude.{ℕ, ◌≡◌, ◌≤◌, ◌+◌, ◌*◌, min, length, false, List, Result, Ok, Err}
 use Rattle.std.specs.Int.{w16}

@@ -1,5 +1,5 @@
--- The fields of a record that the success of a command may change, by the part of the device's
--- state that the command touches.
+-- The fields of a record that the success of a command may change, depending on the part of the
+-- device's state that the command changes.
 use Rattle.std.specs.Prelude.{◌≡◌, ◌⊎◌, ◌+◌, []}
 use Rattle.tpm_types.specs.declared.handle.HierarchyHandle.{HierarchyHandle}
 use Rattle.tpm_actions_device.specs.Clear.{cleared_lockout}
@@ -20,8 +20,8 @@ abbrev pub KeepsSecrets : Hierarchies → Hierarchies → Type 0
 KeepsSecrets old new = (h : HierarchyHandle) → secrets_of new h ≡ secrets_of old h
 
 -- the fixed part f after a startup. The fields that a startup sets are taken from the second
--- argument: whether the device is started, the counts, platformAuth and the null hierarchy, whether
--- lockoutAuth is disabled, and the PCRs. No PCR update is counted yet
+-- argument: whether the device is started, resetCount and restartCount, platformAuth and the null
+-- hierarchy, whether lockoutAuth is disabled, and the PCRs. The number of PCR updates is 0
 abbrev pub begun : Fixed → Fixed → Fixed
 begun f after = record f {
   started = after.started;
@@ -45,8 +45,8 @@ StartsNv old new = (new ≡ old) ⊎ (new ≡ started old)
 
 -- the fixed part f after TPM2_Clear. The owner's new seed and proof, and the endorsement
 -- hierarchy's new proof, are taken from the second argument. All authorization values are empty
--- except platformAuth. The failed tries are cleared, an update of the PCRs is counted, and Clock
--- and the counts begin at 0
+-- except platformAuth. The failed tries are cleared, the number of PCR updates is incremented, and
+-- Clock, resetCount and restartCount are 0
 abbrev pub emptied : Fixed → Fixed → Fixed
 emptied f after = record f {
   hierarchies = record f.hierarchies {

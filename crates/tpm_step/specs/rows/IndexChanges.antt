@@ -1,4 +1,4 @@
--- How a success changes the NV indices, by the part of the state that it touches. TPM 2.0
+-- How a success changes the NV indices, depending on the part of the state that it changes. TPM 2.0
 -- Library, Part 3, section 31 (non-volatile storage), and Part 1, section 37.
 use Rattle.std.specs.Prelude.{◌≡◌, ℕ, Bool, false, List, Option, Some, None, Ok, if◌then◌else◌}
 use Rattle.std.specs.Int.{w64, from_be_bytes}
@@ -85,7 +85,8 @@ pub record Undefines (q : Request) (old new : NvContents) : Type 0 where
   pub named : second_handle q.handles ≡ Ok handle
   pub is : new ≡ without_index old handle
 
--- how a success changes the NV indices if it touches this part; other successes do not change them
+-- how a success changes the NV indices if it changes this part of the state; other successes do not
+-- change them
 abbrev pub ChangesIndices : Part → Request → NvContents → NvContents → Type 0
 ChangesIndices NvData q = Writes
 ChangesIndices NvCounter q = Increments q

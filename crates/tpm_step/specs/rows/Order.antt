@@ -11,19 +11,19 @@ use Rattle.tpm_record.specs.Record.{Record}
 use Rattle.tpm_step.specs.rows.Handles.{HandlesFit}
 use Rattle.tpm_step.specs.rows.Shapes.{spelled}
 
--- The check comes after the row has parsed its parameters. It is one of the command's own checks,
--- or the check of handles if the handles do not fit.
+-- A late check is one that comes after the row has parsed its parameters. It is one of the
+-- command's own checks, or the check of handles if the handles do not fit.
 abbrev pub IsLate : Type 0 → Check → Type 0
 IsLate Fit (check.Action own) = Unit {0}
 IsLate Fit check.Handles = Fit → ⊥
 IsLate Fit _ = ⊥
 
--- If the row refuses, the check that refused is a late one.
+-- If the row refuses, the failed check is a late one (`IsLate`).
 abbrev pub Late : {X : Type 0} → Type 0 → Result X Refused → Type 0
 Late Fit row = IfErr row (λ e. IsLate Fit e.check)
 
--- The refusal comes in the right order. A handle is refused first, unless the handles fit. The
--- first fault of the parameters comes next. A late check comes last, if the parameters could be
+-- The refusal is one of three, in this order: a handle is refused, if the handles do not fit; the
+-- first fault of the parameters is reported; or a late check fails, after the parameters could be
 -- parsed.
 abbrev pub IsInPlace : Type 0 → Result (Unit {0}) Refused → Refused → Type 0
 IsInPlace Fit spelling e =
@@ -35,8 +35,8 @@ abbrev pub InOrder : {X : Type 0} → Type 0 → Result (Unit {0}) Refused → R
 InOrder Fit spelling (Ok x) = spelling ≡ Ok tt
 InOrder Fit spelling (Err e) = IsInPlace Fit spelling e
 
--- The row of a command with these handle rules and these kinds of parameters refuses in order. This
--- also holds for the rest of a row after some of its steps.
+-- The row of a command with these handle rules and these kinds of parameters refuses in order.
+-- `row` may also be the rest of a row after some of its steps.
 pub record Orders {X : Type 0} (r : Record) (rules : List HandleRule) (handles : List Handle)
     (kinds : List ParameterKind) (text : List ℕ) (row : Result X Refused) : Type 0 where
   pub order : InOrder (HandlesFit r rules handles) (spelled 1 kinds text) row

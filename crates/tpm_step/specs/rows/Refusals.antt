@@ -4,12 +4,12 @@ use Rattle.tpm_types.specs.declared.check.Check.{Check}
 use Rattle.tpm_types.specs.declared.check.Check.TheVariants as check
 use Rattle.tpm_types.specs.declared.refused.Refused.{Refused}
 
--- If the result is a refusal, another check refused.
+-- If the result is a refusal, it is not by this check.
 abbrev pub Passes : {X : Type 0} → Check → Result X Refused → Type 0
 Passes check result = IfErr result (λ e. e.check ≢ check)
 
--- If the result is a refusal, the check of the entries that authorize handles (G9) refused, or the
--- check of the other entries (G10).
+-- If the result is a refusal, it is by the check of the entries that authorize handles (G9), or by
+-- that of the other entries (G10).
 abbrev pub RefusesAuthorization : {X : Type 0} → Result X Refused → Type 0
 RefusesAuthorization result =
     IfErr result (λ e. (e.check ≡ check.Authorization) ⊎ (e.check ≡ check.Others))

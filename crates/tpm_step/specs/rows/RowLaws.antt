@@ -18,7 +18,7 @@ use Rattle.tpm_step.specs.rows.Shapes.{AnswersItsShape, GrowsAsShaped}
 use Rattle.tpm_step.specs.rows.Sizes.{AreSized}
 
 -- A success changes only its command's part of the state, and changes the NV indices as that part
--- allows. It takes slots and returns values as the command's shape says. It draws as many random
+-- allows. It fills slots and returns values as the command's shape says. It draws as many random
 -- bytes as `draws_of` says. If the command may have sessions, all sessions still exist after it.
 -- The fields of sessions keep the right sizes.
 pub record SuccessLaws (c : CommandCode) (r : Record) (q : Request) (s : Success) : Type 0 where

@@ -46,13 +46,13 @@ abbrev pub taken_in : Record → ℕ
 taken_in r =
     taken_count r.sessions + taken_count r.objects + length r.persistent + length r.nv.indices
 
--- If the command grows something, it takes one more slot. Otherwise, no more slots are taken than
+-- If the command grows something, it fills one more slot. Otherwise, no more slots are filled than
 -- before.
 abbrev pub Grows : Bool → Record → Record → Type 0
 Grows true old new = taken_in new ≡ taken_in old + 1
 Grows false old new = taken_in new ≤ taken_in old
 
--- A success of TPM2_EvictControl takes or frees one slot. A success of any other command takes one
+-- A success of TPM2_EvictControl fills or frees one slot. A success of any other command fills one
 -- more slot if and only if its shape says that it grows.
 abbrev pub GrowsAsShaped : CommandCode → Record → Record → Type 0
 GrowsAsShaped command.EvictControl old new = Grows true old new ⊎ Grows true new old
@@ -98,8 +98,8 @@ abbrev pub ParametersFail : {X : Type 0} → Refused → Result X Refused → Ty
 ParametersFail fault (Ok s) = ⊥
 ParametersFail fault (Err e) = (e ≡ fault) ⊎ (e.check ≡ check.Handles)
 
--- The row refuses the parameters if and only if they are not of these kinds, and then it refuses
--- with the first fault.
+-- The row does not refuse parameters of these kinds. It refuses other parameters with their first
+-- fault, unless it refuses a handle first.
 abbrev pub ReadsParameters : {X : Type 0} → Result (Unit {0}) Refused → Result X Refused → Type 0
 ReadsParameters (Ok done) row = Passes check.Parameters row
 ReadsParameters (Err fault) row = ParametersFail fault row

@@ -3,7 +3,7 @@ use Rattle.tpm_types_command.specs.AuthEntry.{entry_of}
 use Rattle.tpm_step.specs.Entries.{entries_rolled}
 use Rattle.tpm_machine.proofs.entries.roll_entries.Given as goal
 
--- Rolling the remaining entries from the present state gives the same result as rolling all entries
+-- Rolling the remaining entries from the current state gives the same result as rolling all entries
 -- from the initial state.
 abbrev pub invariant-loop-entry : goal.invariant-loop-entry
 invariant-loop-entry g l =
