@@ -205,7 +205,7 @@ comparison state command number grant entry session = do
 
 -- the grant of entry n, whose handle names a session. If the entry has a handle to authorize, the
 -- session must be able to authorize it. If not, even a trial session may be used, for example to
--- encrypt a parameter (the specification leaves this open; this device allows it)
+-- encrypt a parameter (a choice of this implementation)
 unfoldable pub session_grant : Record
     → Whole → (locality n : ℕ) → Option Handle → Entry → Session → Result (Option Grant) Refused
 session_grant state command locality number None entry session =
