@@ -28,8 +28,8 @@ from tpmsim.device import DeviceEnded, KeptDevice
 WATCHED = str(pathlib.Path(sys.modules[KeptDevice.__module__].__file__).parent)
 SECONDS, LEAST_LINES = 5, 5
 
-# The number of signals that interrupt calls, and the maximum delay after the beginning of a call, in
-# seconds.
+# The number of signals that interrupt calls, and their maximum delay after the beginning of a call,
+# in seconds.
 SIGNALS, MOST_DELAY = 400, 200e-6
 
 # How long the lock is held, and when the signal comes, in seconds. The lock is released much later.

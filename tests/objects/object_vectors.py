@@ -4,8 +4,7 @@
 
 The program uses hashlib and hmac, and aes.py for the cipher, but not object_rules.py. It states the
 equations of objects again, each on its own line, with the numbers of one example. It compares the
-script's responses, which the Python device computes, with the results. Run as a program, it also
-prints each step.
+script's responses, which the Python device computes, with the results. It also prints each step.
 """
 
 import hashlib
