@@ -154,9 +154,7 @@ class Crates:
         return self.read[name]
 
     def find(self, path: str) -> Found | None:
-        """Returns the public item at a path, such as `tpm_machine::Machine::run`, or None if there
-        is none.
-        """
+        """Returns the public item at a path, such as `tpm_machine::Machine::run`, or None."""
         name, *words = path.split("::")
         crate = self.crate(name)
         modules = []

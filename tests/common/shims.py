@@ -18,7 +18,7 @@ AT_MOST = 60
 SHOWN = 2000
 SERVE = "serve --socket socket --image image --entropy entropy --locality 0 --connections".split()
 
-# Files that any run may leave behind.
+# Files that any run may leave in its folder.
 OWN = {"image", "image.lock", "entropy"}
 
 # Functions that allocate memory and that the shim refuse.c does not replace.
@@ -106,7 +106,7 @@ class Room:
 
     @property
     def left(self):
-        """Returns the names of other files that a run has left behind."""
+        """Returns the names of other files that a run has left in the folder."""
         return tuple(sorted({path.name for path in self.path.iterdir()} - OWN))
 
 

@@ -55,8 +55,8 @@ OLD, NEW = ", the old image stays", ", the new image is there"
 
 @dataclass(frozen=True)
 class End:
-    """The result of a call that fails: the ending of the run, the files that the run leaves behind,
-    and further results.
+    """The result of a call that fails: the ending of the run, the files that the run leaves, and
+    further results.
     """
 
     ending: Ending
@@ -150,7 +150,7 @@ def random_of(number):
 @dataclass(frozen=True)
 class Service:
     """The result of a run: its ending, the responses to each connection, the image, and the other
-    files that are left behind.
+    files in the folder.
     """
 
     ending: Ending
