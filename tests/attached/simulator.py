@@ -137,7 +137,8 @@ def recorded() -> None:
 
 
 def repeated() -> None:
-    """With a seed, each run draws the same random bytes. Without a seed, the bytes are always new.
+    """With a seed, each run draws the same random bytes, but two draws in a run differ. Without a
+    seed, all bytes are new.
     """
     for words in (["--seed", "00ff", "--clock", "commands"], []):
         draws = []

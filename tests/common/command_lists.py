@@ -65,7 +65,7 @@ Check = Callable[[Documents], List]
 
 
 def the_list(texts: Documents) -> List:
-    """Each command is in the list, with the page and anchor of its section, and with its code."""
+    """The list must contain each command, with the page and anchor of its section, and its code."""
     pages = pages_of(texts)
     wanted = [
         (it.name, pages.get(it.name), f"tpm2_{it.name}-{int(it):x}".lower(), f"{int(it):X}")
@@ -84,7 +84,7 @@ def pages_of(texts: Documents) -> dict[str, str]:
 
 
 def sections(texts: Documents) -> List:
-    """Each section has the command's code and the form of its line."""
+    """Each section must contain its command's code and the form of its line."""
     wanted = [(it.name, f"{int(it):X}", lines.form_of(it)) for it in CC]
     return List(wanted, [it for text in texts.values() for it in SECTION.findall(text)])
 

@@ -39,7 +39,7 @@ MOST_LEFT = 100
 # not divide the number of ways to change a byte. The library reads all texts.
 FIRST, STEP = 100, 11
 
-# The clock of the device whose image is damaged. The time that really passed is not included.
+# The clock of the device whose image is damaged, instead of the time that really passed.
 CLOCK = 0x0102_0304
 
 
@@ -133,8 +133,8 @@ class Comparison:
         self.kind(name, (it for at, it in enumerate(texts) if at < FIRST or at % self.step == 0))
 
     def is_saved_again(self, words, text):
-        """Checks that a device that opens an image saves that image again, or its version 2. Each
-        text is tried once. A text that the program refuses is skipped, since it was counted before.
+        """Checks that a device that opens an image saves the same image in version 2. Each text is
+        tried once. A text that the program refuses is skipped, since it was counted before.
         """
         if text in self.saved or self.program.fault_of(text) is not None:
             return

@@ -230,7 +230,7 @@ def sample(parameter) -> str:
 
 
 def words(program: Program, codes: list[CC]) -> Iterator[Asked]:
-    """Compares the parameters that `tpmsim line` prints in hex."""
+    """Compares how `tpmsim line` prints the parameters of commands."""
     ended = [assembled(line.encode()) for code in codes for line in parameter_lines(code)]
     buffers = list(dict.fromkeys(it.output.decode().strip() for it in ended if not it.status))
     return told(program, "line", buffers, lambda it: line_told(bytes.fromhex(it)))
@@ -434,7 +434,9 @@ def with_fact(code: CC, fact: Fact) -> dict:
 
 @dataclass(frozen=True)
 class Wrong:
-    """A wrong fact about a command: the check that has to find it, and the changes that make it."""
+    """A wrong description of one fact: the check that must find the mistake, the command, and its
+    changes.
+    """
 
     what: str
     check: str

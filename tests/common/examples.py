@@ -154,7 +154,7 @@ def template(public: Public, data: bytes = b"") -> object_rules.Template:
 
 
 def creation(public: Public, data: bytes = b"") -> bytes:
-    """Returns the parameters that create an object."""
+    """Returns the parameters of a command that creates an object."""
     asked = template(public, data)
     sensitive = frames.sensitive_create(b"abc", data)
     return frames.creation(sensitive, sized(public.text), asked.outside_info, asked.pcrs)

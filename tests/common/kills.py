@@ -1,7 +1,7 @@
 """Kills a served device at random moments, and checks its image after each kill:
 
     python3 kills.py PROGRAM COUNT SEED          prints whether all checks succeeded
-    python3 kills.py PROGRAM COUNT SEED counts   also prints at which moments the kills happened
+    python3 kills.py PROGRAM COUNT SEED counts   also prints how often kills hit each stage
 
 The test works in the current folder. The device has two indices: a counter, and an index of 8
 bytes. Each connection reads both, increments the counter, and writes the counter's new number to

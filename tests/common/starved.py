@@ -41,7 +41,7 @@ def out_of(name):
 
 
 def check_words(program):
-    """Tests runs that are determined by their command line."""
+    """Tests runs that need only arguments, and no client."""
     script, line = str(SCRIPT), "Startup 0"
     pathlib.Path("bad").write_text("do Startup 3 3\n", "ascii")
     pathlib.Path("startup").write_text("do Startup 0\n", "ascii")

@@ -50,7 +50,7 @@ def extends(program: str) -> int:
 
 
 def together(program: str, processes: int, each: int) -> None:
-    """Runs several processes at once, each of which makes `each` extends."""
+    """Runs several processes at once. Each process extends PCR 16 `each` times."""
     before = extends(program)
     runs = [begun(program, EXTEND * each) for _ in range(processes)]
     said = [line for run in runs for line in answers(run)]

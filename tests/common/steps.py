@@ -75,8 +75,7 @@ class Steps(Teller):
         transient: Sequence[int] = (0x8000_0000, 0x8000_0008, 0x80FF_FFFF),
         persistent: Sequence[int] = (0x8100_0000,),
     ) -> None:
-        """Sends a command while there is no object: on handles of other kinds, and on handles of
-        objects.
+        """Sends a command on handles of other kinds, and on handles of objects that do not exist.
         """
         self.says(NO_OBJECT, *map(prepare, (*OTHERS, *more)))
         words = "A transient object, while there is none: REFERENCE_H0"
@@ -107,7 +106,7 @@ class Steps(Teller):
         flushed: str = "It is flushed",
         **more: Any,
     ) -> Iterator[int]:
-        """Makes a primary object, and flushes it at the end."""
+        """Makes a primary object, and flushes it at the end of the `with` block."""
         handle = self.create_primary(what, hierarchy, public, *uses, **more)
         yield handle
         self.flush_objects(flushed, handle)
@@ -116,7 +115,7 @@ class Steps(Teller):
     def loaded(
         self, what: str, parent: int, made: Made, *uses: Means, flushed: str = "It is flushed"
     ) -> Iterator[int]:
-        """Loads an object below its parent, and flushes it at the end."""
+        """Loads an object below its parent, and flushes it at the end of the `with` block."""
         handle = self.load(what, parent, made, *uses)
         yield handle
         self.flush_objects(flushed, handle)

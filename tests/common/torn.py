@@ -1,4 +1,4 @@
-"""Makes the calls fail, one by one, with which `tpmsim` accesses files, its socket and the clock:
+"""Makes the calls of `tpmsim` that access files, its socket and the clock fail, one by one:
 
     python3 torn.py PROGRAM
 
@@ -293,7 +293,7 @@ def check_torn(program, label, text, calls, at):
 
 
 def check_service(program, label, text):
-    """Makes each call of a run fail that serves, with or without an image."""
+    """Makes each call fail in a run that serves, with or without an image."""
     model, whole = Model(text), served(program, text).told
     calls = program.noted()
     if whole != Service(WELL, [model.answers(it) for it in SENT], model.image, ()):
@@ -312,7 +312,7 @@ def check_service(program, label, text):
 
 
 def check_words(program, label, words, stdin=b""):
-    """Makes each call of a run fail that only reads and prints. The run must end with `tpmsim:
+    """Makes each call fail in a run that only reads and prints. The run must end with `tpmsim:
     file`, after it has printed a prefix of its usual output.
     """
 

@@ -58,7 +58,7 @@ def begin_anew():
 
 
 def begin_beside_left():
-    """Makes the same folder, with a socket on which no process listens."""
+    """Empties the folder, and adds random bytes and a socket on which no process listens."""
     begin_anew()
     with socket.socket(socket.AF_UNIX, socket.SOCK_STREAM) as left:
         left.bind(str(ROOM.path / "socket"))

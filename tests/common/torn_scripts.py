@@ -1,4 +1,4 @@
-"""Makes the calls fail, one by one, with which `tpmsim run --image` accesses files:
+"""Makes the calls of `tpmsim run --image` that access files fail, one by one:
 
     python3 torn_scripts.py PROGRAM
 
@@ -76,7 +76,8 @@ def answers_to(process):
         for line in LINES:
             process.stdin.write(f"{line}\n".encode())
             if line.startswith("do"):
-                # Waits for each response, so that each run makes the same calls.
+                # Sends all lines since the last command at once, so that each run makes the same
+                # calls.
                 process.stdin.flush()
                 answer = process.stdout.readline()
                 if not answer.endswith(b"\n"):

@@ -26,7 +26,8 @@ def main():
         while not pathlib.Path(errors).stat().st_size and time.monotonic() < until:
             time.sleep(0.01)
         if number == 2:
-            # Sends nothing for longer than the program waits before it looks again.
+            # The client is silent for longer than the three seconds after which the program looks
+            # for a waiting client.
             time.sleep(4)
         client.close()
 

@@ -130,7 +130,7 @@ as_it_was = (whole[:length] for length in range(len(whole)))
 refused("With the old commandSize", "COMMAND_SIZE", NO_TRY, *as_it_was)
 comes_whole(prepared)
 
-# The entry is right for the remaining parameters, so these parameters are refused themselves.
+# The entry is right for the remaining parameters. Therefore the parameters themselves are refused.
 whole = frames.nv_write(DATA, 2)
 in_data = range(len(sized(DATA)))
 for words, use in (

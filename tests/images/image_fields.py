@@ -24,7 +24,7 @@ class Plain:
 
 @dataclass
 class Sized:
-    """Fields after their size."""
+    """Fields with their size before them."""
 
     fields: list
     size: int = None
@@ -37,7 +37,7 @@ class Sized:
 
 @dataclass
 class Counted:
-    """Groups of fields after their count."""
+    """Groups of fields with their count before them."""
 
     groups: list
     count: int = None

@@ -35,7 +35,7 @@ def body_of(device, layer=None):
 
 
 def changed(change):
-    """Returns the body of the worked device after `change` has changed the device."""
+    """Returns the body of worked_state.py's device after `change` has changed the device."""
     device = worked_state.device()
     change(device)
     return body_of(device)
@@ -86,8 +86,8 @@ def of_object(kind=None, **fields):
 
 
 def spelled(bad, good):
-    """Returns the body of the worked device with `bad` instead of `good`, which occurs once in it,
-    and the unchanged body.
+    """Returns the body of worked_state.py's device with `bad` instead of `good`, which occurs once
+    in it, and the unchanged body.
     """
     body = body_of(worked_state.device())
     assert body.count(good) == 1

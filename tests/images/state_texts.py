@@ -54,11 +54,11 @@ def play_all(tests):
 
 
 def worked():
-    """Checks that the state text of the worked device is the one in the file. That device has
-    something in each field. Each line of the file was compared by hand with
-    docs/table/state_text.md: its field is the next one of the page, and has the same size. The
-    sizes before sized fields are right. So are the numbers of types, algorithms, protection, demand
-    and localities, and the byte of each slot that says whether it is in use. The values that the
+    """Checks that the state text of worked_state.py's device is the one in the file. That device
+    has something in each field. Each line of the file was compared by hand with
+    docs/table/state_text.md: its field is the next one of the page, and has the same size. Also
+    right are the sizes before sized fields; the numbers of types, algorithms, protection, demand
+    and localities; and the byte of each slot that says whether it is in use. The values that the
     script sets (values, nonces, command, times, counts, the layer's numbers) are in their fields.
     """
     text = worked_state.text()

@@ -4,8 +4,8 @@ journal:
     python3 damage_each.py PROGRAM HOSTS SHIM SHARE
 
 Afterwards the journal must either be unchanged, byte for byte, or replaced by a new journal. The
-new journal must contain the device before the damage, or that device after the power cycle. One in
-SHARE runs is made.
+new journal must contain the device before the damage, or that device after the power cycle. Only
+one in SHARE runs is made.
 """
 
 import functools

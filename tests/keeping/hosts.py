@@ -81,7 +81,7 @@ BEGINS = ctypes.CFUNCTYPE(RC, POINTER, ctypes.POINTER(SIZE), ctypes.c_char_p)
 
 
 class Context(ctypes.Structure):
-    """The beginning of TSS2_TCTI_CONTEXT."""
+    """The first fields of TSS2_TCTI_CONTEXT."""
 
     _fields_ = [
         ("magic", ctypes.c_uint64),
@@ -93,7 +93,7 @@ class Context(ctypes.Structure):
 
 
 class Info(ctypes.Structure):
-    """TSS2_TCTI_INFO."""
+    """The structure TSS2_TCTI_INFO."""
 
     _fields_ = [
         ("version", ctypes.c_uint32),

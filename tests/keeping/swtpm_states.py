@@ -3,12 +3,12 @@ libtpms.so.0:
 
     python3 swtpm_states.py FOLDER SHIM SHARE [WORD]
 
-FOLDER is made by `hosts/build.sh libtpms`, and SHIM is the library of failing.c. One in SHARE runs
-is made; with WORD, only those whose label contains it. In each run swtpm has to do some operations,
-and one call on a file in its folder has a fault of VARIANTS. Then swtpm is started again without a
-fault. Its device must have executed the answered operations, and perhaps the unanswered ones; or
-swtpm or the library must report why there is no device. Standard error describes what is wrong, and
-reports the numbers of runs and of such reports.
+FOLDER is made by `hosts/build.sh libtpms`, and SHIM is the library of failing.c. Only one in SHARE
+runs is made; with WORD, only those whose label contains it. In each run swtpm has to do some
+operations, and one call on a file in its folder has a fault of VARIANTS. Then swtpm is started
+again without a fault. Its device must have executed the answered operations, and perhaps the
+unanswered ones; or swtpm or the library must report why there is no device. Standard error
+describes what is wrong, and reports the number of runs, and of those without a device.
 """
 
 import contextlib

@@ -19,8 +19,8 @@ OF_NO_COMMAND = b"\x11" * 32
 tpm = GroundsCaller(__name__, __doc__, tries=True)
 lost, asserts = tpm.lost, tpm.asserts
 
-# The policy of a disk. It requires either the values of PCRs 7 and 11 and the authorization value,
-# or a recovery secret. In addition it requires that the command is TPM2_Unseal.
+# The policy of a disk. It requires either the right PCRs 7 and 11 and the authorization value, or a
+# recovery secret. In addition it requires that the command is TPM2_Unseal.
 VALUES = [digest(SHA256, bytes(32) + digest(SHA256, it)) for it in (SECURE_BOOT, KERNEL)]
 AFTER_PCRS = policy.after_pcr(SHA256, ZEROS, selection(*CHOSEN), digest(SHA256, b"".join(VALUES)))
 BY_SYSTEM = policy.after_auth_value(SHA256, AFTER_PCRS)
@@ -48,8 +48,8 @@ def no_way(session, **demand):
     lost("TPM2_Unseal: POLICY_FAIL/s1", tpm.unsealing(disk, Use(session, **demand)))
 
 
-# The policy of an update. It requires either locality 0, 3 or 4 and a version in an index, or the
-# authorization value of that index.
+# The policy of an update. It requires either the authorization value of an index, or a version in
+# that index and locality 0, 3 or 4.
 
 
 def after_version(old=ZEROS):

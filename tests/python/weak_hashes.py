@@ -57,7 +57,8 @@ def script(algorithm, auth_policy, *assertions):
 
 
 def by_either(first, second, *branches):
-    """Returns such a script for a policy with two branches. The session lists `branches` instead.
+    """Returns a script for a policy with two branches. The session's TPM2_PolicyOR lists `branches`
+    instead.
     """
     told = f"PolicyOR 03000000 {'+'.join(it.hex() for it in branches)}"
     return script(SHA1, policy.after_or(SHA1, [first, second]), "PolicyLocality 03000000 0x1", told)

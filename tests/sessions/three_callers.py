@@ -8,8 +8,8 @@ order, or come one after another:
     tests/sessions/callers_one_after_another.tpm
 
 The response to each command depends on the commands that were accepted before it. After each
-command, the device is compared with the state that its history determines. So is the response to
-TPM2_PCR_Read.
+command, the device is compared with the state that its history determines. The response to
+TPM2_PCR_Read is compared too.
 """
 
 import copy

@@ -42,7 +42,9 @@ class Called:
         self.process.stdin.flush()
 
     def told(self, line: str, last: str | tuple[str, ...]) -> list[str]:
-        """Returns the lines that a line results in, up to the first one that begins with `last`."""
+        """Sends a line. Returns the lines of the answer, up to the first one that begins with
+        `last`.
+        """
         assert self.process.stdout
         self.say(line)
         said: list[str] = []
@@ -54,7 +56,7 @@ class Called:
         return said
 
     def number(self, line: str, name: str) -> int:
-        """Returns the result of a call, which is a number."""
+        """Sends a line. Returns the result of the called function, which is a number."""
         return int(self.told(line, f"{name}: ")[-1].split(": ")[1].split(",")[-1])
 
     def done(self, line: str, name: str) -> None:

@@ -23,8 +23,9 @@ def succeeded(device: Called, buffer: bytes) -> bytes:
 
 
 class LeftDevice:
-    """A device with these entities. `loads` are the commands that load the contexts. With an older
-    library no object is saved, because later libraries have other contexts of objects.
+    """A device with sessions, objects and contexts. `loads` are the commands that load the
+    contexts. With an older library no object is saved, because later libraries have other contexts
+    of objects.
     """
 
     def __init__(self, device: Called, is_older: bool = False) -> None:
