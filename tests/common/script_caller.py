@@ -228,8 +228,8 @@ class ScriptCaller(PreparedCommands):
         return public
 
     def is_now(self, what: str, index: int, *uses: Means, added: int = 0, cleared: int = 0) -> None:
-        """Reads an index's public area. Only the attributes `added` and `cleared` may have changed
-        since it was last read.
+        """Reads an index's public area. The only changes since it was last read must be the
+        attributes `added` and `cleared`.
         """
         wanted = self.publics[index].but(added, cleared)
         public = self.read_index_public(what, index, *uses)
