@@ -1,5 +1,5 @@
-"""Altered scripts and altered images. In an altered script, some commands have random bytes
-changed, some lines are missing or swapped, and sometimes a byte of the text is changed.
+"""Altered scripts and altered images. In an altered script, some commands have random changes, some
+lines are missing or swapped, and sometimes a byte of the text is changed.
 """
 
 from tpmsim.model.image import BODY_AT, DIGEST_AT_END, HEAD_BYTES
@@ -30,7 +30,7 @@ def sized_right(buffer):
     return put(buffer, 2, frames.number(len(buffer), 4)) if len(buffer) >= 6 else buffer
 
 
-# Ways to alter bytes. Each takes a source of random numbers.
+# Functions that alter bytes. Their first argument is a source of random numbers.
 
 
 def bit(random, buffer):
@@ -59,12 +59,12 @@ def more(random, buffer):
 
 
 def doubled(random, buffer):
-    """Returns a buffer in which one part, an entry or a handle, occurs twice."""
+    """Returns the buffer with one part repeated, which may be a handle or an entry."""
     at, size = random.randrange(len(buffer)), random.choice((4, 9, 9, 20))
     return buffer[: at + size] + buffer[at:]
 
 
-# Ways to alter the bytes of a command.
+# Functions that alter the bytes of a command.
 
 
 def handle_within(random, buffer):
@@ -104,8 +104,8 @@ def bent_buffer(random, buffer):
 
 
 def bent_image(random, text):
-    """Returns an image that is altered at one or two offsets, mostly after its seeds. Mostly it has
-    the right length and digest.
+    """Returns an image that is altered once or twice, usually after its seeds. Usually it has the
+    right length and digest.
     """
     for _ in range(random.choice((1, 1, 2))):
         first = 0 if random.random() < 0.2 else BEHIND_SEEDS
@@ -117,8 +117,8 @@ def bent_image(random, text):
 
 
 def bent_lines(random, lines):
-    """Returns the lines, some of which are altered, dropped, doubled, or swapped with the next
-    line.
+    """Returns the lines, and the number of alterations. Some lines are altered, dropped, repeated,
+    or swapped with the next line.
     """
     lines, bent = list(lines), 0
     for at, text in enumerate(lines):

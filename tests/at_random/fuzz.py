@@ -1,11 +1,12 @@
 """Compares a program with the Python device on random input (tools/soak/fuzz.sh):
 
-    fuzz.py PROGRAM SECONDS [SEED]     rounds of the seeds from SEED on, until the time is over
-    fuzz.py PROGRAM --rounds N SEED    N rounds
-    fuzz.py PROGRAM --replay FILE      a script or a stream that an earlier run left
+    fuzz.py PROGRAM SECONDS [SEED]     plays rounds for this time, with the seeds from SEED on
+    fuzz.py PROGRAM --rounds N SEED    plays N rounds
+    fuzz.py PROGRAM --replay FILE      plays a script or a stream that an earlier run saved
 
-A round has a random script, an altered script, and a stream. A stream is connections to a served
-device in consecutive runs, some of them on an altered image. A round depends only on its seed.
+A round consists of a random script, an altered script, and a stream. A stream contains connections
+to a served device in consecutive runs, some of which begin with an altered image. A round depends
+only on its seed.
 """
 
 import contextlib
@@ -33,7 +34,7 @@ SHRINKING_SECONDS = 60
 SHOWN = 200
 
 
-# The comparison of scripts.
+# Functions that compare scripts.
 
 
 def bytes_text(lines):
@@ -41,8 +42,8 @@ def bytes_text(lines):
 
 
 def script_difference(program, lines):
-    """Returns the number of the script's line that differs, the expected output, and the actual
-    one; or None.
+    """Returns None if the program prints what is expected for a script. Otherwise returns the
+    number of the first line that differs, the expected output, and the actual one.
     """
     printed, error = player.played(bytes_text(lines))
     with tempfile.NamedTemporaryFile() as script:
@@ -67,9 +68,10 @@ def bytes_lines(text):
     return text.removesuffix(b"\n").split(b"\n")
 
 
-# The kinds of input. A failure of the Python device is a difference too.
+# The kinds of input.
 
-# The exceptions that a Python device with a defect raises.
+# If the Python device raises one of these exceptions, it has a defect, which counts as a
+# difference.
 DEFECTS = (
     *(ArithmeticError, AssertionError, AttributeError, LookupError, TypeError, ValueError),
     *(Refusal, Short),
@@ -78,9 +80,9 @@ DEFECTS = (
 
 @dataclass
 class Kind:
-    """A kind of input: scripts, altered scripts or streams. It has the file's suffix, how a file's
-    text is divided into lines and joined, and how a difference is found. It counts how many were
-    tried, and what they contained.
+    """A kind of input: scripts, altered scripts or streams. `ending` is the suffix of its files,
+    and `difference` the function that compares an input. `tried` counts the inputs, and what they
+    contained.
     """
 
     name: str
@@ -102,7 +104,9 @@ class Kind:
 
 
 def shrunken(lines, differs):
-    """Returns a smaller input, whose lines are all needed for the difference."""
+    """Removes lines from an input as long as it still differs, for a limited time. Returns the
+    rest.
+    """
     until = time.monotonic() + SHRINKING_SECONDS
     size, before = len(lines), len(lines)
     while size and time.monotonic() < until:
@@ -120,7 +124,9 @@ def shrunken(lines, differs):
 
 
 def shown(wanted, given):
-    """Yields two texts. Long texts begin shortly before the offset at which they differ."""
+    """Yields both texts. Long texts are cut to begin shortly before the first character that
+    differs.
+    """
     same = next((at for at, (a, b) in enumerate(zip(wanted, given)) if a != b), 0)
     first = max(0, same - SHOWN // 4) if max(len(wanted), len(given)) > SHOWN else 0
     for text in (wanted, given):
@@ -180,7 +186,7 @@ class Fuzz:
             self.leave(f"{name}.shrunken.{kind.ending}", lines, found)
 
     def leave(self, name, lines, found):
-        """Writes a file, and prints at which line it differs."""
+        """Writes an input to a file, and prints how it differs."""
         self.folder = self.folder or pathlib.Path(tempfile.mkdtemp(prefix="fuzz."))
         path = self.folder / name
         path.write_bytes(bytes_text(lines))
@@ -195,7 +201,7 @@ def show(path, number, wanted, given):
 
 
 def replay(program, name):
-    """Returns whether the file of an earlier run still differs."""
+    """Plays the input in a file of an earlier run. Returns 1 if it still differs, else 0."""
     path = pathlib.Path(name)
     lines = bytes_lines(path.read_bytes())
     found = (stream_difference if path.suffix == ".stream" else script_difference)(program, lines)

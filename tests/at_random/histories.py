@@ -4,8 +4,8 @@ that its history determines:
     histories.py EVENTS [SEED]
 
 An event is a power cycle or a command, which may be refused. A new device begins every thousand
-events, with the next seed. The program prints how many events were compared, and how many of
-them were accepted. The first difference ends the program, with status 1.
+events, with the next seed. The program prints the number of compared events, and how many of them
+were accepted. At the first difference it ends with status 1.
 """
 
 import itertools
@@ -18,8 +18,8 @@ EVENTS_OF_ONE = 1000
 
 
 def compare(events, seed):
-    """Plays this many events on one device. Returns how many were accepted, and the first
-    difference.
+    """Plays this many events on one device. Returns the number of accepted events, and the first
+    difference, if any.
     """
     writer, history, accepted = Writer(seed), History(), itertools.count()
 

@@ -2,9 +2,9 @@
 
     random_script.py SEED COUNT FOLDER
 
-writes FOLDER/SEED.tpm, with COUNT commands, and FOLDER/SEED.out. Most commands may succeed. Some
-have a wrong field, and some have wrong bytes. tools/soak/random_scripts.sh compares the
-program's responses with these.
+writes COUNT commands to FOLDER/SEED.tpm, and their responses to FOLDER/SEED.out. Most commands may
+succeed. Some have a wrong field, and some have wrong bytes. tools/soak/random_scripts.sh compares
+the program's responses with these.
 """
 
 import contextlib
@@ -31,8 +31,8 @@ KINDS = frames.SE_HMAC, frames.SE_HMAC, frames.SE_POLICY, frames.SE_POLICY, fram
 OPEN = Attribute.FIXED_TPM | Attribute.FIXED_PARENT | Attribute.USER_WITH_AUTH
 STORES = OPEN | Attribute.RESTRICTED | Attribute.DECRYPT | Attribute.SENSITIVE_DATA_ORIGIN
 USES = CC.Unseal, CC.HMAC, CC.Create, CC.Load, CC.PolicySecret
-# The commands that an index can authorize. NV_ChangeAuth, which only a policy can authorize, is the
-# most frequent.
+# The commands that an index can authorize. Only a policy can authorize NV_ChangeAuth, so it occurs
+# most often.
 NV_USES = (
     *(it for it in CC if it.handles and it.handles[0].kind == HandleKind.NV_AUTH),
     *(CC.NV_ChangeAuth,) * 6,
@@ -41,7 +41,7 @@ INDEX_NUMBERS = range(12)
 TYPES = *(nv.Type.ORDINARY,) * 2, *nv.Type
 ASKERS = frames.RH_OWNER, frames.RH_PLATFORM
 
-# Times that pass, in milliseconds; and the parameters of dictionary attack protection.
+# Times to wait, in milliseconds, and the parameters of dictionary attack protection.
 WAITS = 1, 999, 1000, 999_999, 1_000_000, 1_000_001, 2**32 - 1
 MOST_TRIES = 3, 3, 3, 10, 1, 0
 RECOVERIES = 1000, 1000, 1, 0, 2**32 - 1
@@ -52,7 +52,7 @@ def size_of(algorithm):
 
 
 class Writer(random.Random):
-    """Writes random commands for a device whose state it knows."""
+    """Writes random commands for a device whose state the writer knows."""
 
     def __init__(self, seed):
         super().__init__(seed)
@@ -74,7 +74,9 @@ class Writer(random.Random):
         return data[:at] + bytes([data[at] ^ 1 << self.randrange(8)]) + data[at + 1 :]
 
     def fitting(self, digest, algorithm):
-        """Returns the digest if it has the size of this hash; otherwise mostly an empty digest."""
+        """Returns the digest if its size fits the hash algorithm. Otherwise mostly returns an empty
+        digest.
+        """
         return digest if len(digest) in (0, size_of(algorithm)) or self.happens(0.1) else b""
 
     def hash(self):
@@ -84,8 +86,8 @@ class Writer(random.Random):
         return self.choice(handle_kinds.PRIMARY_HIERARCHIES)
 
     def object(self, test=lambda it: True):
-        """Returns the handle of a loaded object, if there is one; rarely the handle of a missing
-        object.
+        """Returns the handle of a loaded object, if there is one. Rarely returns the handle of a
+        missing object.
         """
         fitting = [it for it in self.device.objects if test(self.device.objects[it])]
         if self.happens(0.02) or not fitting:
@@ -93,8 +95,8 @@ class Writer(random.Random):
         return self.choice(fitting)
 
     def session(self, *kinds):
-        """Returns the handle of a session of one of these kinds; rarely of a missing session or of
-        another kind.
+        """Returns the handle of a session of one of these kinds. Rarely returns that of a missing
+        session, or of another kind.
         """
         held = self.device.sessions
         fitting = [it for it in held if held[it].kind in kinds or self.happens(0.02)]
@@ -105,8 +107,8 @@ class Writer(random.Random):
         return self.choice((*HIERARCHIES, *held))
 
     def index(self, test=lambda it: True):
-        """Returns the handle of a defined index, if there is one; rarely of an index that is not
-        defined.
+        """Returns the handle of a defined index, if there is one. Rarely returns that of an
+        undefined index.
         """
         indices = self.device.indices
         fitting = [it for it in indices if test(indices[it].public) or self.happens()]
@@ -121,7 +123,7 @@ class Writer(random.Random):
     # Parameters for objects.
 
     def attributes(self, usual):
-        """Returns the usual attributes of an object, with some changed."""
+        """Returns the usual attributes of an object, with random changes."""
         extra = self.choice((0, 0, Attribute.NO_DA, Attribute.NO_DA | Attribute.ADMIN_WITH_POLICY))
         if self.happens(0.15):
             usual &= ~Attribute.USER_WITH_AUTH
@@ -152,7 +154,7 @@ class Writer(random.Random):
     # Parameters for NV indices.
 
     def nv_attributes(self, hierarchy):
-        """Returns attributes: who may write and read, what may be locked, and the type."""
+        """Returns attributes of an index: who may write and read it, its locks, and its type."""
         some = self.getrandbits(32) & self.getrandbits(32) & nv.NAMED & ~nv_commands.NOT_DEFINED
         attributes = some & ~nv.of_type(nv.TYPE_MASK) | self.choice((0, 0x000E_000E, 0x0006_0006))
         attributes &= ~nv.Attribute.PLATFORMCREATE
@@ -172,8 +174,8 @@ class Writer(random.Random):
         return size_of(algorithm) if kind == nv.Type.EXTEND else nv.NUMBER_BYTES
 
     def nv_policy(self, algorithm):
-        """Returns a policy digest: one that a session has now, one that a session will have, or an
-        earlier one.
+        """Returns a policy digest: the present one of a session, one that a session can reach, or
+        an earlier one.
         """
         held = self.device.sessions.values()
         told = [it.policy for it in held if it.algorithm == algorithm and not it.is_trial]
@@ -204,8 +206,8 @@ class Writer(random.Random):
         return [frames.RH_PLATFORM if by_platform else self.choice(ASKERS), handle]
 
     def asked(self, kind=None, reads=False):
-        """Returns an index, mostly of a certain type, and the handle that authorizes. Mostly that
-        handle may do so.
+        """Returns an authorizing handle and an index, mostly of the given type. Mostly the handle
+        may authorize commands on the index.
         """
         handle = self.index(lambda it: kind in (None, it.kind))
         held = self.device.indices.get(handle)
@@ -234,7 +236,7 @@ class Writer(random.Random):
         return handles, frames.nv_read(self.choice((size, max(0, size - offset), 1)), offset)
 
     def nv_change_auth(self):
-        """Changes mostly the value of an index that a session's policy can authorize now."""
+        """Returns a TPM2_NV_ChangeAuth, mostly on an index whose policy a session satisfies now."""
         told = [it.policy for it in self.device.sessions.values()]
         digests = [it.digest for it in told if it.code == CC.NV_ChangeAuth]
         handle = self.index(lambda it: it.auth_policy in digests)
@@ -256,7 +258,7 @@ class Writer(random.Random):
         (session,), _ = self.told()
         return [*handles, session], frames.policy_nv(operand, offset, operation)
 
-    # The commands. Each function returns handles and parameters.
+    # Methods for commands. Each returns handles and parameters.
 
     def start(self):
         algorithm = self.hash()
@@ -280,7 +282,9 @@ class Writer(random.Random):
         return [self.entity(), handle], parameters
 
     def policy_cp_hash(self):
-        """Asserts mostly the cpHash of a command without parameters, or a recorded cpHash."""
+        """Returns a TPM2_PolicyCpHash, mostly with the cpHash of a command without parameters, or
+        with one that the session already has.
+        """
         (handle,), _ = self.told()
         held = self.device.sessions.get(handle)
         algorithm = held.algorithm if held else SHA256
@@ -311,7 +315,7 @@ class Writer(random.Random):
         return [handle], frames.sized_list(*branches)
 
     def load(self):
-        """Loads an object again that was created before, mostly under its parent."""
+        """Returns a TPM2_Load of a previously created object, mostly below its parent."""
         parent = self.object(lambda it: it.public.is_parent)
         name = self.device.name(parent)
         fitting = [it for it in self.made if it[0] == name or self.happens(0.02)]
@@ -326,7 +330,9 @@ class Writer(random.Random):
         return [self.keyed(signs=True)], sized(data) + number(algorithm, 2)
 
     def keyed(self, signs):
-        """Returns an HMAC key or sealed data; rarely the other of the two, or a storage key."""
+        """Returns the handle of an HMAC key if `signs` is true, otherwise of sealed data. Rarely
+        returns that of another object.
+        """
         wanted = KEYEDHASH, signs
         is_one = lambda public: (public.kind, public.has(Attribute.SIGN)) == wanted
         return self.object(lambda it: is_one(it.public) or self.happens())
@@ -338,12 +344,14 @@ class Writer(random.Random):
     # Commands that change what a device keeps without power.
 
     def parameters(self):
-        """Returns the parameters of dictionary attack protection."""
+        """Returns the handle and the parameters of TPM2_DictionaryAttackParameters."""
         numbers = (self.choice(it) for it in (MOST_TRIES, RECOVERIES, RECOVERIES))
         return [frames.RH_LOCKOUT], frames.attack_parameters(*numbers)
 
     def capability(self):
-        """Lists mostly existing entities, from the first one or from a given handle on."""
+        """Returns a TPM2_GetCapability that mostly lists existing entities, from the first one or
+        from an existing handle on.
+        """
         kinds = 0, 0x40, 1, 2, 2, 3, 0x80, 0x81, 4
         held = [*self.device.objects, *self.device.sessions, *self.device.indices]
         wanted = self.choice((self.choice(kinds) << 24, self.choice(held or [0])))
@@ -439,8 +447,8 @@ class Writer(random.Random):
     # Methods that make entries.
 
     def entries(self, code, handles):
-        """Returns the entries of a command. A handle that needs authorization gets a session or the
-        password. Rarely there are also sessions that only encrypt.
+        """Returns the entries of a command. A handle that needs authorization gets a session or a
+        password. Sometimes there are also sessions that only encrypt.
         """
         found = []
         if code.authorized and not self.happens(0.01):
@@ -474,7 +482,7 @@ class Writer(random.Random):
             entry.attributes |= ENCRYPT
 
     def authenticated(self, command):
-        """Returns the same command with its first parameter encrypted and its HMACs computed."""
+        """Encrypts the first parameter of a command, and computes its HMACs."""
         device, found = self.device, command.with_attribute(DECRYPT)
         if found and found[1].handle in device.sessions:
             _, entry, handle = found
@@ -508,12 +516,12 @@ class Writer(random.Random):
 
     @property
     def lines(self):
-        """Returns the script's lines so far. The lines of buffers are computed here."""
+        """Returns the script's lines so far. Buffers are converted to lines here."""
         return [line(it) if isinstance(it, bytes) else it for it in self.events]
 
     def code(self):
-        """Returns the code of a served command. If the device is locked, about one in ten is a
-        command that unlocks it.
+        """Returns the code of a supported command. During a lockout, about every tenth command ends
+        the lockout.
         """
         if self.device.lockout.is_locked() and self.happens(0.1):
             return self.choice((CC.DictionaryAttackLockReset, CC.DictionaryAttackParameters))
@@ -533,7 +541,9 @@ class Writer(random.Random):
         return self.damaged(frames.buffer_of(code, handles, entries, command.parameters))
 
     def damaged(self, buffer):
-        """Returns the buffer; rarely with a bit changed, or cut with the right commandSize."""
+        """Returns the buffer. Rarely changes one of its bits, or truncates it and corrects
+        commandSize.
+        """
         if self.happens(0.02):
             return self.bent(buffer)
         if self.happens(0.01):
@@ -542,7 +552,7 @@ class Writer(random.Random):
         return buffer
 
     def startup(self):
-        """Returns a TPM2_Startup, which mostly resumes from a saved state if there is one."""
+        """Returns a TPM2_Startup, mostly with STATE if a state is saved."""
         is_saved = self.device.saved == state.Saved.STATE
         kind = state.STATE if is_saved and self.happens(0.7) else state.CLEAR
         return frames.command(CC.Startup, number(kind, 2))
@@ -570,7 +580,7 @@ class Writer(random.Random):
         self.note(buffer, outcome.response, outcome.refused)
 
     def note(self, buffer, response, refused):
-        """Keeps the decrypted responses of TPM2_Create, and the digests that policies have."""
+        """Stores the objects in responses to TPM2_Create, and the policy digests of sessions."""
         if not refused and buffer[:2] == number(frames.SESSIONS, 2):
             if int.from_bytes(buffer[6:10], "big") == CC.Create:
                 fields = reading.Fields(response[14:])
@@ -582,7 +592,7 @@ class Writer(random.Random):
 
 
 def written(seed, count):
-    """Returns the writer after this many commands."""
+    """Returns a writer that has written this many commands."""
     writer = Writer(seed)
     for _ in range(count):
         writer.step()

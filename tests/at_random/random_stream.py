@@ -1,4 +1,4 @@
-"""Random connections to a served device in consecutive runs, as the lines of streams.py."""
+"""Random connections to a served device in consecutive runs, as lines for streams.py."""
 
 from tpmsim.model import state
 from tpmsim.model.image import Fault, image, open_image, VERSION_1
@@ -7,8 +7,8 @@ from tests.at_random.bent_script import bent_image
 from tests.at_random.random_script import MOST_TRIES, Writer
 from tests.common import streams
 
-# The times of dictionary attack protection, in seconds. Each ends after the runs, or never, so that
-# the time that really passes has no effect.
+# The times of dictionary attack protection, in seconds. None of them ends during the runs, so the
+# time that really passes has no effect.
 RECOVERIES = 1000, 2**32 - 1, 0
 LEAST_RECOVERY = 500
 
@@ -17,14 +17,14 @@ MOST_CONNECTIONS, MOST_COMMANDS = 6, 24
 
 
 def parameters(writer):
-    """Returns the parameters of dictionary attack protection."""
+    """Returns the handle and the parameters of TPM2_DictionaryAttackParameters."""
     numbers = (writer.choice(it) for it in (MOST_TRIES, RECOVERIES, RECOVERIES))
     return [frames.RH_LOCKOUT], frames.attack_parameters(*numbers)
 
 
 def is_quick(text):
-    """Returns whether the device of an image may reset a failed try during a run, because time
-    passes.
+    """Returns whether the device of an image may end a failed try or a lockout during a run, only
+    because time passes.
     """
     try:
         lockout = open_image(text).lockout
@@ -35,7 +35,7 @@ def is_quick(text):
 
 
 class StreamWriter(Writer):
-    """Writes connections, with the responses of a device whose state it knows."""
+    """Writes connections to a device whose state the writer knows."""
 
     COMMANDS = {**Writer.COMMANDS, CC.DictionaryAttackParameters: (2, parameters)}
 
@@ -76,8 +76,8 @@ class StreamWriter(Writer):
             self.send(buffer[: self.randrange(len(buffer) or 1)])
 
     def give_image(self):
-        """Adds a run on an image of either version, which is mostly altered. If it is not an image,
-        the earlier image is restored after the run.
+        """Adds a run on an image of either version, which is mostly altered. If the altered text is
+        not an image, the earlier image is restored after the run.
         """
         self.served.end()
         before = given = self.served.image
@@ -105,7 +105,8 @@ class StreamWriter(Writer):
 
 
 def random_stream(seed, runs):
-    """Returns the lines of this many runs on an image, which is rarely removed."""
+    """Returns the lines of this many runs on one image. Rarely the image is removed between runs.
+    """
     writer = StreamWriter(seed)
     for at in range(runs):
         if at == 0 or writer.happens(0.1):

@@ -1,5 +1,5 @@
-"""Runs of `tpmsim serve` by the lines of streams.py: the program's responses, and the expected
-ones.
+"""Serves runs that are described by lines of streams.py with `tpmsim serve`, and compares the
+responses with the expected ones.
 """
 
 import pathlib
@@ -16,7 +16,7 @@ SECONDS = 60
 
 
 def exchanged(client, connection):
-    """Sends the connection's bytes in pieces, and returns the bytes received meanwhile."""
+    """Sends the bytes of a connection in pieces. Returns the bytes that it receives."""
     left, answered, is_sending = connection.sent, b"", True
     while True:
         writers = [client] if is_sending else []
@@ -37,12 +37,12 @@ def exchanged(client, connection):
         except BrokenPipeError:
             is_sending = False
         except ConnectionResetError:
-            # The program closed the connection before it had read all of the bytes.
+            # The program closed the connection before it had read all bytes.
             return answered
 
 
 class Folder:
-    """The folder of the program's files, for all consecutive runs of one device."""
+    """The folder with the program's files, in which consecutive runs serve the same device."""
 
     def __init__(self, program, path):
         self.program, self.path = program, pathlib.Path(path)
@@ -67,7 +67,9 @@ class Folder:
         )
 
     def serve(self, run):
-        """Returns the responses to each connection, the run's message at its end, and the image."""
+        """Returns the responses to each connection, the run's error message, and a description of
+        its image.
+        """
         process, answers = self.began(run), []
         try:
             for connection in run.connections:
@@ -87,7 +89,7 @@ class Folder:
 
 
 def compared(run, answers, error, image):
-    """Yields pairs of expected and actual results of a run, each with the number of its line."""
+    """Yields pairs of expected and actual results of a run, each with a line number."""
     for connection, given in zip(run.connections, answers):
         number = run.number
         for answered, response in zip_longest(connection.answered, given):
@@ -100,8 +102,8 @@ def compared(run, answers, error, image):
 
 
 def first_difference(program, lines):
-    """Returns the number of the line that differs, the expected result, and the actual one; or
-    None.
+    """Returns None if all results are as expected. Otherwise returns the number of the first line
+    that differs, the expected result, and the actual one.
     """
     runs = streams.played(lines)
     with tempfile.TemporaryDirectory() as path:

@@ -1,14 +1,13 @@
-"""Plays the same random events on three devices. The first is a device of the library that always
-continues. The second is a device of the library that is restored from the first one's state
-text. The third is the Python device, which is restored from it too:
+"""Plays the same random events on three devices. The first is a device of the library, which always
+continues. The second one, also of the library, and the third one, which is the Python device, are
+often restored from the first one's state text:
 
     state_texts.py EVENTS [SEED]
 
-TPMSIM_LIBRARY names the shared object. Each response, and the state text after each event, must
+TPMSIM_LIBRARY names the shared library. All responses, and the state texts after each event, must
 be the same, byte for byte. An event is a power cycle or a command, which may be refused. A new
-device begins every thousand events, with the next seed. The program prints how many events were
-compared, and how often a text was restored. The first difference ends the program, with status
-1.
+device begins every thousand events, with the next seed. The program prints the number of compared
+events, and how often a text was restored. At the first difference it ends with status 1.
 """
 
 import sys
@@ -22,12 +21,12 @@ from tests.common.outputs import repeated
 
 EVENTS_OF_ONE = 1000
 
-# The probabilities that a text is restored: after each event, or rarely, so that an error can grow.
+# The probability that a state text is restored after an event. With a low one, an error can grow.
 CHANCES = 1, 0.2, 0.01
 
 
 class Differs(Exception):
-    """Raised if the devices differ. Its words describe the difference."""
+    """Raised if the devices differ. The message describes the difference."""
 
 
 class Devices:
@@ -54,7 +53,9 @@ class Devices:
             self.go_on()
 
     def tell(self, event, answers):
-        """Plays an event of the writer. The Python device has executed it already."""
+        """Plays an event of the writer on the devices of the library. The Python device has already
+        executed it.
+        """
         if isinstance(event, bytes):
             self.execute(event, next(answers).outcome.response)
         elif event == "power":
@@ -86,7 +87,8 @@ class Devices:
             raise Differs("the state texts differ")
 
     def go_on(self):
-        """Restores the other devices from the text of the device that always continues."""
+        """Restores the other two devices from the state text of the device that always continues.
+        """
         text = self.whole.state()
         self.restored.close()
         self.restored = LibraryDevice()
@@ -100,8 +102,8 @@ class Devices:
 
 
 def play(events, seed):
-    """Plays this many events of one seed. Returns how often a text was restored, and any
-    difference.
+    """Plays this many events with one seed. Returns how often a text was restored, and the first
+    difference, if any.
     """
     devices = Devices(seed)
     try:

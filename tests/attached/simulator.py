@@ -23,8 +23,8 @@ AUDIT = pathlib.Path(__file__).parents[2] / "tools" / "audit.py"
 SEND_COMMAND, STOP, HASH_START, HASH_DATA, HASH_END = 8, 21, 5, 6, 7
 POWER_ON, POWER_OFF, RESET = 1, 2, 17
 GET_RANDOM = bytes.fromhex("80010000000c0000017b0010")
-# The values of PCR 17 after a launch with the data abc, computed by sha1sum and sha256sum from
-# zeros and the digest of abc.
+# The values of PCR 17 after a dynamic launch with the data abc. sha1sum and sha256sum computed them
+# from zeros and the digest of abc.
 LAUNCHED = [
     "ccd5bd41458de644ac34a2478b58ff819bef5acf",
     "589f9ffed4c477966bfb8d41f37895b08c69047df8f911d6f3b57fbe08faee8d",
@@ -42,7 +42,7 @@ class Served:
         self.addresses = [(host, int(port)) for host, port in lines]
 
     def client(self, device: int = 0) -> Caller:
-        """Returns a client of a device, after TPM2_Startup."""
+        """Returns a client that has started a device with TPM2_Startup."""
         caller = Caller(SimulatorDevice(*self.addresses[device], SECONDS))
         caller.start_up()
         return caller
@@ -52,7 +52,7 @@ class Served:
         return socket.create_connection((host, first + port), SECONDS)
 
     def asks(self, port: int, *requests: bytes) -> bytes:
-        """Returns the answers to requests on a new connection, which is then ended."""
+        """Sends requests on a new connection, ends the connection, and returns the answers."""
         with self.stream(port) as stream:
             stream.sendall(b"".join(requests) + number(20, 4))
             return b"".join(iter(lambda: stream.recv(4096), b""))
@@ -79,8 +79,8 @@ def has_index(tpm: Caller) -> bool:
 
 
 def keeps(*words: object) -> None:
-    """Checks that an index that one run defines exists in the next, after SIGTERM, SIGKILL and
-    STOP.
+    """Checks that an index that one run defines still exists after SIGTERM and SIGKILL. Later runs
+    end with SIGINT and with the request STOP.
     """
     with Served(*words) as served:
         served.client().define(area(index=INDEX))
@@ -109,7 +109,7 @@ def kept_in_an_image() -> None:
 
 
 def kept_in_a_folder() -> None:
-    """Keeps a device in a folder, which another process uses at the same time."""
+    """Tests a device in a folder that another process uses at the same time."""
     print("a folder:")
     keeps("--state", "folder", "--force", "always", "--keep", "1")
     print("the journal before the power cycle stays:", pathlib.Path("folder/journal.1").exists())
@@ -121,8 +121,8 @@ def kept_in_a_folder() -> None:
 
 
 def recorded() -> None:
-    """Each period from power-on to power-off has its own journal, in which the audit finds no
-    contradiction.
+    """Each period between power-on and power-off has its own journal. The audit must find no
+    contradiction in it.
     """
     pathlib.Path("records").mkdir()
     with Served("--record", "records", "--seed", "0b") as served:
@@ -137,8 +137,8 @@ def recorded() -> None:
 
 
 def repeated() -> None:
-    """With a seed, each run draws the same bytes, but nonces differ within a run. Without a seed
-    both are new.
+    """With a seed, each run draws the same random bytes, but two draws in a run differ. Without a
+    seed, all bytes are new.
     """
     for words in (["--seed", "00ff", "--clock", "commands"], []):
         draws = []
@@ -180,7 +180,7 @@ def launched() -> None:
 
 
 def hostile() -> None:
-    """Clients that send anything, in pieces or cut off, change nothing for another client."""
+    """Clients that send random bytes, in pieces or cut off, do not disturb another client."""
     draw = random.Random(7)
     with Served() as served, contextlib.ExitStack() as held:
         tpm = served.client()
@@ -193,7 +193,7 @@ def hostile() -> None:
             if draw.randrange(2):
                 stream.close()
         print("still answers:", len(drawn(tpm)))
-        # A device that the random requests turned off is turned on again.
+        # The random requests may have turned the device off.
         print("serves on:", served.asks(1, number(POWER_ON, 4)).hex(), served.process.poll())
 
 

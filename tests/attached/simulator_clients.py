@@ -2,9 +2,9 @@
 
     tools/python.sh tests/attached/simulator_clients.py SIMULATOR
 
-The server may open only few files. Clients that send nothing take all of its descriptors.
-Earlier clients are still served, and a change reaches the image. The extra clients are refused.
-New clients are served after others end.
+The server may open only a few files. Clients that send nothing use up all its descriptors. The
+server must still serve its earlier clients, and save their changes in the image. It must refuse the
+extra clients. After other clients have ended, it must serve new ones.
 """
 
 import pathlib
@@ -28,7 +28,7 @@ def limit():
 
 
 def served():
-    """Starts the server, and returns it with its address."""
+    """Starts the server. Returns its process and its address."""
     words = [sys.argv[1], "--port", "0", "--image", IMAGE]
     process = subprocess.Popen(words, stdout=subprocess.PIPE, preexec_fn=limit, text=True)
     host, port = process.stdout.readline().split()
@@ -36,8 +36,8 @@ def served():
 
 
 def refused(idle):
-    """Returns the number of clients that the server has closed without an answer. It must close
-    those beyond FILES.
+    """Returns the number of clients that the server has closed without an answer. It must close all
+    clients beyond FILES.
     """
     until, closed = time.monotonic() + SECONDS, []
     while len(closed) < len(idle) - FILES and time.monotonic() < until:
@@ -46,14 +46,14 @@ def refused(idle):
 
 
 def changes(tpm, index):
-    """Makes a change. Returns whether the server has written it into its image."""
+    """Defines an index. Returns whether the server has then changed its image."""
     before = IMAGE.read_bytes()
     tpm.define(area(index=index))
     return IMAGE.read_bytes() != before
 
 
 def said(act):
-    """Returns the result of `act`, or a description of its fault."""
+    """Returns the result of `act`, or a description of its exception."""
     try:
         return act()
     except (DeviceEnded, OSError) as fault:
@@ -61,7 +61,9 @@ def said(act):
 
 
 def connected(address):
-    """Connects a new client, and sends its command as soon as the server accepts one."""
+    """Connects a new client, repeatedly until the server accepts it. Returns the number of random
+    bytes that the client then gets.
+    """
     until = time.monotonic() + SECONDS
     while True:
         try:

@@ -3,11 +3,11 @@ device:
 
     tools/python.sh tests/common/bent_lines.py PROGRAM
 
-The test takes the first line of each command from assemble.lines. It applies each way to alter a
-token to every third token. For each way it prints how many lines were altered, how many buffers and
-faults they make, and how many results differ from the program's. Each difference has a line that
-begins with DIFFERS. Then the test plays some altered lines in scripts. At last it inserts and
-replaces single bytes in script lines, at each offset.
+The test takes one line for each command from assemble.lines. Each way to alter a token is applied
+to every third token of these lines. For each way the test prints how many lines it altered, how
+many of them assemble to a buffer or have each fault, and how many results differ from the
+program's. Each difference has a line that begins with DIFFERS. Then the test plays some altered
+lines in scripts. Finally it inserts and replaces single bytes in script lines, at each offset.
 """
 
 import collections
@@ -25,13 +25,14 @@ from tests.common.shims import Ending, ran, Shim, Turns
 TESTS = pathlib.Path(__file__).resolve().parent.parent
 STARTUP, STARTED = b"do Startup 0\n", b"80010000000a00000000\n"
 
-# Each way alters every third token. It begins one token later than the way before it.
+# Every third token is altered. Each way to alter a token begins one token later than the previous
+# way.
 EACH = 3
 
-# Every fifth bad line is also played in a script of its own, between two commands.
+# The test also plays every fifth bad line in a script of its own, between two commands.
 SAMPLED = 5
 
-# The replacements for a token, each after its name.
+# Replacements for a token, by name.
 REPLACEMENTS = {
     "a word": b"word",
     "a number": b"7",
@@ -67,7 +68,7 @@ REPLACEMENTS = {
 }
 
 
-# Lines of scripts. Other bytes are inserted at each of their offsets, and replace each of their
+# Lines of scripts. The test inserts bytes at each of their offsets, and replaces each of their
 # bytes.
 SCRIPT_LINES = (
     *(b"cmd 80010000000c0000017b0004", b"do GetRandom 4", b"loc 3", b"wait 1500"),
@@ -88,8 +89,8 @@ BYTES = {
 }
 
 
-# Ways to alter a line at one token. Each takes the tokens before it, the token itself, and the
-# tokens after it.
+# Functions that alter a line at one token. Their arguments are the tokens before it, the token
+# itself, and the tokens after it.
 
 
 def replaced(word, before, token, behind):
@@ -127,14 +128,14 @@ BENDS |= {
 
 
 def first_lines():
-    """The first line of each command in assemble.lines, for commands that have one."""
+    """Returns the lines in the first section of assemble.lines, which has one for each command."""
     lines_of = (TESTS / "lines/assemble.lines").read_bytes().split(b"\n# ")[0].splitlines()[1:]
     return sorted(line for line in lines_of if line)
 
 
 def bent(first, bend, begin=0, step=1):
-    """The lines, each altered at one token. Of all tokens of the lines, every `step`-th one is
-    altered, from token number `begin` on.
+    """Yields copies of the lines, each with one token altered. Of all tokens of all lines, it
+    alters every `step`-th one, from token number `begin` on.
     """
     places = (
         (tokens, at) for tokens in (it.split(b" ") for it in first) for at in range(len(tokens))
@@ -147,8 +148,8 @@ def bent(first, bend, begin=0, step=1):
 
 
 def is_usage(line):
-    """Returns whether a line is a usage fault: it is not UTF-8, or it is an option that does not
-    exist.
+    """Returns whether `tpmsim asm` refuses a line as a usage fault: it is not UTF-8, or it is an
+    option that does not exist.
     """
     try:
         line.decode("utf-8")
@@ -158,7 +159,7 @@ def is_usage(line):
 
 
 def wanted(line):
-    """Returns the name of a line's outcome, and how `tpmsim asm` must end with the line."""
+    """Returns the kind of result that `tpmsim asm` must have for a line, and how it must end."""
     if is_usage(line):
         return "usage", Ending(2, error=b"tpmsim: usage\n")
     return fault_of(line).partition(" ")[0] or "buffers", assembled(line)
@@ -169,7 +170,9 @@ def shown(line):
 
 
 def compared(cases):
-    """Returns how many cases differ. A case has a label, an expected and an actual outcome."""
+    """Returns the number of cases that differ. A case has a label, an expected outcome and an
+    actual one.
+    """
     differ = 0
     for label, want, give in cases:
         if want != give:
@@ -183,7 +186,7 @@ def counted(outcomes):
 
 
 def try_bend(asm, name, bent_lines):
-    """Passes to `tpmsim asm` the lines that are altered in one way, and compares the outcomes."""
+    """Passes lines that are altered in one way to `tpmsim asm`, and compares the outcomes."""
     want = [wanted(line) for line in bent_lines]
     give = [asm.run(word=line) for line in bent_lines]
     differ = compared(
@@ -197,7 +200,7 @@ def try_bend(asm, name, bent_lines):
 
 
 def try_faults(scripts, what, bad):
-    """Plays scripts of three lines; the program must report the second one, which is bad."""
+    """Plays each bad line as the second of three lines. The program must report line 2."""
     want = Ending(2, STARTED, b"tpmsim: script line 2\n")
     give = [scripts.run(stdin=STARTUP + b"do " + it + b"\n" + STARTUP) for it in bad]
     differ = compared((shown(b"do " + it), want, given) for it, given in zip(bad, give))
@@ -219,7 +222,8 @@ def try_answers(program, good):
 
 
 def try_bytes(traces, what, put):
-    """Plays scripts whose second line has other bytes at one of its offsets."""
+    """Inserts and replaces bytes at each offset of a script's second line, and plays the scripts.
+    """
     bent_lines = [
         line[:at] + put + line[at + taken :]
         for line in SCRIPT_LINES
@@ -247,7 +251,7 @@ def main(program):
     with Turns(shim, ["run", "-"]) as scripts:
         bad = [it for it in once if fault_of(it)]
         try_faults(scripts, "bent lines that are none", bad[::SAMPLED])
-        # A word of a command line cannot contain a NUL.
+        # A command-line argument cannot contain a NUL.
         nul = list(bent(first, functools.partial(replaced, b"\0")))
         try_faults(scripts, "lines with a NUL in place of a token", nul)
     try_answers(program, [it for it in once if not fault_of(it)])

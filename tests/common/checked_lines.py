@@ -1,10 +1,11 @@
-"""Checks altered lines of commands as one script, and compares with lines.py of the Python device:
+"""Runs `tpmsim check` on a script of altered lines, and compares its reports with lines.py of the
+Python device:
 
     tools/python.sh tests/common/checked_lines.py PROGRAM
 
-The script has each line of bent_lines.py once. For each fault the test prints how many bad lines
-have it, and for how many of these `tpmsim check` reports something else. The last line counts the
-good lines. Each difference has a line that begins with DIFFERS.
+The script has each line of bent_lines.py once. For each kind of fault the test prints how many bad
+lines have it, and for how many of them `tpmsim check` reports something else. The last line counts
+the good lines. Each difference has a line that begins with DIFFERS.
 """
 
 import collections
@@ -18,7 +19,7 @@ from tests.common import bent_lines
 from tests.common.expected import fault_of
 from tests.common.shims import ran
 
-# The maximum number of entries of a line.
+# The maximum number of entries in a line.
 MOST_ENTRIES = 3
 
 WANTED_NAME, WANTED_ENTRY, WANTED_END = "command", "entry", "end of line"
@@ -26,8 +27,8 @@ WANTED_LENGTH = "at most 4096 bytes"
 
 
 def place_of(tokens: list[bytes], fault: str) -> int:
-    """Returns the index of the token at fault. If a token is missing, this is the index after the
-    last.
+    """Returns the index of the token at fault. If a token is missing, returns the index after the
+    last token.
     """
     if fault == lines.MISSING:
         return len(tokens)
@@ -37,8 +38,8 @@ def place_of(tokens: list[bytes], fault: str) -> int:
 
 
 def words_wanted(code: CC, tokens: list[bytes]) -> list[str]:
-    """Returns what must be at each position of a line, by the command's form and the line's
-    entries.
+    """Returns what each position of a line must contain, by the form of its command and its number
+    of entries.
     """
     name, *words = lines.form_of(code).replace("@", "").split(" ")
     handles = len(code.handles)

@@ -45,7 +45,7 @@ def responses(text):
 
 
 def answer(client):
-    """Reads a whole response. Returns None if the stream ends before."""
+    """Reads a whole response. Returns None if the stream ends first."""
     header = client.recv(HEADER_BYTES, socket.MSG_WAITALL)
     size = max(int.from_bytes(header[2:6], "big"), HEADER_BYTES)
     text = header + client.recv(size - HEADER_BYTES, socket.MSG_WAITALL)

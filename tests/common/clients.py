@@ -1,27 +1,28 @@
-"""Clients of `tpmsim serve` that end differently from client.py, and several clients at the same
-time:
+"""Clients of `tpmsim serve` that close their connections in other ways than client.py, and several
+clients at the same time:
 
     python3 clients.py KIND SOCKET HEX..
 
-One or two clients send these commands. KIND is one of these:
+One or two clients send the commands HEX. KIND is one of these:
 
     close      closes at once
     read       ends without reading its response, so that the device's next read fails
-    write      sends TPM2_GetRandom after the commands and reads no response, until the device
+    write      sends TPM2_GetRandom after the commands, and reads no response, until the device
                reads no more; then it ends, so that the device's write fails
     turns      two clients, whose bytes alternate; prints the responses to each
     idle       connects after a client that sends nothing; prints its responses, and whether they
                came before that client closed
-    unread     the same after a client that sends TPM2_GetRandom until no more is read
+    unread     connects after a client that sends TPM2_GetRandom until the device reads no more;
+               prints the same as `idle`
     removed    two clients; the path of their socket is removed before they send
-    folder     the same, but a folder replaces the socket
-    clock      starts the device, and reads its time for a second, by fifty commands at once. The
+    folder     like `removed`, but a folder replaces the socket
+    clock      starts the device, and reads its time for a second, with fifty commands at once. The
                last time has to be the whole milliseconds since the start, by the host's clock
 
-`clients.py during SOCKET HEX LINE` runs the shell's LINE after the first command is answered,
-before the client closes. `clients.py long SOCKET MILLIONS WRITE` alternates between the command
-WRITE, a TPM2_NV_Write, and TPM2_GetRandom, until it has sent that many million bytes. It reads
-the responses while it sends, and prints what they were.
+`clients.py during SOCKET HEX LINE` runs the shell command LINE after the first response, before the
+client closes. `clients.py long SOCKET MILLIONS WRITE` alternates between the command WRITE, a
+TPM2_NV_Write, and TPM2_GetRandom, until it has sent that many million bytes. Meanwhile it reads the
+responses. At the end it prints each different response, and how often it came.
 """
 
 import collections
@@ -43,14 +44,14 @@ A_WHILE = 0.5
 
 
 def fill(client):
-    """Sends commands until the device takes no more."""
+    """Sends commands until the device reads no more."""
     client.setblocking(False)
     while select.select([], [client], [], A_WHILE)[1]:
         client.send(GET_RANDOM)
 
 
 def leave(path, text, before):
-    """Sends the commands, calls `before`, and disconnects."""
+    """Sends the commands, calls `before`, and closes the connection."""
     client = connected(path)
     client.sendall(text)
     before(client)
@@ -67,9 +68,7 @@ def take_turns(path, text):
 
 
 def beside(path, text, occupy):
-    """Connects two clients: the first one occupies the device, and the other one has to wait for
-    it.
-    """
+    """Connects two clients. The first one occupies the device, so the second one has to wait."""
     first = connected(path)
     occupy(first)
     second = connected(path)
@@ -81,8 +80,8 @@ def beside(path, text, occupy):
 
 
 def replaced(path, text, replace):
-    """Connects two clients, and removes the path of their socket; `replace` may create something
-    there. Then both send.
+    """Connects two clients, and removes the path of their socket. `replace` may create something at
+    that path. Then both clients send.
     """
     clients = [connected(path), connected(path)]
     os.unlink(path)
@@ -93,7 +92,9 @@ def replaced(path, text, replace):
 
 
 def asked(client, commands, size):
-    """Returns the responses, and the host's time in milliseconds before and after."""
+    """Sends commands. Returns the responses, and the host's times before and after, in
+    milliseconds.
+    """
     before = time.monotonic() * 1000
     client.sendall(commands)
     text = client.recv(size, socket.MSG_WAITALL)

@@ -2,9 +2,9 @@
 
     tools/python.sh tests/common/command_lists.py
 
-For each list the test prints how many entries it has. A missing or extra entry has a line that
-begins with DIFFERS. Then the test changes one place of a document at a time, and the comparison
-has to find the change.
+For each list the test prints its number of entries. A missing or extra entry has a line that begins
+with DIFFERS. Then the test makes one mistake in a document at a time, and the comparison has to
+find it.
 """
 
 import re
@@ -34,15 +34,15 @@ def documents() -> Documents:
 
 
 def between(text: str, before: str, behind: str) -> str:
-    """Returns the text between two other texts; empty if either is missing."""
+    """Returns the text between two given texts, or an empty text if either is missing."""
     _, found, rest = text.partition(before)
     return rest.partition(behind)[0] if found else ""
 
 
 @dataclass(frozen=True)
 class List:
-    """A list in a document: the entries that it needs and those that it has. If `in_order` is set,
-    their order counts too.
+    """A list in a document: the entries that it needs, and those that it has. Their order counts
+    only if `in_order` is set.
     """
 
     wanted: list
@@ -61,11 +61,11 @@ class List:
 Check = Callable[[Documents], List]
 
 
-# The checks of the lists.
+# Functions that compare one list each.
 
 
 def the_list(texts: Documents) -> List:
-    """Each command is in the list, with the page and anchor of its section, and with its code."""
+    """The list must contain each command, with the page and anchor of its section, and its code."""
     pages = pages_of(texts)
     wanted = [
         (it.name, pages.get(it.name), f"tpm2_{it.name}-{int(it):x}".lower(), f"{int(it):X}")
@@ -84,7 +84,7 @@ def pages_of(texts: Documents) -> dict[str, str]:
 
 
 def sections(texts: Documents) -> List:
-    """Each section has the command's code and the form of its line."""
+    """Each section must contain its command's code and the form of its line."""
     wanted = [(it.name, f"{int(it):X}", lines.form_of(it)) for it in CC]
     return List(wanted, [it for text in texts.values() for it in SECTION.findall(text)])
 
@@ -97,13 +97,15 @@ def groups(texts: Documents) -> List:
 
 
 def not_served(texts: Documents) -> List:
-    """None of the commands that are listed as unsupported is supported."""
+    """A command that is listed as unsupported must not be supported."""
     text = between(texts[REFUSALS], "## Commands that are not served", "\n## ")
     return List([], [it for it in NAME.findall(text) if it in CC.__members__])
 
 
 def named(document: str, before: str, behind: str, is_wanted: Callable[[CC], bool]) -> Check:
-    """Returns the check that a document names exactly the expected commands between two texts."""
+    """Returns the check that a document names exactly the expected commands between two given
+    texts.
+    """
 
     def check(texts: Documents) -> List:
         wanted = [it.name for it in CC if is_wanted(it)]
@@ -113,7 +115,7 @@ def named(document: str, before: str, behind: str, is_wanted: Callable[[CC], boo
 
 
 # Counts of commands in documents: the document, the text before the count, the text after it, and
-# the count's format.
+# the format of the count.
 COUNTS = (
     (README, "It serves ", " commands", str),
     (CAPABILITIES, "| the number of served commands, ", " |", "{:X}".format),
@@ -130,7 +132,8 @@ def counts(texts: Documents) -> List:
 
 
 def nv_access(texts: Documents) -> List:
-    """The page names the attributes that each command requires of an index that authorizes it."""
+    """The page must name the attributes that each command requires of an index that authorizes it.
+    """
     able = [it for it in CC if it.authorized and it.handles[0].kind in NV_KINDS]
     wanted = [(it.name, nv_access_of(it)) for it in able]
     section = between(texts[NV_ACCESS], "## By what an index is authorized", "\n## ")
@@ -140,7 +143,7 @@ def nv_access(texts: Documents) -> List:
 
 
 def nv_access_of(code: CC) -> str:
-    """Returns when the authorization value of an index authorizes a command."""
+    """Returns a description of when the authorization value of an index authorizes a command."""
     if code.has(Fact.ADMIN):
         return "never"
     return "if it has AUTHREAD" if code.has(Fact.READS_NV) else "if it has AUTHWRITE"
@@ -162,7 +165,7 @@ CHECKS: dict[str, Check] = {
         REFUSALS, UNSESSIONED, "|", lambda it: it.has(Fact.NO_SESSIONS)
     ),
     "order_of_refusals.md, commands that are not served": not_served,
-    # The document names TPM2_Shutdown in the next sentence.
+    # The document names TPM2_Shutdown only in the sentence after this list.
     "state.md, commands that keep what was saved": named(
         STATE, KEEPING, ". ", lambda it: it.has(Fact.KEEPS_SAVED) and it != CC.Shutdown
     ),
@@ -170,7 +173,7 @@ CHECKS: dict[str, Check] = {
     "counts of commands": counts,
 }
 
-# Mistakes to find: a document, a text in it, and the text that replaces it once.
+# Mistakes that the comparison must find: a document, a text in it, and its replacement.
 WRONG = (
     (LIST, "| [TPM2_Clear](", "| [TPM2_Clean]("),
     (LIST, "| [TPM2_Create](", "| TPM2_Create ("),

@@ -1,9 +1,9 @@
-"""Finds the public names of a crate, by a small tolerant reader of crates/CRATE/src/*.rt.
+"""Finds the public names of a crate, with a small tolerant parser of crates/CRATE/src/*.rt.
 
-A name is that of an item, such as `authorize` or `Machine`, or of a member of a type or trait,
-such as `Machine::execute` or `Keep::fixed`. Names of modules may precede it. An item counts if
-its module is public, or if a `pub use` re-exports it, also in another crate. The reader relies
-on the layout that `rt fmt` makes: items begin in the first column, members in the fifth.
+A name is that of an item, such as `authorize` or `Machine`, or of a member of a type or trait, such
+as `Machine::execute` or `Keep::fixed`. Names of modules may precede it. An item counts if its
+module is public, or if a `pub use` re-exports it, even from another crate. The parser relies on the
+layout that `rt fmt` makes: items begin in the first column, members in the fifth.
 """
 
 import pathlib
@@ -33,7 +33,7 @@ PAIRS = {"(": ")", "{": "}", "[": "]", "<": ">"}
 
 @dataclass(frozen=True)
 class Call:
-    """The types that a call takes and returns, and the clauses that the call requires."""
+    """The types that a function takes and returns, and the clauses that it requires."""
 
     shape: str
     premises: tuple[str, ...]
@@ -41,7 +41,7 @@ class Call:
 
 @dataclass
 class Item:
-    """An item of a crate, with the members of a type or trait."""
+    """An item of a crate, with its members if it is a type or trait."""
 
     module: str
     name: str
@@ -52,7 +52,8 @@ class Item:
 
 @dataclass(frozen=True)
 class Found:
-    """The item of a name: its call, if it is one, and its cases, if it is an enum."""
+    """What a name refers to: its signature if it is a function, and its variants if it is an enum.
+    """
 
     call: Call | None
     cases: tuple[str, ...]
@@ -73,7 +74,7 @@ def closing(text: str, start: int) -> int:
 
 
 def plain(text: str) -> str:
-    """Returns a type or a clause with single spaces and without lifetimes."""
+    """Returns a type or a clause without lifetimes, and with single spaces."""
     return " ".join(LIFETIME.sub("", text).replace("<>", "").split())
 
 
@@ -99,7 +100,7 @@ def type_of(parameter: str) -> str:
 
 
 def premises_of(text: str, start: int) -> Iterator[str]:
-    """Yields the clauses that a call requires, which begin at `start`."""
+    """Yields the `requires` clauses of a function. The first one begins at `start`."""
     while clause := CLAUSE.match(text, start):
         start = closing(text, clause.end())
         if clause[1] == "requires":
@@ -107,7 +108,7 @@ def premises_of(text: str, start: int) -> Iterator[str]:
 
 
 def call_at(text: str, start: int) -> Call:
-    """Returns the call whose name ends at `start`."""
+    """Returns the signature of the function whose name ends at `start`."""
     if text[start] == "<":
         start = closing(text, start)
     end = closing(text, start)
@@ -147,15 +148,13 @@ class Crates:
         self.read: dict[str, Crate] = {}
 
     def crate(self, name: str) -> "Crate":
-        """Returns the crate with this name. A crate that does not exist has no names."""
+        """Returns the crate with this name. If there is none, the result has no names."""
         if name not in self.read:
             self.read[name] = Crate(name, self.folder / name / "src")
         return self.read[name]
 
     def find(self, path: str) -> Found | None:
-        """Returns the public item at a path, such as `tpm_machine::Machine::run`; None if there is
-        none.
-        """
+        """Returns the public item at a path, such as `tpm_machine::Machine::run`, or None."""
         name, *words = path.split("::")
         crate = self.crate(name)
         modules = []
@@ -171,8 +170,8 @@ class Crates:
         return None
 
     def find_in(self, crate: "Crate", module: str, name: str, members: list[str]) -> Found | None:
-        """Returns the item that a module has or re-exports by a name, even if the module is not
-        public.
+        """Returns the item that a module defines or re-exports with this name, even if the module
+        is not public.
         """
         for item in crate.items:
             if (item.module, item.name) == (module, name):
@@ -209,7 +208,7 @@ class Crate:
             self.add_members(text)
 
     def add_items(self, text: str, module: str) -> None:
-        """Adds the public items of a file, and the cases of each enum among them."""
+        """Adds the public items of a file, with the variants of each enum."""
         for found in ITEM.finditer(text):
             if found["public"] or (found["name"] == "main" and not module):
                 call = call_at(text, found.end()) if found["kind"] == "fn" else None
@@ -220,7 +219,9 @@ class Crate:
                     item.cases = CASE.findall(found["body"])
 
     def add_uses(self, text: str, module: str) -> None:
-        """Adds the public modules of a file, and its re-exported names with their paths."""
+        """Adds the public modules that a file declares, and the names that it re-exports, with
+        their paths.
+        """
         inside = f"{module}::" if module else ""
         self.modules.update(inside + found for found in MODULE.findall(text))
         passed = self.uses.setdefault(module, {})
@@ -230,8 +231,8 @@ class Crate:
             passed[name] = self.whole_path(path, inside)
 
     def whole_path(self, path: str, inside: str) -> str:
-        """Returns a path that begins with its crate. `inside` is the prefix of the names in the
-        path's file.
+        """Returns a path that begins with its crate. `inside` is the module prefix of the file that
+        has the path.
         """
         first, _, rest = path.partition("::")
         if first == "crate":
@@ -254,7 +255,7 @@ class Crate:
 
 
 def member_of(item: Item, members: list[str]) -> Found | None:
-    """Returns the item itself, or its member or case if `members` names one."""
+    """Returns the item itself, or the member or variant that `members` names."""
     if not members:
         return Found(item.call, tuple(item.cases))
     name = members[0]

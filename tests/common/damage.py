@@ -1,4 +1,4 @@
-"""Prints the image in a file with some damage: python3 damage.py FILE KIND."""
+"""Prints the image in FILE with some damage: python3 damage.py FILE KIND."""
 
 import hashlib
 import sys

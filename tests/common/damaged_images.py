@@ -1,13 +1,13 @@
 """Opens damaged images with a program, and compares its responses with those of the Python device:
 
     damaged_images.py PROGRAM                      images of a device that saved its state, in both
-                                                   versions, and bodies with one thing wrong
+                                                   versions, and bodies with one error each
     damaged_images.py PROGRAM full [SEED [COUNT]]  the largest image, and COUNT altered bodies of
                                                    a full device
 
-For each kind of damage the test prints how many texts there were, and their faults. Each difference
-has a line of its own. The last line is `N agree, M differ`. The test works in the current folder.
-It leaves there the first texts that differ, in the files that these lines name.
+For each kind of damage the test prints how many damaged texts there were, and their faults. Each
+difference has a line of its own. The last line is `N agree, M differ`. The test works in the
+current folder. It leaves the first texts that differ there, in files that the lines name.
 """
 
 import collections
@@ -35,17 +35,17 @@ SEED, BENT = 1, 300
 DEFAULTS = [1, 10_000]
 MOST_LEFT = 100
 
-# The program gets the first texts of a long series, and then one of every `step`. STEP divides no
-# number of ways to change a byte. The library gets all the texts.
+# The program reads only the first texts of a long series, and then one of every `step`. STEP must
+# not divide the number of ways to change a byte. The library reads all texts.
 FIRST, STEP = 100, 11
 
-# The clock of the device whose image is damaged, without the time that really passed.
+# The clock of the device whose image is damaged, instead of the time that really passed.
 CLOCK = 0x0102_0304
 
 
 class Program:
-    """A program that serves a device, one run for each image. `opening` makes its runs without a
-    connection, and `saving` those with one.
+    """A program that serves a device, one run for each image. The runs of `opening` have no
+    connection; those of `saving` have one.
     """
 
     def __init__(self, opening, saving):
@@ -54,7 +54,7 @@ class Program:
 
     @staticmethod
     def place(text):
-        """Writes the image as a new file. If the file were overwritten in place, the system might
+        """Writes the image as a new file. If an existing file were overwritten, the system might
         write it to disk at once.
         """
         path = pathlib.Path("image")
@@ -62,7 +62,9 @@ class Program:
         path.write_bytes(text)
 
     def end(self, runs):
-        """Returns the fault that the program reported; None if the run ended well."""
+        """Returns the fault that the program reported, None if the run succeeded, or any other
+        ending.
+        """
         given = runs.ended()
         fault = given.error.decode("ascii", "replace").removeprefix(FAULT).removesuffix("\n")
         if given == Ending(STATUS_OF_FAULT, error=f"{FAULT}{fault}\n".encode()):
@@ -70,7 +72,8 @@ class Program:
         return None if given == WELL else f"{given}"
 
     def fault_of(self, text):
-        """Returns the program's fault for an image. If it opens the image, it saves nothing."""
+        """Returns the program's fault for an image. If there is none, the image is not saved again.
+        """
         self.place(text)
         self.opening.begin()
         return self.end(self.opening)
@@ -92,8 +95,8 @@ class Program:
 
 
 class Comparison:
-    """Compares the program with the Python device. It takes the first texts of a long series, and
-    one of every `step` of the others.
+    """Compares the program with the Python device. Of a long series of texts, it compares the first
+    ones, and then one of every `step`.
     """
 
     def __init__(self, program, step):
@@ -112,8 +115,8 @@ class Comparison:
             print(f"    {name}", flush=True)
 
     def fault_of(self, words, text):
-        """Returns the Python device's fault for a text, and checks that the program reports the
-        same.
+        """Returns the Python device's fault for a text, and checks that the program reports that
+        fault.
         """
         wanted, given = image.fault_of(text), self.program.fault_of(text)
         words = f"{words}: {wanted or 'opened'} is wanted, {given or 'opened'} is given"
@@ -121,7 +124,7 @@ class Comparison:
         return wanted or "opened"
 
     def kind(self, name, texts):
-        """Prints the faults of the texts of one kind of damage. Each text has a description."""
+        """Prints the faults of texts with one kind of damage. Each text has a description."""
         faults = collections.Counter(self.fault_of(f"{name}, {words}", it) for words, it in texts)
         told = ", ".join(f"{count:,} {fault}" for fault, count in sorted(faults.items()))
         print(f"{name}: {sum(faults.values()):,} texts: {told}", flush=True)
@@ -130,9 +133,8 @@ class Comparison:
         self.kind(name, (it for at, it in enumerate(texts) if at < FIRST or at % self.step == 0))
 
     def is_saved_again(self, words, text):
-        """Checks that a device that opens an image saves that image again, or the same one in
-        version 2. Each text is tried once. A text that the program does not open is already
-        counted.
+        """Checks that a device that opens an image saves the same image in version 2. Each text is
+        tried once. A text that the program refuses is skipped, since it was counted before.
         """
         if text in self.saved or self.program.fault_of(text) is not None:
             return
@@ -141,8 +143,8 @@ class Comparison:
         self.count(again == wanted, f"{words}: another image is saved", text)
 
     def case(self, case):
-        """Checks a described case: a good image is opened, and saved again unchanged; a bad one has
-        the fault Body.
+        """Checks a described case. A good image must be opened, and saved again unchanged. A bad
+        one must have the fault Body.
         """
         wanted = "opened" if case.is_good else "Body"
         given = self.fault_of(case.words, case.text)
@@ -160,7 +162,7 @@ def prefixes(text):
 
 
 def changed(text, places, changes):
-    """The texts in which one of the bytes at `places` is changed, in each of these ways."""
+    """Yields the texts in which one byte at `places` is changed in one of these ways."""
     for at in places:
         for change in changes:
             value = change(text[at])
@@ -169,8 +171,8 @@ def changed(text, places, changes):
 
 ALL_WAYS = [lambda byte, added=added: byte + added & 0xFF for added in range(1, 256)]
 
-# Changes of a byte: of its lowest bit, of its highest bit, and by one (up if the lowest bit is set,
-# else down), so that more than the lowest bit changes.
+# Ways to change a byte: flip its lowest bit; flip its highest bit; add one if the lowest bit is
+# set, else subtract one. The last one changes more than the lowest bit.
 THREE_WAYS = (
     *(lambda byte: byte ^ 0x01, lambda byte: byte ^ 0x80),
     lambda byte: byte + (1 if byte & 1 else -1) & 0xFF,
@@ -195,7 +197,8 @@ def damage(comparison, text):
 
 
 def device_that_saved(program):
-    """Returns the Python device after the lines. The program must save the same image."""
+    """Returns the Python device after it has executed LINES. The program must save the same image.
+    """
     device = Model()
     commands = [lines.assemble(line.encode("ascii")) for line in LINES]
     for buffer in commands:
@@ -221,7 +224,7 @@ def in_the_gate(comparison):
     told = []
     for case in image_bodies.cases():
         told.append(comparison.case(case))
-        # The good image that belongs to some bad ones comes after them.
+        # Each group of cases ends with its good image.
         if case.is_good:
             print("; ".join(told))
             told = []

@@ -2,10 +2,10 @@
 
     tools/python.sh tests/common/described_commands.py PROGRAM
 
-The test asks the program about each fact of each command. For each kind of fact it prints how
-often it asked the program. Each difference has a line that begins with DIFFERS. Then the test
-describes one fact of a command wrongly, for one kind of fact after the other, and the comparison
-must find the mistake.
+The test asks the program about each fact of each command. For each kind of fact it prints the
+number of questions. Each difference has a line that begins with DIFFERS. Then the test changes one
+fact of one command in the description at a time, for each kind of fact, and the comparison must
+find the mistake.
 """
 
 import concurrent.futures
@@ -30,9 +30,9 @@ from tests.common.shims import Ending, fail, ran
 TESTS = pathlib.Path(__file__).resolve().parent.parent
 AT_ONCE = 4
 
-# The entities of the device that is asked. The index and the object have the policy digest of a
-# session without assertions. Two more indices can be authorized: one only for reading, one only for
-# writing.
+# The entities of the tested device. The first index and the object have the policy digest of a
+# session without assertions. Of the other two indices, one can be authorized only for reading and
+# the other only for writing.
 PCR, AES_SESSION, POLICY_SESSION = 16, 0x0200_0000, 0x0300_0001
 OBJECT, PERSISTENT = 0x8000_0000, 0x8100_0000
 INDEX, READ_INDEX, WRITE_INDEX = range(0x0100_0000, 0x0100_0003)
@@ -44,7 +44,7 @@ NO_HANDLES = RS_PW, 24, 0x0400_0000, 0xFFFF_FFFF
 
 NONCE, NO_POLICY, UNTOLD = "00" * 16, b"", bytes(32)
 
-# Tokens of each kind of parameter, and tokens that one kind accepts and another one does not.
+# Tokens for parameters. Each kind of parameter accepts some of them and refuses others.
 TOKENS = (
     *("7", "00", "00+01", "-", "255", "256", "65535", "65536", "0xffffffff", "0x100000000"),
     *("18446744073709551615", "18446744073709551616", "sha256:0", "sha1:" + "00" * 20, "sha256"),
@@ -66,14 +66,14 @@ class Program:
 
     @functools.cache
     def told(self, word: str, argument: str) -> Ending:
-        """Returns how `asm` or `line` ends."""
+        """Returns how `tpmsim asm` or `tpmsim line` ends with an argument."""
         return ran(self.path, word, argument)
 
 
 @dataclass(frozen=True)
 class Asked:
-    """A question to the program, the expected answer according to the description, and the
-    program's answer.
+    """A question to the program, with the answer that the description implies and the program's
+    answer.
     """
 
     what: str
@@ -81,7 +81,7 @@ class Asked:
     found: object
 
 
-# The device that is asked, and the questions.
+# The tested device, and the questions.
 
 
 def index_line(index: int, attributes: int, auth_policy: bytes) -> str:
@@ -117,7 +117,9 @@ class Answer:
         return (self.check, self.code) == (check, frames.code_of(name))
 
     def is_behind(self, check: str, refusal: str) -> bool | str:
-        """Returns whether the command passed a check. Only that check refuses with this code."""
+        """Returns whether the command passed a check. Only that check refuses with the given
+        response code.
+        """
         if self.is_refusal(check, refusal):
             return False
         order = [*(f"G{it}" for it in range(1, 12)), *(f"A{it}" for it in range(1, 8)), "ok"]
@@ -125,8 +127,8 @@ class Answer:
 
 
 def answers_of(program: Program, code: CC, buffers: list[bytes]) -> list[Answer]:
-    """Executes the buffers one after another, and returns the results. Other commands than
-    TPM2_Startup come after `setup`.
+    """Executes the buffers one after another, and returns the results. The lines of `setup` come
+    first, except for TPM2_Startup.
     """
     before = [] if code == CC.Startup else setup()
     printed = program.run([*before, *(f"cmd {it.hex()}" for it in buffers)], "--trace")[::2]
@@ -140,7 +142,7 @@ def takes(handle: Handle, number: int) -> bool:
 
 
 def right_handles(code: CC) -> list[int]:
-    """Returns handles of existing entities, of the kinds that the command expects."""
+    """Returns handles of existing entities that the command accepts."""
     return [next(it for it in THERE if takes(wanted, it)) for wanted in code.handles]
 
 
@@ -151,11 +153,12 @@ def buffer_of(code: CC, handles: list[int], *entries: bytes) -> bytes:
     return frames.buffer_of(code, handles, [], b"\0")
 
 
-# The facts. Each function yields the questions to the program about some of the commands.
+# Functions that check one fact each. They yield questions to the program about some of the
+# commands.
 
 
 def attributes(program: Program, codes: list[CC]) -> Iterator[Asked]:
-    """Compares the attributes in TPM2_GetCapability: number, handles, returned handle."""
+    """Compares command attributes with TPM2_GetCapability, and the number of commands."""
     asking = [f"do GetCapability {COMMANDS} {it:#x} 1" for it in codes]
     total = f"do GetCapability 6 {TOTAL_COMMANDS:#x} 1"
     printed = program.run(["do Startup 0", *asking, total])[1:]
@@ -187,21 +190,23 @@ def naming(code: int) -> bytes:
 
 
 def told(program: Program, word: str, said: list[str], wanted: Callable) -> Iterator[Asked]:
-    """Compares how `asm` or `line` ends with each of these arguments."""
+    """Compares how `tpmsim asm` or `tpmsim line` ends with each of these arguments."""
     with concurrent.futures.ThreadPoolExecutor(AT_ONCE) as pool:
         for it, found in zip(said, pool.map(lambda it: program.told(word, it), said)):
             yield Asked(f"{word} {it}", wanted(it), found)
 
 
 def parameters(program: Program, codes: list[CC]) -> Iterator[Asked]:
-    """Compares names of commands, and the number and kinds of their parameters, by `tpmsim asm`."""
+    """Compares the names of commands, and the number and kinds of their parameters, with `tpmsim
+    asm`.
+    """
     said = [line for code in codes for line in parameter_lines(code)]
     return told(program, "asm", said, lambda it: assembled(it.encode()))
 
 
 def parameter_lines(code: CC) -> Iterator[str]:
-    """Yields lines of a command: with each token as each parameter, cut before each word, and with
-    one word too many.
+    """Yields lines of a command: with each token for each parameter; cut before each word; and with
+    an extra word.
     """
     words = [code.name, *("01000000" for _ in code.handles), *map(sample, code.parameters)]
     front = len(words) - len(code.parameters)
@@ -225,14 +230,14 @@ def sample(parameter) -> str:
 
 
 def words(program: Program, codes: list[CC]) -> Iterator[Asked]:
-    """Compares which parameters `tpmsim line` prints in hex."""
+    """Compares how `tpmsim line` prints the parameters of commands."""
     ended = [assembled(line.encode()) for code in codes for line in parameter_lines(code)]
     buffers = list(dict.fromkeys(it.output.decode().strip() for it in ended if not it.status))
     return told(program, "line", buffers, lambda it: line_told(bytes.fromhex(it)))
 
 
 def kinds_of_handles(program: Program, codes: list[CC]) -> Iterator[Asked]:
-    """Compares the handles that a command accepts, existing ones and others."""
+    """Compares which handles a command accepts, of existing entities and of others."""
     for code in codes:
         right, wanted, buffers = right_handles(code), [], []
         for place, handle in enumerate(code.handles, 1):
@@ -245,8 +250,8 @@ def kinds_of_handles(program: Program, codes: list[CC]) -> Iterator[Asked]:
 
 
 def authorizations(program: Program, codes: list[CC]) -> Iterator[Asked]:
-    """Compares which handles need authorization, and whether a command may have entries. A password
-    that authorizes nothing has its own refusal.
+    """Compares which handles need authorization, and whether a command accepts entries. A password
+    that authorizes no handle has a refusal of its own.
     """
     for code in codes:
         handles = right_handles(code)
@@ -262,7 +267,9 @@ def authorizations(program: Program, codes: list[CC]) -> Iterator[Asked]:
 
 
 def encryption(program: Program, codes: list[CC]) -> Iterator[Asked]:
-    """Compares which first parameters are sized buffers, which a session may decrypt or encrypt."""
+    """Compares for which commands the first parameter is a sized buffer, so that a session may
+    decrypt it, or encrypt it in the response.
+    """
     for code in codes:
         if code.has(Fact.NO_SESSIONS):
             continue
@@ -280,7 +287,7 @@ def encryption(program: Program, codes: list[CC]) -> Iterator[Asked]:
 
 
 def roles(program: Program, codes: list[CC]) -> Iterator[Asked]:
-    """Compares which commands have the ADMIN role, if an object or an index can authorize them. The
+    """Compares which commands have the ADMIN role when an object or an index authorizes them. The
     ADMIN role needs a policy that names the command; the USER role does not.
     """
     untold = frames.entry(POLICY_SESSION, bytes(16))
@@ -295,8 +302,8 @@ def roles(program: Program, codes: list[CC]) -> Iterator[Asked]:
 
 
 def nv_attributes(program: Program, codes: list[CC]) -> Iterator[Asked]:
-    """Compares whether a command checks the attributes for reading or those for writing of an index
-    that authorizes it. In the ADMIN role an index's authorization value authorizes nothing.
+    """Compares whether a command needs an index's attributes for reading or those for writing, if
+    the index authorizes it. The authorization value of an index never authorizes the ADMIN role.
     """
     for code in codes:
         if not code.authorized or not takes(code.handles[0], READ_INDEX):
@@ -310,13 +317,13 @@ def nv_attributes(program: Program, codes: list[CC]) -> Iterator[Asked]:
             yield Asked(f"{code.name} is authorized by {it:08x}", wanted, is_able)
 
 
-# The events of tests/general/saved_state.tpm, where each command succeeds between TPM2_Shutdown and
+# The events of tests/general/saved_state.tpm. There each command succeeds between TPM2_Shutdown and
 # TPM2_Startup.
 
 
 def saved_state(program: Program) -> list[tuple[CC, str, str]]:
-    """Returns the script's events. An event is the command, or None for a power cycle; the check;
-    and the response.
+    """Returns the script's events: the command, or None for a power cycle; the check; and the
+    response.
     """
     script = (TESTS / "general/saved_state.tpm").read_text("ascii").splitlines()
     printed = iter(program.run(script, "--trace"))
@@ -332,7 +339,7 @@ def saved_state(program: Program) -> list[tuple[CC, str, str]]:
 
 
 def keeping(program: Program, codes: list[CC]) -> Iterator[Asked]:
-    """Compares which commands keep a saved state valid, so that the next TPM2_Startup can resume
+    """Compares which commands leave a saved state valid, so that the next TPM2_Startup can resume
     it.
     """
     events = saved_state(program)
@@ -352,7 +359,7 @@ def is_kept_by(program: Program, between: list[str]) -> bool:
 
 
 def answers(program: Program, codes: list[CC]) -> Iterator[Asked]:
-    """Checks that the description reads each response to its end."""
+    """Compares each response with its described fields, which must cover all its bytes."""
     responses = {
         code: bytes.fromhex(answer)
         for code, check, answer in saved_state(program)
@@ -381,7 +388,7 @@ def read_answer(code: CC, response: bytes | None) -> str:
 
 
 def read_capability(fields: Fields) -> None:
-    """Reads moreData, a capability and its list. ValueError if bytes are left."""
+    """Reads moreData, a capability and its list. Raises ValueError if bytes are left over."""
     _, kind = fields.take(1), fields.number(4)
     if kind == PCRS:
         lines.WORDS[Kind.SELECTION].word(fields)
@@ -406,7 +413,7 @@ CHECKS = {
 }
 
 
-# Wrong descriptions, each of one fact of one command.
+# Wrong descriptions: each has one wrong fact about one command.
 
 
 def with_handle(code: CC, **changes) -> dict:
@@ -427,7 +434,9 @@ def with_fact(code: CC, fact: Fact) -> dict:
 
 @dataclass(frozen=True)
 class Wrong:
-    """A wrong description of a command's fact, the check that has to find it, and the change."""
+    """A wrong description of one fact: the check that must find the mistake, the command, and its
+    changes.
+    """
 
     what: str
     check: str
@@ -470,8 +479,8 @@ WRONG = (
 
 
 def is_missing_one_found(program: Program) -> bool:
-    """Returns whether the comparison finds a command that the device supports and the description
-    lacks.
+    """Returns whether the comparison finds a supported command that is missing from the
+    description.
     """
     with mock.patch.dict(NUMBERED):
         del NUMBERED[READ]

@@ -1,9 +1,9 @@
-"""Turns the head of a journal into one of version 1, as an earlier version of the program wrote it:
+"""Converts a journal's head to version 1, which earlier versions of the program wrote:
 
     tools/python.sh earlier_head.py JOURNAL
 
-The state text in the head then has two more numbers for each slot of an object, which are 0. The
-sums of the head and of all records are right.
+The state text in the new head has two more numbers for each object slot, which are 0. The checksums
+of the head and of all records are computed again.
 """
 
 import pathlib
@@ -14,20 +14,22 @@ from tpmsim.model.object_commands import OBJECTS
 from tpmsim.records.marks import Mark, sum_from, sum_of, OFFSET_BASIS
 from tpmsim.standard import number
 
-# The sizes of the layer's last numbers, those of the sessions, and of the numbers that version 1 has
+# The sizes of the sessions' numbers at the end of the body, and of the numbers that version 1 has
 # before them.
 OF_SESSIONS, OF_OBJECTS = 8 * 16, 2 * 8 * OBJECTS
 
 
 def earlier(text: bytes) -> bytes:
-    """Returns the text of version 1 with the same content."""
+    """Returns the state text in version 1 with the same content."""
     body = text[image.HEAD_BYTES : -image.DIGEST_AT_END]
     front, sessions = body[:-OF_SESSIONS], body[-OF_SESSIONS:]
     return image.digested(1, front + bytes(OF_OBJECTS) + sessions, state_text.MAGIC)
 
 
 def marked(line: bytes, total: int) -> tuple[bytes, int]:
-    """Returns a line of the journal, a mark with its new sum, and the sum after it."""
+    """Returns a line of the journal and the checksum after it. If the line is a mark, it gets its
+    new checksum.
+    """
     mark = Mark.read(line)
     if mark is None:
         return line, total

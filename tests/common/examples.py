@@ -21,8 +21,8 @@ from tests.common.script import SUCCESS
 
 
 class Example(NamedTuple):
-    """A command and its outcome. A step only prepares other commands; another example of its
-    command precedes it.
+    """A command and its outcome. `is_step` is true if the command only prepares later ones; then an
+    earlier example tests it.
     """
 
     name: str
@@ -36,7 +36,7 @@ class Example(NamedTuple):
 
 
 class Chapter(NamedTuple):
-    """Examples, and the kind of handles that they change."""
+    """Examples, and the kind of handle that they change."""
 
     name: str
     kind: int
@@ -45,20 +45,21 @@ class Chapter(NamedTuple):
 
 step = partial(Example, is_step=True)
 
-# A session that is not bound and has no salt, and so has neither a key nor an HMAC.
+# A session without a bind entity and salt, and therefore without a key and HMACs.
 SESSION, OTHER, POLICY = 0x0200_0000, 0x0200_0001, 0x0300_0000
 BY_SESSION = [entry(SESSION, nonce=bytes(16))]
 BY_POLICY = [entry(POLICY, nonce=bytes(16))]
 
-# The same session, which decrypts the first parameter.
+# An entry of SESSION that decrypts the first parameter.
 BY_DECRYPTING = [entry(SESSION, bytes(16), frames.CONTINUE_SESSION | frames.DECRYPT)]
 
-# Three entries. The last session ends when they are accepted. A trial session then gets its slot.
+# Three entries. The last session ends when the command is accepted. A trial session then gets its
+# slot.
 BY_THREE = [entry(), *BY_SESSION, entry(OTHER, nonce=bytes(16), attributes=0)]
 
 
 def start(**choices: object) -> bytes:
-    """Returns a TPM2_StartAuthSession."""
+    """Returns a TPM2_StartAuthSession command."""
     handles, parameters = frames.start_auth_session(bytes(16), **choices)
     return command(CC.StartAuthSession, b"".join(number(it, 4) for it in handles) + parameters)
 
@@ -79,13 +80,13 @@ def reading(*banks: tuple[int, Sequence[int]]) -> bytes:
 
 
 def secret(password: bytes) -> bytes:
-    """Returns a TPM2_PolicySecret with TPM_RH_OWNER."""
+    """Returns a TPM2_PolicySecret command with TPM_RH_OWNER."""
     parameters = frames.policy_secret(b"nonce", bytes(32), b"policyRef")
     return on_handles(CC.PolicySecret, (RH_OWNER, POLICY), parameters, [entry(hmac=password)])
 
 
 def owner_auth(value: bytes, password: bytes = b"") -> bytes:
-    """Returns a TPM2_HierarchyChangeAuth of TPM_RH_OWNER."""
+    """Returns a TPM2_HierarchyChangeAuth command for TPM_RH_OWNER."""
     return on_handle(CC.HierarchyChangeAuth, RH_OWNER, sized(value), [entry(hmac=password)])
 
 
@@ -142,7 +143,7 @@ DEVICE = [
 ]
 
 
-# Objects: a storage key, and data sealed under it. All random bytes are zeros.
+# Objects: a storage key, and data sealed under it. The device's random bytes are all zeros.
 
 PARENT, CHILD = 0x8000_0000, 0x8000_0001
 PCR_0 = [(SHA256, [0])]
@@ -153,14 +154,14 @@ def template(public: Public, data: bytes = b"") -> object_rules.Template:
 
 
 def creation(public: Public, data: bytes = b"") -> bytes:
-    """Returns the parameters that create an object."""
+    """Returns the parameters of a command that creates an object."""
     asked = template(public, data)
     sensitive = frames.sensitive_create(b"abc", data)
     return frames.creation(sensitive, sized(public.text), asked.outside_info, asked.pcrs)
 
 
 def loading(data: bytes) -> bytes:
-    """Returns the parameters of TPM2_Load, for an object that was created below the storage key."""
+    """Returns the parameters of TPM2_Load for a child of the storage key."""
     seed = MANUFACTURED[:SECRET_BYTES]
     parent = object_rules.primary(template(storage_key()), RH_OWNER, seed)
     public, sensitive, _ = object_rules.created(template(sealed(), data), bytes(256))
@@ -206,7 +207,7 @@ def defining(name: str, public: nv.Public) -> Example:
 
 
 def by_owner(code: CC, index: int, parameters: bytes = b"") -> Example:
-    """Returns a command on an index, authorized by the owner."""
+    """Returns a command on an index that the owner authorizes."""
     return Example(f"TPM2_{code.name}", on_handles(code, [RH_OWNER, index], parameters))
 
 
@@ -245,7 +246,7 @@ INDICES = [
 ]
 
 
-# The commands for what the device keeps. TPM2_Clear comes last.
+# Commands that change what the device keeps without power. TPM2_Clear comes last.
 
 OBJECT, KEPT = 0x8000_0000, 0x8100_0000
 PRIMARY = frames.creation(frames.sensitive_create(), sized(storage_key().text))
@@ -278,6 +279,6 @@ CHAPTERS = (
     Chapter("What the device keeps", frames.PERSISTENT, STATE),
 )
 
-# Each command needs an example, also a new one.
+# Each command must have an example, even a newly added command.
 CODES = {it.code for chapter in CHAPTERS for it in chapter.examples if not it.is_step}
 assert CODES == set(CC), f"no example of {set(CC) - CODES}"

@@ -1,13 +1,13 @@
-"""Writes the expected output NAME.out next to scripts NAME.tpm, without running the simulator. Also
-writes NAME.trace, the output of `--trace`, if such a file exists already, even an empty one.
+"""Writes the expected output NAME.out next to scripts NAME.tpm, without running the simulator. If
+NAME.trace exists, even an empty file, the program also writes the output of `--trace` to it.
 
     tools/python.sh tests/common/expected.py                    for every script in tests/
     tools/python.sh tests/common/expected.py tests/general/startup.tpm  for these
 
-The comment above one or more commands names their outcome: `: SUCCESS`, or a response code with
-its number, such as `: VALUE/p1 (1C4)`. It applies up to the next comment or empty line. The
-Python device computes the responses. If a command's outcome differs from its comment, that is a
-fault, and nothing is written.
+The comment above one or more commands names their outcome: `: SUCCESS`, or a response code with its
+number, such as `: VALUE/p1 (1C4)`. It applies up to the next comment or empty line. The Python
+device computes the responses. If the outcome of a command differs from its comment, the program
+fails and writes nothing.
 """
 
 import pathlib
@@ -27,8 +27,7 @@ OUTCOMES = {"SUCCESS", *frames.CODES}
 
 
 def wanted_of(comment):
-    """Returns the outcome that a comment names: None for a success, else the name of a response
-    code.
+    """Returns the outcome that a comment names: None for a success, or the name of a response code.
     """
     named = [it for it in WANTED.findall(comment) if it[0].partition("/")[0] in OUTCOMES]
     if len(named) != 1:
@@ -43,7 +42,7 @@ def wanted_of(comment):
 
 
 def buffer_of(line):
-    """Returns the buffer of a script's line; None if it has none."""
+    """Returns the command buffer in a script's line, or None if the line has none."""
     word, _, argument = line.partition(" ")
     if word == "do":
         return lines.assemble(argument.encode("ascii"))
@@ -52,8 +51,8 @@ def buffer_of(line):
 
 @dataclass(frozen=True)
 class Command:
-    """A command of a script, with its locality, its random bytes, and the milliseconds since the
-    command before. Also the comment that names its outcome.
+    """A command of a script: its buffer, locality and random bytes, the milliseconds since the
+    previous command, and the comment that names its outcome.
     """
 
     buffer: bytes
@@ -64,7 +63,7 @@ class Command:
 
 
 def events_of(script):
-    """Yields a script's commands, and None for a power cycle, up to a bad line."""
+    """Yields the commands of a script, and None for each power cycle. Stops at a bad line."""
     locality, random = 0, bytes(RANDOM_BYTES)
     comment, in_comment, elapsed = "", False, 0
     for line in script.splitlines():
@@ -94,8 +93,8 @@ def events_of(script):
 
 
 def played_by(script, device):
-    """Yields the outcomes of a script's events. They have to be the outcomes that its comments
-    name.
+    """Yields the outcomes of a script's events. Raises ValueError if a comment names another
+    outcome.
     """
     for it in events_of(script):
         if it is None:
@@ -111,18 +110,18 @@ def played_by(script, device):
 
 
 def device_behind(script):
-    """Returns the device after it has executed a script."""
+    """Returns the Python device after it has executed a script."""
     device = Model()
     for _ in played_by(script, device):
         pass
     return device
 
 
-# Functions for the expected results of `tpmsim`.
+# Functions that return the expected results of `tpmsim`.
 
 
 def fault_of(line):
-    """Returns the fault of a line, with its column; empty if the line is good."""
+    """Returns the fault of a line, with its column; empty if the line has none."""
     try:
         lines.assemble(line)
         return ""
@@ -147,7 +146,7 @@ def line_told(buffer):
 
 
 def traced(script):
-    """Returns how `tpmsim run --trace` ends with a script, whose lines may be arbitrary bytes."""
+    """Returns how `tpmsim run --trace` ends with a script. The lines may contain any bytes."""
     printed, error = player.played(script)
     status = {"": 0, "tpmsim: file": 3}.get(error, 2)
     output = "".join(f"{line}\n" for _, line in printed).encode("ascii")

@@ -1,12 +1,11 @@
-"""Tests which names `tpmsim` syncs to disk before it answers from a journal that another process
-began:
+"""Tests what `tpmsim` syncs to disk before it answers, if another process created the journal:
 
     python3 forced_names.py PROGRAM
 
-The process that renamed the journal to its name may have been killed before it synced the
-folder. The process that made the folder may also have been killed before it synced the parent.
-So each run syncs the folder and its parent once, before it prints a response. The shim tear.c
-notes the calls.
+The process that renamed the journal may have been killed before it synced the folder. The process
+that created the folder may also have been killed before it synced the parent. Therefore each run
+syncs the folder and its parent once, before it prints a response. The shim tear.c records the
+calls.
 """
 
 import pathlib
@@ -19,7 +18,7 @@ ABOVE = pathlib.Path("above")
 
 
 def order(program, label, words, stdin=b""):
-    """Prints the order in which a run syncs, renames and answers."""
+    """Prints the order in which a run syncs files, renames them and answers."""
     ending = ended(program.begun(words), stdin)
     calls = [call for call in program.noted() if call.startswith(FORCING)]
     print(f"{label}: status {ending.status}, {', '.join(calls) or 'nothing'}")

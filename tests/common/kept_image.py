@@ -1,4 +1,4 @@
-"""Compares the image that a run of the program stores with the image of the Python device."""
+"""Compares the image that a run of the program saves with the image of the Python device."""
 
 import pathlib
 
@@ -13,7 +13,8 @@ def opened():
 
 
 def identity():
-    """Returns values that change with each save; None if there is no image."""
+    """Returns the image's inode and time, which change with each save; None if there is no image.
+    """
     try:
         told = IMAGE.stat()
     except FileNotFoundError:
@@ -22,8 +23,8 @@ def identity():
 
 
 def check_image(label, device, compared=bytes):
-    """Checks that the file contains the device's image. `compared` selects the parts of the two
-    images that are compared.
+    """Checks that the file contains the device's image. `compared` maps each image to the part that
+    is compared.
     """
     if not IMAGE.exists():
         fail(f"{label}: there is no image")
@@ -34,8 +35,8 @@ def check_image(label, device, compared=bytes):
 
 
 def check_save(label, device, changes, old, compared=bytes):
-    """Checks the image after a command. If the command changes the device, the image must be the
-    device's; otherwise the image must still have its old identity.
+    """Checks the image after a command. If the command changes the device, the image must be that
+    of the device. Otherwise the file must not have been written.
     """
     if changes:
         check_image(label, device, compared)

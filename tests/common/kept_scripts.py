@@ -1,9 +1,8 @@
-"""Runs of `tpmsim run --image`, line by line:
+"""Plays scripts with `tpmsim run --image`, line by line:
 
     python3 kept_scripts.py PROGRAM
 
-The Python device plays the same lines. After each line it determines the image that the file has
-to contain.
+The Python device plays the same lines. After each line the file must contain its image.
 """
 
 import pathlib
@@ -48,7 +47,7 @@ class Run:
         self.process.stdin.flush()
 
     def read(self, line):
-        """Reads the output of the run for a line."""
+        """Checks the output of the run for a line, and returns the expected output."""
         wanted = self.player.play(line)
         given = [self.process.stdout.readline().decode().rstrip("\n") for _ in wanted]
         if given != wanted:
@@ -70,14 +69,14 @@ class Run:
                 self.is_saved, before = True, kept
 
     def end(self, stays=False):
-        """Ends the script. The clock of its last command is saved too, unless the image `stays`."""
+        """Ends the script. The image is then removed, unless `stays` is true."""
         end(self.process)
         check_image("the end", self.player.device)
         if not stays:
             IMAGE.unlink()
 
     def kill(self):
-        """Kills the program, and returns the device that the image must have."""
+        """Kills the program, and returns the device that must be in the image."""
         self.process.kill()
         ended(self.process)
         return open_image(image(self.player.device))
@@ -93,7 +92,7 @@ def watch(script):
 
 
 def check_powers():
-    """A power cycle also saves the clock, even if no command before it saved anything."""
+    """A power cycle saves the clock, even if no command before it caused a save."""
     run = Run()
     run.tell(b"do Startup 0", b"wait 5000", b"do ReadClock", b"power", b"do ReadClock")
     device = opened()
@@ -104,7 +103,9 @@ def check_powers():
 
 
 def check_kills():
-    """Kills the program after the first response, then in a new run after the second, and so on."""
+    """Kills the program after the first response, then in a new run after the second, and so on.
+    Each time, the image must contain all changes.
+    """
     lines = [b"do Startup 0", DEFINE, INCREMENT, INCREMENT, EXTEND, b"do Shutdown 1", INCREMENT]
     for count in range(1, len(lines) + 1):
         run = Run()
@@ -118,7 +119,8 @@ def check_kills():
 
 
 def check_entropy():
-    """A new device is made from the first random bytes. Opening an existing device needs none."""
+    """A new device is made from the first random bytes. An existing device needs none to be opened.
+    """
     random = bytes(range(255, -1, -1))
     pathlib.Path("entropy").write_bytes(random + b"left over")
     run = Run(None, "--entropy", "entropy")
@@ -133,7 +135,7 @@ def check_entropy():
 
 
 def check_unsaved():
-    """A response is sent after its change is saved, and not if the save fails."""
+    """A response is sent only after its change is saved. If the save fails, no response is sent."""
     BESIDE.mkdir()
     run = Run()
     (BESIDE / "file").touch()
@@ -159,9 +161,7 @@ def check_unsaved():
 
 
 def check_pieces():
-    """If many commands come at once, responses wait for the save of their changes, and are sent
-    after it.
-    """
+    """If many commands arrive at once, each response is sent only after its changes are saved."""
     run = Run()
     lines = [b"do Startup 0", DEFINE, *[INCREMENT] * 400, b"do NV_Read OWNER 01000002 pw:- 8 0"]
     run.write(*lines)

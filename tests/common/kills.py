@@ -1,20 +1,19 @@
 """Kills a served device at random moments, and checks its image after each kill:
 
-    python3 kills.py PROGRAM COUNT SEED          says that all was right, or what was not
-    python3 kills.py PROGRAM COUNT SEED counts   says in a second line when the kills happened
+    python3 kills.py PROGRAM COUNT SEED          prints whether all checks succeeded
+    python3 kills.py PROGRAM COUNT SEED counts   also prints how often kills hit each stage
 
-The test works in the current folder. The device has a counter and an index of 8 bytes. A
-connection reads both, increments the counter, and writes the counter's new number to the other
-index. So both numbers are always the same: the number of connections that the device has had.
+The test works in the current folder. The device has two indices: a counter, and an index of 8
+bytes. Each connection reads both, increments the counter, and writes the counter's new number to
+the other index. Therefore both always contain the number of connections that the device has had.
 
 After a client has read all responses, it closes its sending side, and reads to the end of the
-stream. The device is saved only after that. So a client knows that a connection has ended, with
-the device saved, only when a later connection is answered, or when the program has ended by
-itself.
+stream. The device is saved only after that. Therefore a client cannot know that its connection has
+ended with the device saved, until a later connection is answered, or the program ends by itself.
 
-An image has to be the device after the last connection that is known to have ended. If the
-client had closed the next connection before the kill, the image may also be the device after
-that one.
+The image must contain the device after the last connection that is known to have ended. If the
+client had closed the next connection before the kill, the image may instead contain the device
+after that one.
 """
 
 import collections
@@ -39,20 +38,20 @@ COUNTER, NUMBER = 0x0100_0002, 0x0100_0003
 
 
 class Wrong(Exception):
-    """A result that must not happen."""
+    """A wrong result of the program."""
 
 
 class Client(Caller):
-    """A caller with a connection of its own."""
+    """A caller with its own connection."""
 
     def answers(self):
-        """Sends TPM2_Startup(CLEAR), whether or not the device is started. DeviceEnded if the
-        stream ends first.
+        """Sends TPM2_Startup(CLEAR), whether or not the device is started. Raises DeviceEnded if
+        the stream ends first.
         """
         self.device.execute(self.starting(CLEAR).buffer())
 
     def number(self):
-        """Returns the number of connections that the device has had. Both of its indices must
+        """Returns the number of connections that the device has had. Checks that both indices
         contain it.
         """
         counter, number = (
@@ -64,7 +63,7 @@ class Client(Caller):
         return counter
 
     def more(self, number):
-        """Adds one to the numbers in both indices."""
+        """Adds one to both indices."""
         self.send(self.incrementing(COUNTER, by=RH_OWNER))
         self.send(self.writing(NUMBER, (number + 1).to_bytes(8, "big"), by=RH_OWNER))
 
@@ -93,7 +92,7 @@ def ends_so(process, wanted):
 
 
 def manufacture(program):
-    """Makes the image of a device whose two indices contain 1."""
+    """Makes an image of a new device, with 1 in both indices."""
     process = begun([program, *SERVE, "1"])
     client = connected(process)
     client.start_up()
@@ -105,13 +104,13 @@ def manufacture(program):
 
 
 def serve(process, known):
-    """Serves connections as long as the program runs. After each step it yields the last number
-    that is known to be saved, and whether the next number may be saved too.
+    """Serves connections as long as the program runs. After each step, yields the last number that
+    is known to be saved, and whether the next number may be saved too.
     """
     may_be_saved = False
     while client := connected(process):
         client.answers()
-        # This connection is answered, so the connection before it has ended.
+        # This connection was answered, so the previous one has ended.
         known, may_be_saved = known + may_be_saved, False
         yield known, may_be_saved
         number = client.number()
@@ -124,8 +123,8 @@ def serve(process, known):
 
 
 def until_killed(program, known, life):
-    """Serves until the program is killed. Returns the last values of `serve`, and whether a
-    connection was answered.
+    """Serves connections until the program is killed. Returns the last values that `serve` yielded,
+    and whether a connection was answered.
     """
     process = begun([program, *SERVE, "4294967295"])
     killed = threading.Event()
@@ -150,7 +149,9 @@ def until_killed(program, known, life):
 
 
 def looked_at(program):
-    """Checks that the image of a killed run is whole and opens, and returns the number in it."""
+    """Checks that the image of a killed run has the right digest and can be opened. Returns the
+    number of connections in it.
+    """
     image = pathlib.Path("image").read_bytes()
     if hashlib.sha256(image[:-DIGEST_SIZE]).digest() != image[-DIGEST_SIZE:]:
         raise Wrong("the image is not whole")
@@ -165,7 +166,7 @@ def looked_at(program):
 
 
 def tidy():
-    """Removes at most a hundred folders of killed runs. Returns whether there were any."""
+    """Removes the folders that killed runs left. Returns whether there were any."""
     left = list(pathlib.Path().glob(".[0-9]*"))
     for folder in left:
         shutil.rmtree(folder)

@@ -1,13 +1,14 @@
-"""Checks the lines of all scripts, and has `tpmsim line` find the lines of their buffers:
+"""Checks the lines of all scripts, and checks which lines `tpmsim line` finds for their buffers:
 
     python3 line.py PROGRAM
 
-Two checks apply to the buffer of each `do` line of tests/ and examples/. If it is divided as the
-device does and joined again by frames.py, it must be the same. The line that the Python device
-finds for it must assemble to it. In a script that a program wrote, each `cmd` line must be a
-command that no words can encode, unless the script says that its commands are bytes. The program
-must find the same lines. It is asked for the first buffers of each command and for a tenth of the
-others. Of the `cmd` lines it is asked for a twentieth, because altered scripts have many.
+Two checks apply to the buffer of each `do` line of tests/ and examples/. First, if the buffer is
+parsed and frames.py encodes the parts again, the result must be the same buffer. Second, the line
+that the Python device finds for the buffer must assemble to it. In a script that a program wrote,
+each `cmd` line must be a command that no line in words can encode, unless the script says that its
+commands are bytes. The program must find the same lines as the Python device. The test passes it
+the first buffers of each command and a tenth of the others, and only a twentieth of the `cmd`
+lines, because altered scripts have many.
 """
 
 import collections
@@ -32,7 +33,7 @@ line_of = functools.cache(lines.line_of)
 
 @functools.cache
 def assembled(line):
-    """Returns the buffer of a line; None for a bad line."""
+    """Returns the buffer of a line, or None for a bad line."""
     try:
         return lines.assemble(line)
     except lines.Fault:
@@ -40,7 +41,7 @@ def assembled(line):
 
 
 def put_together(buffer):
-    """Divides a buffer into its parts, as the device does, and joins them again."""
+    """Parses a buffer as the device does, and encodes its parts again."""
     fields = Fields(buffer)
     tag, code = general.read_header(fields, len(buffer))
     handles = [fields.number(4) for _ in code.handles]
@@ -58,7 +59,7 @@ def is_right(line):
 
 
 def faults(text):
-    """Yields the numbers of the lines at which a script is wrong."""
+    """Yields the numbers of the lines that fail these checks."""
     told = text.replace("\n# ", " ")
     is_written = (WROTE_THIS in told or MADE_THIS in told) and AS_BYTES not in told
     for number, line in enumerate(text.splitlines(), 1):
@@ -70,7 +71,7 @@ def faults(text):
 
 
 def arguments(word):
-    """Returns each different text that follows this word in the scripts."""
+    """Returns the arguments of this word in all scripts, without duplicates."""
     told = (
         line.partition(b" ") for it in places.scripts() for line in it.read_bytes().splitlines()
     )
@@ -78,7 +79,9 @@ def arguments(word):
 
 
 def check(turns, buffer):
-    """Returns whether the program finds the right line. If it does not, prints the right line."""
+    """Returns whether the program finds the right line. If not, prints the program's ending and the
+    right one.
+    """
     told, wanted = turns.run(word=buffer.hex().encode("ascii")), line_told(buffer)
     if told != wanted:
         print(f"FAILED: {buffer.hex()}: {told}, and not {wanted}")
@@ -86,7 +89,7 @@ def check(turns, buffer):
 
 
 def some(buffers):
-    """Yields the first few buffers of each command, and a part of its other buffers."""
+    """Yields the first few buffers of each command, and one of every STEP others."""
     seen = collections.Counter()
     for buffer in buffers:
         code = buffer[6:10]
@@ -95,7 +98,7 @@ def some(buffers):
         seen[code] += 1
 
 
-# A line that does not assemble may be the bad line of a script that must fail.
+# A script with a .status file must fail, so one of its lines may not assemble.
 ending_well = [it for it in places.scripts() if not it.with_suffix(".status").exists()]
 wrong = [f"{it}:{at}" for it in ending_well for at in faults(it.read_text("ascii"))]
 print("\n".join(f"FAILED: {it}" for it in wrong) or "each do line comes back as a line")

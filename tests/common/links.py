@@ -5,7 +5,7 @@
 Each link to a file of FOLDER must lead to an existing file or folder. Each #anchor must lead to a
 heading of the document; GitHub's rule makes anchors from headings. The program prints a line for
 each link that leads nowhere. It does not follow links to other sites. With --count the last line
-has the exact numbers; without it, the line says only that there are some. The status is 1 if a link
+has the exact numbers; otherwise it reports only that there are some. The status is 1 if a link
 leads nowhere.
 """
 
@@ -22,7 +22,7 @@ SITE = re.compile(r"^[a-z]+:")
 
 
 def blank(found: re.Match[str]) -> str:
-    """Returns only the line breaks of a match, so that line numbers stay the same."""
+    """Returns the line breaks of a match, so that line numbers stay the same when it is removed."""
     return "\n" * found[0].count("\n")
 
 
@@ -33,8 +33,8 @@ def anchor_of(heading: str) -> str:
 
 
 def anchors_of(text: str) -> set[str]:
-    """Returns all anchors of a document. A second heading of the same name has an anchor that ends
-    with -1.
+    """Returns all anchors of a document. The second heading with the same text gets an anchor that
+    ends with -1.
     """
     times: dict[str, int] = {}
     anchors = set()
@@ -47,14 +47,14 @@ def anchors_of(text: str) -> set[str]:
 
 
 def links_of(text: str) -> Iterator[tuple[int, str]]:
-    """Yields each link of a document with its line. Links in code do not count."""
+    """Yields each link of a document with its line number, except links in code."""
     prose = CODE.sub(blank, FENCE.sub(blank, text))
     for found in LINK.finditer(prose):
         yield prose.count("\n", 0, found.start()) + 1, found[1]
 
 
 def fault_of(document: pathlib.Path, target: str) -> str:
-    """Returns why a link leads nowhere; empty if it leads somewhere."""
+    """Returns why a link leads nowhere; empty if its target exists."""
     name, _, anchor = target.partition("#")
     path = document.parent / name if name else document
     if not path.exists():

@@ -2,11 +2,11 @@
 
     python3 lists_starved.py TPMSIM_LISTS
 
-Each allocation fails in turn: in one run only that one, in another also all that follow. Then
-either the image is opened and the line executed, or the run ends with status 3 and
-`tpmsim_lists: memory`. A script that has begun goes on: a command that needed the memory gets
-the response MEMORY. All responses have to be those of the Python device, in which the same
-commands get no memory.
+Each allocation fails in turn: in one run only that allocation, in another also all later ones. If
+opening the image or executing the line needs an allocation that failed, the run must end with
+status 3 and `tpmsim_lists: memory`. A script continues instead: a command that needs the memory
+gets the response MEMORY. All responses must be those of a Python device in which the same commands
+get no memory.
 """
 
 import collections
@@ -23,23 +23,25 @@ MEMORY = Ending(3, error=b"tpmsim_lists: memory\n")
 STARVED, SUCCESS = machine.STARVED.hex(), bytes(4).hex()
 CODE = slice(12, 20)
 
-# The commands that may get the response MEMORY, and the script. It has all commands. The list of
-# each of these commands grows at several sizes, and the script has the command at each of them.
+# The commands that may get the response MEMORY, and the script, which has all commands. Each of the
+# commands in GROWING adds to a list. The script sends it each time its list must allocate.
 GROWING = {CC.StartAuthSession, CC.CreatePrimary, CC.Load, CC.NV_DefineSpace, CC.EvictControl}
 SCRIPT = (HERE / "growing.tpm").read_bytes()
 LINES = SCRIPT.splitlines()
 
 
 def printed(starved=()):
-    """Returns the Python device's responses to the script, if these commands get no memory."""
+    """Returns the responses of a Python device in which the commands with these numbers get no
+    memory.
+    """
     player = Player(starved=starved)
     told = [player.play(line) for line in LINES]
     return [it[-1] for it in told if it and it[-1] != "power"]
 
 
 class Script:
-    """The script and its commands. Also counts how often each command got MEMORY when a single
-    allocation failed.
+    """The script and its commands. It counts how often each command got MEMORY when one allocation
+    failed.
     """
 
     def __init__(self, program):
@@ -67,8 +69,8 @@ class Script:
         return ending.output.decode("ascii").splitlines()
 
     def check_all_succeed(self):
-        """Checks that the script has each command of the device, and that each command succeeds at
-        least once.
+        """Checks that the script has each command of the device, and that each succeeds at least
+        once.
         """
         answered = zip(self.codes, self.whole)
         succeeded = {code for code, answer in answered if answer[CODE] == SUCCESS}
@@ -76,8 +78,8 @@ class Script:
             fail("the script does not have every command")
 
     def check_run(self, turn, ending):
-        """Compares all responses with those of the Python device. Returns the commands that got no
-        memory; each must be one that may.
+        """Compares all responses with those of the Python device. Returns the numbers of the
+        commands that got MEMORY. Only commands in GROWING may get it.
         """
         if ending == MEMORY:
             return []
@@ -91,8 +93,8 @@ class Script:
         return starved
 
     def check_alone(self, turn, ending):
-        """Checks that one failed allocation makes at most one command fail, which succeeds the next
-        time.
+        """Checks that one failed allocation makes at most one command fail, and that the same
+        command later succeeds.
         """
         starved = self.check_run(turn, ending)
         if len(starved) > 1:
@@ -115,7 +117,7 @@ class Script:
 
 
 def full_image():
-    """Returns the image of the device when the script has filled it."""
+    """Returns the image of the device after the script has filled it."""
     player = Player()
     for line in LINES:
         if line.startswith(b"do Clear "):
@@ -125,10 +127,10 @@ def full_image():
 
 
 def check_image(program, label, text):
-    """Opens an image and two bad ones. The digest of the first bad image is wrong, which is found
-    before the device allocates. The second bad image has an extra byte at its end, after
-    everything for which the device allocates. Once the file has been read, the run reports a bad
-    image, whatever memory there is.
+    """Opens an image and two bad ones. The first has a wrong digest, which is found before the
+    device allocates. The second has an extra byte at its end, which is found after the device has
+    allocated. Once a run has read the file, it reports the bad image even if later allocations
+    fail.
     """
     path, words = pathlib.Path("image"), ["open", "image"]
     path.write_bytes(text)

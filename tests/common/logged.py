@@ -1,12 +1,12 @@
-"""A device that is served with --log:
+"""Tests a device that is served with --log:
 
     python3 logged.py PROGRAM COUNT
     python3 logged.py PROGRAM --full FOLDER
 
-The responses that a caller received are compared with those that `tpmsim run` prints for the
-first image and the log, and with the explanation of the log. The first form does so over
-sessions, indices, a lockout and restarts; with a log that is cut; and after COUNT kills. The
-second form does so with the log in a folder on a disk that gets full.
+The responses that a caller received must be those that `tpmsim run` prints for the first image and
+the log, and those in the explanation of the log. The first form tests sessions, indices, a lockout
+and restarts; a log that is cut; and COUNT kills. The second form tests a log in a folder on a disk
+that gets full.
 """
 
 import contextlib
@@ -34,7 +34,7 @@ INDEX, COUNTER = 0x0100_0001, 0x0100_0002
 
 
 class Run:
-    """A run of the program on the present image, with its own log."""
+    """A run of the program on the present image, with a log of its own."""
 
     def __init__(self, program, name, connections, *options, folder=""):
         self.program, self.log = program, pathlib.Path(folder, f"{name}.log")
@@ -44,7 +44,9 @@ class Run:
         self.process = begun([program, *words])
 
     def played(self, log):
-        """Returns the responses that `tpmsim run` prints on a copy of the run's first image."""
+        """Returns the responses that `tpmsim run` prints for a log, on a copy of the run's first
+        image.
+        """
         shutil.copy(self.start, "played")
         printed = ran(self.program, "run", "--image", "played", str(log)).output
         return [bytes.fromhex(line) for line in printed.decode("ascii").split()]
@@ -102,8 +104,8 @@ def draw(tpm):
 
 
 def count_on(tpm, *others):
-    """Starts the device. Then calls the other uses and increments the counter, again and again,
-    until the device has ended.
+    """Starts the device. Then repeats the other uses and increments the counter, until the device
+    ends.
     """
     with contextlib.suppress(DeviceEnded):
         tpm.start_up()
@@ -114,7 +116,7 @@ def count_on(tpm, *others):
 
 
 def answered(*parts):
-    """Returns the responses over several connections, one after another."""
+    """Returns all responses of consecutive connections, one for each part."""
     responses = []
     for part in parts:
         connected("socket").close()
@@ -125,7 +127,8 @@ def answered(*parts):
 
 
 def check_uses(program, *options):
-    """Uses a device in three runs, each with its own log. Returns the last run."""
+    """Uses a device in three runs, each with its own log. Returns the last run and its responses.
+    """
     for use in (use_sessions, use_indices, use_lockout):
         run = Run(program, "_".join([use.__name__, *options]), 4, *options)
         responses = answered(use, draw)
@@ -136,7 +139,7 @@ def check_uses(program, *options):
 
 
 def check_cut(run, responses, chance):
-    """A log that is cut at any offset is valid up to the cut."""
+    """If a log is cut at any offset, its entries before the cut stay valid."""
     text = run.log.read_bytes()
     lines = text.splitlines(keepends=True)
     ends = [
@@ -154,7 +157,7 @@ def check_cut(run, responses, chance):
 
 
 def check_killed(program, number, chance):
-    """After a kill the log has each command that was answered, and at most one more."""
+    """After a kill the log contains each answered command, and at most one more."""
     run = Run(program, f"killed_{number}", MOST_CONNECTIONS)
     timer = threading.Timer(chance.uniform(*LIVES), run.process.kill)
 
@@ -170,7 +173,7 @@ def check_killed(program, number, chance):
 
 
 def check_full(program, folder, *options):
-    """If a disk gets full, the log and the image contain all answered commands."""
+    """If a disk gets full, the log and the image still contain all answered commands."""
     run = Run(program, "_".join(["full", *options]), 2, *options, folder=folder)
     responses = answered(count_on)
     end(run.process, FILE)
@@ -181,7 +184,7 @@ def check_full(program, folder, *options):
     [*_, number] = answered(lambda tpm: (tpm.start_up(), tpm.send(tpm.reading(COUNTER, 8))))
     end(again.process)
     again.log.unlink()
-    # One of the responses is that of TPM2_Startup. Five increments were made before.
+    # One of the responses is that of TPM2_Startup. `check_uses` has made five increments before.
     more = int.from_bytes(number[16:24], "big") - 5 - (len(responses) - 1)
     label = " ".join(options) or "no option"
     print(f"{label}: commands that are in the image and were not answered: {more}")

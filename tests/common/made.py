@@ -1,10 +1,12 @@
-"""Makes the scripts that are not stored, and their responses and traces by the Python device:
+"""Generates the scripts that are not stored, with their responses and traces from the Python
+device:
 
     tools/python.sh tests/common/made.py FOLDER          all of them
     tools/python.sh tests/common/made.py FOLDER NAME..   these, such as cut_commands
 
-The programs of these scripts begin with `Makes NAME.tpm`. For tests/nv/NAME.py it writes NAME.tpm,
-NAME.out and NAME.trace in FOLDER/nv. JOBS is the number of programs that run at a time.
+The docstrings of these scripts' programs begin with `Makes NAME.tpm`. For example, tests/nv/NAME.py
+makes NAME.tpm, NAME.out and NAME.trace in FOLDER/nv. JOBS is the number of programs that run at the
+same time.
 """
 
 import importlib
@@ -19,7 +21,7 @@ MAKES = re.compile(r'"""Makes (\w+)\.tpm\b')
 
 
 def programs() -> dict[str, pathlib.Path]:
-    """Returns the programs of generated scripts by their names, the largest first, since they take
+    """Returns the programs that generate scripts, by name. The largest come first, since they take
     longest.
     """
     found = {}
@@ -32,8 +34,8 @@ def programs() -> dict[str, pathlib.Path]:
 
 
 def make(program: pathlib.Path, folder: pathlib.Path) -> None:
-    """Makes the script of a program. The program's module has a `script`, or a caller `tpm` with a
-    script.
+    """Generates the script of a program. The program's module has a `script`, or a caller `tpm`
+    that has a script.
     """
     name = ".".join(program.relative_to(TOP).with_suffix("").parts)
     found = importlib.import_module(name)
@@ -42,7 +44,7 @@ def make(program: pathlib.Path, folder: pathlib.Path) -> None:
 
 
 def make_all(folder: pathlib.Path, *names: str) -> None:
-    """Makes the scripts of these names, or all scripts if there are no names."""
+    """Generates the scripts with these names, or all scripts if there are no names."""
     known = programs()
     asked = [(known[it], folder) for it in names or known]
     jobs = int(os.environ.get("JOBS") or os.cpu_count() or 1)

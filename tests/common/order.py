@@ -1,5 +1,5 @@
-"""A caller for scripts about the order of refusals. Each command has many faults, which are
-repaired one by one. The response always reports the first remaining fault.
+"""A caller for scripts about the order of refusals. Each command starts with many faults. They are
+repaired one by one, and the response must always report the first remaining fault.
 """
 
 from collections.abc import Sequence
@@ -21,9 +21,9 @@ class OrderTeller(Teller):
         closed: int | None = None,
         both: str = "BAD_AUTH/s1",
     ) -> None:
-        """Sends the faults of the authorization area, of the entries, and of their HMACs. `cut` are
-        truncated parameters. No password can authorize the index `closed`. `both` is the outcome of
-        two wrong entries.
+        """Sends commands with faults in the authorization area, in the entries, and in their HMACs.
+        `cut` are truncated parameters. No password can authorize the index `closed`. `both` is the
+        outcome if two entries are wrong.
         """
         text, last = b"".join(number(it, 4) for it in handles), len(uses)
         if code.authorized:
@@ -45,8 +45,8 @@ class OrderTeller(Teller):
     def in_order(
         self, code: CC, uses: Sequence[Means], *cases: tuple[str, str, Sequence[int], bytes]
     ) -> None:
-        """Sends the remaining faults, each with its outcome, handles and parameters. The first
-        handle's authorization value authorizes the command.
+        """Sends a command with each remaining fault. A case has its description, outcome, handles
+        and parameters. The authorization value of the first handle authorizes the command.
         """
         for what, outcome, handles, parameters in cases:
             by_value = self.auth_value(handles[0])

@@ -1,5 +1,5 @@
-"""Writes the output of a script as the Python device produces it: NAME.out, and NAME.trace if that
-file exists already.
+"""Writes the output of a script from the Python device: NAME.out, and also NAME.trace if that file
+exists already.
 """
 
 import pathlib
@@ -13,14 +13,14 @@ RANDOM_BYTES = 256
 
 
 def repeated(random: bytes) -> bytes:
-    """Returns the random bytes of a command: the bytes of an `entropy` line, repeated."""
+    """Returns the random bytes of a command: those of its `entropy` line, repeated."""
     return (random * RANDOM_BYTES)[:RANDOM_BYTES]
 
 
 @dataclass(frozen=True)
 class Played:
-    """The outcome of a command, with its locality and the milliseconds since the command before. A
-    power cycle has no outcome, and prints only its line of the trace.
+    """The outcome of a command, with its locality and the milliseconds since the previous command.
+    A power cycle has no outcome, and prints only a line of the trace.
     """
 
     outcome: Outcome | None = None

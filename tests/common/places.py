@@ -15,8 +15,8 @@ EXAMPLES = TOP / "examples"
 
 
 def of_tests() -> list[pathlib.Path]:
-    """Returns the scripts in the folders of tests/, sorted by name. tests/common does not count,
-    because its scripts are parts of tests.
+    """Returns the scripts in the folders of tests/, sorted by name. Those of tests/common are left
+    out, because they are parts of tests.
     """
     found = (it for it in TESTS.glob("*/*.tpm") if it.parent.name != "common")
     return sorted(found, key=lambda it: it.name)
@@ -24,8 +24,8 @@ def of_tests() -> list[pathlib.Path]:
 
 @functools.cache
 def folder_of_made() -> pathlib.Path:
-    """Returns the folder of the scripts that are not stored. This is TPMSIM_MADE, where
-    tools/scripts.sh has made them, or a temporary folder, where this function makes them.
+    """Returns the folder of the generated scripts. This is TPMSIM_MADE, if tools/scripts.sh has
+    generated them there. Otherwise this function generates them in a temporary folder.
     """
     told = os.environ.get("TPMSIM_MADE")
     if told:
@@ -47,5 +47,5 @@ def scripts() -> list[pathlib.Path]:
 
 
 def script(name: str) -> pathlib.Path:
-    """Returns the stored script with this name; KeyError if there is none."""
+    """Returns the stored script with this name. Raises KeyError if there is none."""
     return {it.stem: it for it in stored()}[name]

@@ -1,5 +1,5 @@
 """A caller that compares its device with the device's history. The accepted commands determine the
-state of a policy session.
+state of each policy session.
 """
 
 from typing import Any, Callable, Sequence
@@ -25,12 +25,12 @@ class PolicyTeller(Teller):
         self.script.device.tell = self.history.add
 
     def digest_of(self, session: Session) -> bytes:
-        """Returns the policy digest that the accepted assertions produce."""
+        """Returns the policy digest that the assertions accepted in a session produce."""
         return self.history.sessions.live[session.handle].policy.digest
 
     def digest_is(self, what: str, session: Session, wanted: bytes | None = None) -> None:
-        """Reads the policy digest by TPM2_PolicyGetDigest, and compares it with the assertions. It
-        must also be `wanted`, if that is given.
+        """Reads the policy digest with TPM2_PolicyGetDigest, and compares it with the accepted
+        assertions. If `wanted` is passed, the digest must also be equal to it.
         """
         told = self.digest_of(session)
         assert wanted in (None, told), what
@@ -40,7 +40,7 @@ class PolicyTeller(Teller):
     def makes(
         self, what: str, session: Session, told: Prepared, digest: str = "Its digest"
     ) -> None:
-        """Sends an assertion that must be accepted, and checks the digest after it."""
+        """Sends an assertion that must be accepted, and checks the policy digest after it."""
         self.does(what, told)
         self.digest_is(digest, session)
 
@@ -48,7 +48,7 @@ class PolicyTeller(Teller):
         """Sends a policy command with each of these parameter encodings, valid or not."""
         self.says(words, *(self.told(code, session, it) for it in texts))
 
-    # Commands whose HMACs are computed in another way.
+    # Commands with HMACs that are computed from another key or from other nonces.
 
     def with_key(self, key: bytes, prepare: Callable[..., Prepared], *those: Any) -> Prepared:
         with self.breaking(key=lambda *_: key):

@@ -1,11 +1,11 @@
-"""Compares the public calls that were asked for with the crates, and with docs/DECISIONS.md:
+"""Compares the requested public functions with the crates, and with docs/DECISIONS.md:
 
     python3 tests/common/public_calls.py ASKED PAGE FOLDER
 
-ASKED lists the requested items. PAGE has tables of the differences between the list and the
-crates of FOLDER. Each requested item must be in its crate by name; or PAGE names its
-replacement, which must exist. Whatever PAGE lists must really differ from the request. Each
-difference has a line. The status is 1 if there is one.
+ASKED lists the requested items. PAGE has tables of the differences between that list and the crates
+in FOLDER. Each requested item must exist in its crate under its name, unless PAGE names a
+replacement, which must exist. Each difference that PAGE lists must be real. The program prints a
+line for each fault. The status is 1 if there is one.
 """
 
 import pathlib
@@ -29,8 +29,8 @@ TABLE = re.compile(r"^\|(.+)\|\n\|[-|]+\|\n((?:\|.*\|\n)*)", re.M)
 
 @dataclass
 class Asked:
-    """The request: crates with their limits of lines, calls with their shapes as far as known, and
-    types with their cases.
+    """The request: crates with their limits of lines, functions with their types if known, and
+    enums with their variants.
     """
 
     limits: dict[str, int] = field(default_factory=dict)
@@ -38,7 +38,7 @@ class Asked:
     types: dict[str, list[str]] = field(default_factory=dict)
 
     def calls_of(self, crate: str) -> list[str]:
-        """Returns the requested calls of a crate."""
+        """Returns the requested functions of a crate."""
         return [call for call in self.calls if call.startswith(f"{crate}::")]
 
 
@@ -63,7 +63,7 @@ Row = tuple[str, ...]
 
 
 def tables_of(text: str) -> dict[Row, list[Row]]:
-    """Returns the rows of all tables of a page, by the words of their headers."""
+    """Returns the rows of all tables of a page, by the headers of the tables."""
     tables: dict[Row, list[Row]] = {}
     for head, rows in TABLE.findall(text):
         cells = tuple(cell.strip() for cell in head.split("|"))
@@ -73,8 +73,8 @@ def tables_of(text: str) -> dict[Row, list[Row]]:
 
 
 def names_in(cell: str) -> list[str]:
-    """Returns the names in a cell. A name without `::` belongs to the crate or type of the name
-    before it.
+    """Returns the names in a cell. A name without `::` belongs to the same crate or type as the
+    name before it.
     """
     names: list[str] = []
     for name in SPAN.findall(cell):
@@ -85,7 +85,9 @@ def names_in(cell: str) -> list[str]:
 
 
 class Comparison:
-    """Compares the request, the crates and the page. Each method yields differences of one kind."""
+    """Compares the request, the crates and the page. Methods such as `names` yield differences of
+    one kind.
+    """
 
     def __init__(self, asked: Asked, page: str, crates: Crates) -> None:
         self.asked = asked
@@ -99,12 +101,12 @@ class Comparison:
         self.known = [self.standing(call) for call in asked.calls]
 
     def rows(self, head: Row) -> list[Row]:
-        """Returns the rows of the tables with this header."""
+        """Returns the rows of all tables with this header."""
         return self.tables.get(head, [])
 
     def standing(self, name: str) -> str:
-        """Returns the name by which the page replaces a requested name, or the name itself if the
-        page has no replacement.
+        """Returns the present name of a requested item: its replacement on the page, or the same
+        name if the page has none.
         """
         if name in self.others:
             return self.others[name][0]
@@ -112,8 +114,8 @@ class Comparison:
         return f"{self.others[owner][0]}::{member}" if owner in self.others else name
 
     def calls_in(self, cell: str) -> list[str]:
-        """Returns the calls that a cell names, with replacements. A cell that names only crates
-        means all their calls.
+        """Returns the present names of the functions that a cell names. If the cell names only
+        crates, these are all their requested functions.
         """
         if set(SPAN.findall(cell)) <= set(self.asked.limits):
             calls = [call for crate in SPAN.findall(cell) for call in self.asked.calls_of(crate)]
@@ -122,12 +124,12 @@ class Comparison:
         return [self.standing(call) for call in calls]
 
     def call(self, name: str) -> Call | None:
-        """Returns the call with this name, if it exists."""
+        """Returns the function with this name, if it exists."""
         found = self.crates.find(name)
         return found.call if found else None
 
     def names(self) -> Iterator[str]:
-        """Yields the names of the list or the page that the crates do not have."""
+        """Yields the names in the request or on the page that the crates lack."""
         for name in [*self.asked.calls, *self.asked.types]:
             if not self.crates.find(self.standing(name)):
                 yield f"{name}: neither as asked for nor by the page"
@@ -142,7 +144,7 @@ class Comparison:
                     yield f"{name}: not there, as the page says"
 
     def is_as_asked(self, call: Call, asked: str) -> bool:
-        """Returns whether a call has the requested shape, with the present names of its types."""
+        """Returns whether a function has the requested types, by their present names."""
         for name, others in self.others.items():
             old, new = name.rpartition("::")[2], others[0].rpartition("::")[2]
             asked = re.sub(rf"\b{old}\b", new, asked)
@@ -150,7 +152,7 @@ class Comparison:
         return bool(re.fullmatch(re.escape(asked).replace("_", ".+") or ".*", shape))
 
     def shapes(self) -> Iterator[str]:
-        """Yields the calls whose shape is neither the requested one nor the one of the page."""
+        """Yields the functions whose types are neither the requested ones nor those on the page."""
         told = {name: row for row in self.rows(SHAPES) for name in self.calls_in(row[0])}
         for name, asked in self.asked.calls.items():
             row, call = told.pop(self.standing(name), None), self.call(self.standing(name))
@@ -167,14 +169,12 @@ class Comparison:
             yield f"{name}: the page says its shape, and it was not asked for"
 
     def cases_of(self, name: str) -> list[str]:
-        """Returns the cases of all types that replace a requested type."""
+        """Returns the variants of all enums that replace a requested enum."""
         found = map(self.crates.find, self.others.get(name, [name]))
         return [case for one in found if one for case in one.cases]
 
     def cases(self) -> Iterator[str]:
-        """Yields the faults and other enums whose cases are neither the requested ones nor those of
-        the page.
-        """
+        """Yields the enums whose variants are neither the requested ones nor those on the page."""
         told = {names_in(row[0])[0]: row for row in self.rows(FAULTS)}
         for name, asked in self.asked.types.items():
             row, cases = told.pop(name, None), self.cases_of(name)
@@ -188,8 +188,8 @@ class Comparison:
             yield f"{name}: the page says its cases, and it was not asked for"
 
     def premises(self) -> Iterator[str]:
-        """Yields the premises of calls that the page does not name, and the named premises that do
-        not exist.
+        """Yields the `requires` clauses of functions that the page lacks, and those on the page
+        that do not exist.
         """
         told: dict[str, list[str]] = {}
         for row in self.rows(PREMISES):
@@ -208,8 +208,8 @@ class Comparison:
             yield f"{name}: the page names its premise, and it was not asked for"
 
     def lines(self) -> Iterator[str]:
-        """Yields crates that do not exist, or have more lines than requested and than the page
-        says.
+        """Yields the crates that do not exist, and those that have more lines than both the request
+        and the page allow.
         """
         told = {SPAN.findall(row[0])[0]: row for row in self.rows(LINES)}
         for name, limit in self.asked.limits.items():
@@ -230,7 +230,7 @@ class Comparison:
 
 
 def numbers_of(row: Row) -> tuple[int, int]:
-    """Returns two numbers of lines from a row: the requested number, and the present one."""
+    """Returns the requested and the present number of lines in a row."""
     return int(row[1].replace(",", "")), int(row[2].replace(",", ""))
 
 

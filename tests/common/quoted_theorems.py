@@ -2,10 +2,10 @@
 
     python3 tests/common/quoted_theorems.py DOCUMENT FOLDER
 
-The first line of each code block names a file of FOLDER. The block's other lines must be in that
-file one after another, apart from white space at the beginning of lines. Each heading of the
-third level must have such a block. Then the test changes one letter of each block, and the
-comparison must find the change. The status is 1 if something differs.
+The first line of each code block names a file in FOLDER. The block's other lines must be
+consecutive lines of that file, apart from indentation. Each heading of the third level must have
+such a block. Then the test changes one letter in each block, and the comparison must find the
+change. The status is 1 if something differs.
 """
 
 import pathlib

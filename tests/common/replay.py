@@ -5,8 +5,8 @@
     python3 replay.py send SOCKET     sends each buffer in a connection of its own, and prints the
                                       responses
 
-The commands are those before the first `power` line; there must be no `loc` or `wait` line among
-them. The file `entropy` has the random bytes of a script's device, followed by those of each
+The commands are those before the first `power` line, and there must be no `loc` or `wait` line
+among them. The file `entropy` contains the random bytes for the new device, and then those for each
 command.
 """
 

@@ -1,11 +1,11 @@
-"""Runs of `tpmsim restore` that are killed before each of their calls, or in which each call fails:
+"""Runs `tpmsim restore`, and kills it before each of its calls, or makes each call fail:
 
     python3 restored_folders.py PROGRAM
 
-After a run, the folder has either its old device or the device of the state text. It never has
-another device, and never none. After a run that ended well it has the device of the text. After
-a run that failed it has that device only if the failed call came after the rename. The shim
-tear.c notes the calls.
+After a run, the folder must contain either its old device or the device of the state text, never
+another device or none. After a run that succeeded it must contain the device of the text. After a
+run that failed it may contain that device only if the failed call came after the rename. The shim
+tear.c records the calls.
 """
 
 import errno
@@ -22,13 +22,13 @@ FOLDER, KEPT, TEXT, NEVER = (
 WORDS = ["restore", str(FOLDER), str(TEXT)]
 AT_MOST_SECONDS = 30
 
-# The offset of the start of the layer from the end of a state text, and the sizes of the start and of
-# the digest at the end.
+# The number of the completing layer's start in a state text: its offset from the end, and its size.
+# Then the size of the digest at the end.
 START_AT, START_BYTES, DIGEST_BYTES = -176, 8, 32
 
 
 def device(program: str, folder: pathlib.Path, script: bytes) -> bytes:
-    """Returns the state text of a device after a script."""
+    """Returns the state text of a device after a script, which runs in a folder."""
     play = ran(program, "run", "--state", str(folder), "-", stdin=script)
     if play.status != 0:
         fail(f"{folder} was not played on: {play}")
@@ -44,15 +44,16 @@ def snapshot(program: str, folder: pathlib.Path) -> bytes:
 
 
 def is_other(found: bytes, wanted: bytes) -> bool:
-    """Whether two state texts differ. A restored device has a new start of its completing layer, so
-    the start does not count, nor does the digest after it.
+    """Returns whether two state texts are of different devices. The number of the completing
+    layer's start is new in each restored device. Therefore it is ignored, like the digest at the
+    end.
     """
     parts = (slice(START_AT), slice(START_AT + START_BYTES, -DIGEST_BYTES))
     return any(found[part] != wanted[part] for part in parts)
 
 
 def fresh(there: bool) -> None:
-    """Restores the folder with its old device if `there` is true; else removes the folder."""
+    """Empties the folder, and copies the old device into it if `there` is true."""
     shutil.rmtree(FOLDER, ignore_errors=True)
     if there:
         shutil.copytree(KEPT, FOLDER)
@@ -83,7 +84,7 @@ def failed(program: Tears, at: int) -> Ending:
 
 
 def kills(program: Tears, old: bytes, new: bytes) -> None:
-    """Kills a run before each call, once with and once without an old device."""
+    """Kills a run before each call, both with and without an old device in the folder."""
     for there in (True, False):
         at = 0
         fresh(there)
@@ -103,7 +104,7 @@ def kills(program: Tears, old: bytes, new: bytes) -> None:
 
 
 def failures(program: Tears, old: bytes, new: bytes) -> None:
-    """Makes each call of a run fail. The folder has an old device."""
+    """Makes each call of a run fail, with an old device in the folder."""
     at, told = 0, set()
     while True:
         at += 1

@@ -1,10 +1,9 @@
-"""A device that is served with --save-each:
+"""Tests a device that is served with --save-each:
 
     python3 save_each.py PROGRAM COUNT
 
-The image is checked after each response. It is checked again after COUNT kills, each immediately
-after a response. The Python device executes the same commands, and determines the expected
-image.
+The image is checked after each response, and after COUNT kills, each immediately after a response.
+The Python device executes the same commands, and determines the expected image.
 """
 
 import os
@@ -54,13 +53,13 @@ class Run:
         self.client = connected("socket")
 
     def wanted(self, line):
-        """Returns the expected response to the command. The comparison ignores the one to
-        ReadClock, which has the host's time.
+        """Returns the expected response to a command. For ReadClock the response is not compared,
+        because it contains the host's time.
         """
         return self.device.execute(buffer_of(line), 0, RANDOM).response
 
     def tell(self, *lines):
-        """Sends commands, and compares each response."""
+        """Sends commands, and checks each response."""
         for line in lines:
             self.client.sendall(buffer_of(line))
             given, wanted = answer(self.client), self.wanted(line)
@@ -79,7 +78,7 @@ class Run:
         check_image(label, self.device, image_told)
 
     def connect(self):
-        """Closes the connection, and opens another connection."""
+        """Closes the connection, and opens a new one."""
         self.close()
         self.client = connected("socket")
 
@@ -96,8 +95,8 @@ class Run:
 
 
 def check_each(program):
-    """In two connections, each change is saved before its response is sent, and nothing else is
-    saved.
+    """Each change is saved before its response is sent, and nothing else is saved. This is tested
+    in two connections.
     """
     run = Run(program, 2)
     first = sum([run.tell_and_look(line) for line in LINES])
@@ -113,7 +112,7 @@ def check_each(program):
 
 
 def check_kills(program, count):
-    """If the program is killed after any response, the image has the effects of all answered
+    """If the program is killed after a response, the image has the effects of all answered
     commands.
     """
     for number in range(count):
@@ -125,8 +124,8 @@ def check_kills(program, count):
 
 
 def check_pieces(program):
-    """If many commands arrive at once, the image has the effects of the answered ones, even if
-    others follow.
+    """If many commands arrive at once, the image has the effects of the answered ones, even while
+    later ones wait.
     """
     run = Run(program)
     told = ["Startup 0", *[INCREMENT] * 100]
@@ -146,7 +145,7 @@ def check_pieces(program):
 
 def check_unsaved(program):
     """If a change cannot be saved, its command is not answered, and the program ends. A command
-    that needs no save is answered.
+    that changes nothing is answered.
     """
     run = Run(program)
     run.tell(*LINES[:4])

@@ -14,21 +14,21 @@ from tests.common.outputs import Played, POWER, RANDOM_BYTES, repeated, write_ou
 
 COLUMNS = 100
 
-# The size of each command's `entropy` line, in bytes. With this size the nonces of a command all
+# The size of each command's `entropy` line, in bytes. It is chosen so that all nonces of a command
 # differ.
 SEED_BYTES = 7
 
-# How a script's first comment ends. It begins with the name of the script's program.
+# The ends of a script's first comment. They follow the name of the script's program.
 WROTE_THIS, MADE_THIS = ", next to it, wrote this.", " made this."
 
-# An outcome in a description: it comes after a colon, and before a comma or the end.
+# The outcome in a description. It comes after a colon, and before a comma or the end.
 SUCCESS = "SUCCESS"
 OUTCOME = re.compile(r"(?:^|: )([A-Z][A-Z0-9_]+)(/[hps][1-9])?(?=,|$)")
 
 
 def told_outcome(words: str) -> tuple[str, str, str]:
-    """Returns the outcome in a description, with the words before it and after it. ValueError if
-    there is no outcome, or more than one.
+    """Returns the outcome in a description, with the words before it and after it. Raises
+    ValueError unless there is exactly one outcome.
     """
     named = [it for it in OUTCOME.finditer(words) if it[1] == SUCCESS or it[1] in frames.CODES]
     if len(named) != 1:
@@ -38,16 +38,14 @@ def told_outcome(words: str) -> tuple[str, str, str]:
 
 
 def told_head(told: str) -> str:
-    """Returns the first paragraph of a program's description of its script, without the script's
-    name.
-    """
+    """Returns the first paragraph of a program's docstring, without the script's name."""
     return " ".join(told.split("\n\n")[0].partition(".tpm. ")[2].split())
 
 
 class Script:
-    """The lines of a script, and a device that executes each line as it is written. The script is
-    named after the program that writes it, unless a name is passed. Its file is stored next to the
-    program, or generated on each run.
+    """The lines of a script, and a device that executes each line as it is written. The script has
+    the name of the program that writes it, unless another name is passed. Its file is stored next
+    to the program, or generated on each run.
     """
 
     def __init__(
@@ -99,16 +97,17 @@ class Script:
         self.lines.append(f"entropy {seed.hex()}")
 
     def fresh(self) -> None:
-        """Gives the device random bytes that it has not had before."""
+        """Adds an `entropy` line with new random bytes."""
         self.seeds += 1
         self.entropy(hashlib.sha256(b"entropy %d" % self.seeds).digest()[:SEED_BYTES])
 
     def command(
         self, words: str, *buffers: bytes, fresh: bool = False, as_bytes: bool = False
     ) -> bytes:
-        """Adds commands, all with the outcome that `words` names after a colon. Returns the last
-        response. The words become a comment. If they are only the outcome, the last comment is
-        continued. ValueError if a command has another outcome.
+        """Adds commands, which must all have the outcome that `words` names after a colon. Returns
+        the last response. The words become a comment. If they consist only of the outcome, the
+        commands are added after the last comment. Raises ValueError if a command has another
+        outcome.
         """
         before, outcome, after = told_outcome(words)
         if before:
@@ -132,9 +131,9 @@ class Script:
         return self.command("TPM2_Startup(CLEAR): SUCCESS", startup)
 
     def allow_tries(self) -> None:
-        """Sets the dictionary attack parameters for scripts with wrong authorization values that
-        are not about that protection. Without these parameters the device would refuse right
-        values too after the third wrong one.
+        """Sets the dictionary attack parameters, for scripts that send wrong authorization values
+        for other reasons than to test that protection. Otherwise the device would refuse even right
+        values after the third wrong one.
         """
         self.command(
             "TPM2_DictionaryAttackParameters: maxTries and recoveryTime are 1,000, lockoutRecovery "
@@ -147,9 +146,9 @@ class Script:
         )
 
     def wait_each_time(self) -> None:
-        """Lets a second pass before each further command, since a wrong value for lockoutAuth
-        disables lockoutAuth until lockoutRecovery has passed. Call allow_tries first, to make that
-        a second.
+        """Lets a second pass before each later command, because a wrong value for lockoutAuth
+        disables lockoutAuth until lockoutRecovery has passed. Call allow_tries first, which sets
+        lockoutRecovery to a second.
         """
         self.chapter(
             "A wrong try at lockoutAuth closes it for lockoutRecovery. So a second passes before "
@@ -158,8 +157,8 @@ class Script:
         self.pause = 1000
 
     def write_below(self, folder: pathlib.Path) -> None:
-        """Writes the script with its responses and its trace, in FOLDER/GROUP. GROUP is the name of
-        its program's folder.
+        """Writes the script, its responses and its trace to FOLDER/GROUP. GROUP is the name of the
+        folder of its program.
         """
         self.path = folder / self.path.parent.name / self.path.name
         self.path.parent.mkdir(parents=True, exist_ok=True)

@@ -1,6 +1,6 @@
 """A caller whose commands become a script. Each command has a description and an expected outcome.
-The caller checks each response, and stops if it differs from the response that it computes
-itself.
+The caller checks each response, and stops if it differs from the response that the caller has
+computed.
 """
 
 import hashlib
@@ -17,12 +17,12 @@ from tests.common.script import Script, SUCCESS
 HASHES = ((SHA1, "SHA-1"), (SHA256, "SHA-256"))
 KINDS = ((SE_POLICY, "policy"), (SE_TRIAL, "trial"))
 
-# The first indices of most scripts.
+# The first indices that most scripts use.
 FIRST, SECOND, THIRD, FOURTH = range(0x0100_0001, 0x0100_0005)
 
 
 def zeros(session: Session) -> bytes:
-    """Returns the digest of a policy without assertions."""
+    """Returns the policy digest of a session without assertions."""
     return bytes(digest_bytes(session.algorithm))
 
 
@@ -31,8 +31,9 @@ def is_trial(session: Session) -> bool:
 
 
 class ScriptCaller(PreparedCommands):
-    """A caller each of whose commands takes its description first. If the command may be refused,
-    the description names its outcome, such as "By another password: BAD_AUTH/s1".
+    """A caller whose methods take a description of a command as their first argument. If the
+    command may be refused, the description names the outcome, such as "By another password:
+    BAD_AUTH/s1".
     """
 
     def __init__(self, script: Script) -> None:
@@ -41,18 +42,18 @@ class ScriptCaller(PreparedCommands):
         self.ticket, self.creation_data = (0, b""), b""
 
     def next_nonce(self, size: int = NONCE_BYTES) -> bytes:
-        """Returns the next nonce. The nonces are the same in each script."""
+        """Returns the next nonce. All scripts use the same sequence of nonces."""
         self.nonces += 1
         return hashlib.sha256(b"nonce %d" % self.nonces).digest()[:size]
 
     # Methods that send commands.
 
     def refused(self, words: str, *prepared: Prepared) -> None:
-        """Sends commands that must be refused. Sessions then stay as they were."""
+        """Sends commands that must be refused. The caller's sessions do not change."""
         self.script.command(words, *(it.buffer() for it in prepared), fresh=True)
 
     def says(self, words: str, *prepared: Prepared) -> bytes:
-        """Sends commands that have no entry of a session and draw no random bytes."""
+        """Sends commands that have no session entry and draw no random bytes."""
         return self.script.command(words, *(it.buffer() for it in prepared))
 
     @staticmethod
@@ -60,7 +61,7 @@ class ScriptCaller(PreparedCommands):
         return any(isinstance(it, Use) for it in prepared.uses)
 
     def fails(self, words: str, *prepared: Prepared) -> None:
-        """Sends commands. The device gets fresh random bytes if a session has an entry."""
+        """Sends commands. If a session has an entry, the script first sets new random bytes."""
         buffers = [it.buffer() for it in prepared]
         self.script.command(words, *buffers, fresh=any(map(self.draws, prepared)))
 
@@ -68,16 +69,16 @@ class ScriptCaller(PreparedCommands):
         self, what: str, prepared: Prepared, fresh: bool = True
     ) -> tuple[int | None, bytes]:
         """Sends a command that must be accepted, and checks its response. Returns the handle and
-        the decrypted parameters. Without a description the last comment is continued. The part
-        of `what` after a `|` comes after the outcome.
+        the decrypted parameters. If the description is empty, the last comment is continued. The
+        part of `what` after a `|` is written after the outcome.
         """
         before, bar, after = what.partition("|")
         words = f"{before}: {SUCCESS}{bar and ', '}{after}"
         return self.received(prepared, self.script.command(words, prepared.buffer(), fresh=fresh))
 
     def does(self, what: str, prepared: Prepared) -> bytes:
-        """Sends a command that must be accepted. The device gets fresh random bytes if a session
-        has an entry. Returns the parameters.
+        """Sends a command that must be accepted. If a session has an entry, the script first sets
+        new random bytes. Returns the response's parameters.
         """
         return self.accepted(what, prepared, self.draws(prepared))[1]
 
@@ -113,7 +114,7 @@ class ScriptCaller(PreparedCommands):
         return self.start(what, kind=SE_TRIAL, **choices)
 
     def each_session(self, **choices: Any) -> Iterator[Session]:
-        """Yields a policy session and a trial session for each hash in turn, each in its own
+        """Yields a policy session and a trial session for each hash algorithm, each in its own
         chapter.
         """
         for algorithm, hash_name in HASHES:
@@ -130,8 +131,8 @@ class ScriptCaller(PreparedCommands):
     # Commands for objects.
 
     def creation_answer(self, response: Response) -> Public:
-        """Returns the public area in a response. The response's creation data must have its
-        creation hash.
+        """Returns the public area in a response. Checks that the response's creation hash is that
+        of its creation data.
         """
         public, ticket = Public.read(response["outPublic"]), response["creationTicket"]
         self.creation_data = response["creationData"]
@@ -143,7 +144,7 @@ class ScriptCaller(PreparedCommands):
     def create_primary(
         self, what: str, hierarchy: int, public: Public, *uses: Means, **more: Any
     ) -> int:
-        """Makes a primary object, and returns its handle."""
+        """Creates a primary object, and returns its handle."""
         response = self.response(what, self.primary(hierarchy, public, *uses, **more))
         assert response["name"] == self.creation_answer(response).name
         assert response.handle
@@ -170,7 +171,7 @@ class ScriptCaller(PreparedCommands):
         return response.handle
 
     def read_public(self, what: str, handle: int, *uses: Means) -> tuple[Public, bytes]:
-        """Reads the public area of an object, whose Name the caller knows. Returns the area and the
+        """Reads the public area of an object, and checks its Name. Returns the area and the
         qualified name.
         """
         response = self.response(what, self.public(handle, *uses))
@@ -212,13 +213,13 @@ class ScriptCaller(PreparedCommands):
         offset: int = 0,
         by: int | None = None,
     ) -> None:
-        """Reads bytes of the index. They must be `data`."""
+        """Reads bytes of an index, and checks that they are `data`."""
         prepared = self.reading(index, len(data), *uses, offset=offset, by=by)
         assert self.does(what, prepared) == sized(data), what
 
     def read_index_public(self, what: str, index: int, *uses: Means) -> nv.Public:
-        """Reads an index's public area. The caller records it, because TPM2_Startup may have
-        changed it.
+        """Reads an index's public area. The caller stores it, because TPM2_Startup may have changed
+        it.
         """
         fields = Fields(self.does(what, self.index_public(index, *uses)))
         fields.sized()
@@ -227,12 +228,14 @@ class ScriptCaller(PreparedCommands):
         return public
 
     def is_now(self, what: str, index: int, *uses: Means, added: int = 0, cleared: int = 0) -> None:
-        """Reads a public area. Only these attributes must have changed since it was read last."""
+        """Reads an index's public area. The only changes since it was last read must be the
+        attributes `added` and `cleared`.
+        """
         wanted = self.publics[index].but(added, cleared)
         public = self.read_index_public(what, index, *uses)
         assert public == wanted, f"{what}: {public.attributes:08x}"
 
-    # Commands for what the device keeps.
+    # Commands for state that the device keeps without power.
 
     def start_up(self, what: str, kind: int = CLEAR) -> None:
         """Sends TPM2_Startup. With CLEAR, the platform's authorization value becomes empty."""

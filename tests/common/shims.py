@@ -1,5 +1,5 @@
-"""Runs of a program, and runs with a shim: a library in C that replaces functions of the C library,
-and makes some of their calls fail.
+"""Runs a program, alone or with a shim. A shim is a library in C that replaces functions of the C
+library, and makes some of their calls fail.
 """
 
 import functools
@@ -18,10 +18,10 @@ AT_MOST = 60
 SHOWN = 2000
 SERVE = "serve --socket socket --image image --entropy entropy --locality 0 --connections".split()
 
-# The files that any run may leave.
+# Files that any run may leave in its folder.
 OWN = {"image", "image.lock", "entropy"}
 
-# Functions that allocate, other than the two that the shim refuse.c replaces.
+# Functions that allocate memory and that the shim refuse.c does not replace.
 OTHERS = (
     "aligned_alloc calloc memalign mmap mmap64 mremap posix_memalign pvalloc reallocarray"
     " brk sbrk valloc".split()
@@ -30,14 +30,14 @@ OTHERS = (
 FOREVER = 1_000_000_000
 CALLS = pathlib.Path("calls")
 
-# The data that turns.h reads and writes: first the two numbers of a run, and after the run its
-# status and its mark.
+# The data that is exchanged with turns.h: before a run its two numbers, and after it its status and
+# its mark.
 TURN, REPORT = struct.Struct("ll"), struct.Struct("ii")
 
 
 @dataclass(frozen=True)
 class Ending:
-    """The status with which a run ended, and its output."""
+    """The exit status of a run, and its output."""
 
     status: int
     output: bytes = b""
@@ -50,12 +50,12 @@ ENTROPY = Ending(3, error=b"tpmsim: entropy\n")
 
 
 def fail(words):
-    """Ends the test with a description of what is wrong, cut off at a readable length."""
+    """Ends the test with a description of the fault, which is cut to a readable length."""
     sys.exit(f"WRONG: {words[:SHOWN]}")
 
 
 def begun(words, folder=".", **environment):
-    """Begins a run in a folder, with these variables added to its environment."""
+    """Begins a run in a folder. The keyword arguments are added to its environment."""
     told = {name: str(value) for name, value in environment.items()}
     pipes = dict.fromkeys(("stdin", "stdout", "stderr"), subprocess.PIPE)
     return subprocess.Popen(words, cwd=folder, env={**os.environ, **told}, **pipes)
@@ -74,20 +74,20 @@ def end(process, wanted=WELL, label="a run"):
 
 
 def ran(*words, stdin=b""):
-    """Runs a program to its end, and returns the ending."""
+    """Runs a program to its end. Returns its status and output."""
     done = subprocess.run(words, input=stdin, capture_output=True, timeout=AT_MOST, check=False)
     return Ending(done.returncode, done.stdout, done.stderr)
 
 
 class Room:
-    """A folder with the files of a run: its image, if any, and its random bytes."""
+    """A folder with the files of a run: its image, if it has one, and its random bytes."""
 
     def __init__(self, name):
         self.path = pathlib.Path(name)
 
     def furnish(self, image, entropy):
-        """Empties the folder, and adds the image and the random bytes. The folder itself stays,
-        because runs may have begun in it.
+        """Empties the folder, and writes the image and the random bytes. The folder itself is not
+        replaced, because processes may already run in it.
         """
         self.path.mkdir(exist_ok=True)
         for path in self.path.iterdir():
@@ -106,12 +106,12 @@ class Room:
 
     @property
     def left(self):
-        """Returns the other files that a run has left."""
+        """Returns the names of other files that a run has left in the folder."""
         return tuple(sorted({path.name for path in self.path.iterdir()} - OWN))
 
 
 class Shim:
-    """A program with a shim, which is built in a folder."""
+    """A program with a shim, which is compiled in a folder."""
 
     def __init__(self, program, name, folder="."):
         self.program, self.library = program, pathlib.Path(folder, f"{name}.so").resolve()
@@ -119,8 +119,8 @@ class Shim:
         subprocess.run(words, check=True)
 
     def check_calls(self, others):
-        """Checks that the program calls none of the other functions that do the same as the shim's
-        functions. Returns the functions that it calls.
+        """Checks that the program calls none of these functions, which do the same as those of the
+        shim. Returns the functions that it calls.
         """
         words = ["nm", "-D", "--undefined-only", self.program]
         told = subprocess.run(words, check=True, capture_output=True, text=True).stdout
@@ -134,7 +134,7 @@ class Shim:
 
 
 class MemoryFile:
-    """A standard stream of runs. Each run reads or writes it from its beginning."""
+    """A standard stream of several runs. Each run reads or writes it from the start."""
 
     def __init__(self, name):
         self.name, self.file = name, open(os.memfd_create(name), "w+b", buffering=0)
@@ -153,8 +153,8 @@ class MemoryFile:
 
 
 class Turns:
-    """Runs in a folder, one after another, of a program with a shim that includes turns.h. All runs
-    have the same words, except that the last word may differ.
+    """Consecutive runs of a program in a folder, with a shim that includes turns.h. All runs have
+    the same arguments, except that the last one may differ.
     """
 
     def __init__(self, shim, words, folder="."):
@@ -179,13 +179,14 @@ class Turns:
         self.process.wait()
 
     def begin(self, first=0, second=0, word=None, stdin=b""):
-        """Begins a run with the two numbers for its shim, and with a last word if there is one."""
+        """Begins a run with the two numbers for its shim, and with a last argument if there is one.
+        """
         for stream, content in zip(self.streams, (stdin, b"", b"")):
             stream.fill(content)
         self.socket.send(TURN.pack(first, second) + (b"" if word is None else word + b"\0"))
 
     def poll(self):
-        """Returns None while the run goes on, like a process's `poll`."""
+        """Returns None while the run continues, like the method `poll` of a process."""
         ready, _, _ = select.select([self.socket], [], [], 0)
         return ready or None
 
@@ -204,14 +205,14 @@ class Turns:
 
 
 class Tears(Shim):
-    """A program with the shim tear.c, which notes its calls and makes one of them fail."""
+    """A program with the shim tear.c, which records the calls and makes one of them fail."""
 
     def __init__(self, program):
         super().__init__(program, "tear")
 
     def begun(self, words, folder=".", at=0, error=0, calls=CALLS, **told):
-        """Begins a run in which call number `at` fails with an error. If the error is 0, the call
-        moves half its bytes.
+        """Begins a run in which call number `at` fails with an error. If `error` is 0, the call
+        succeeds, but moves only half of its bytes.
         """
         calls.unlink(missing_ok=True)
         told |= {"AT": at, "ERROR": error, "CALLS": calls.resolve()}
@@ -219,13 +220,13 @@ class Tears(Shim):
 
     @staticmethod
     def noted(calls=CALLS):
-        """Returns the calls so far, each with its file."""
+        """Returns the calls of a run so far, each with the name of its file."""
         return [call.strip() for call in calls.read_text("ascii").splitlines()]
 
 
 class Refusals(Shim):
     """A program with the shim refuse.c, which makes allocations fail. The two numbers of a run are
-    those of the first and the last allocation that fails.
+    the numbers of the first and the last allocation that fail.
     """
 
     def __init__(self, program):
@@ -240,9 +241,9 @@ class Refusals(Shim):
 
     @staticmethod
     def each(turns, run):
-        """Makes each allocation fail in turn: in one run only that one, and in another that one
-        and all later ones. `run` makes a run from the two numbers. Yields each allocation's
-        number, with the results of both runs.
+        """Makes each allocation fail in turn: in one run only that allocation, and in another run
+        all later ones too. `run` starts a run with the two numbers. Yields each allocation's number
+        and the results of both runs.
         """
         turn = 1
         while True:
@@ -255,11 +256,12 @@ class Refusals(Shim):
             fail("nothing could be refused")
 
     def compare(self, label, turns, run, whole, starved, needed=FOREVER, explains=False):
-        """Checks that a run results in `starved` if all allocations from one on fail. If a single
-        allocation fails, the result may also be `whole`. After the first `needed` allocations
-        the result is always `whole`. If the program `explains` a fault that it has printed, it
-        needs its last allocations only for that: `needed` is then at least 1, and the first run
-        that results in `whole` shows how much. Returns the number of allocations.
+        """Checks that a run results in `starved` if an allocation and all later ones fail. If only
+        one allocation fails, the result may also be `whole`. If only allocations after the first
+        `needed` ones fail, the result must be `whole`. If `explains` is true, the program uses its
+        last allocations only to explain a fault that it has already printed. Then `needed` is at
+        least 1, and is determined by the first run that results in `whole`. Returns the number of
+        allocations.
         """
         for turn, alone, rest in self.each(turns, run):
             if explains and turn > 1 and turn <= needed and rest == whole:
@@ -271,8 +273,8 @@ class Refusals(Shim):
         return turn
 
     def check(self, label, words, whole, memory, stdin=b"", needed=FOREVER, explains=False):
-        """Does the same as `compare` for how a run ends. The ending must be `whole` if no
-        allocation fails.
+        """Does the same as `compare` for the ending of a run. If no allocation fails, it must be
+        `whole`.
         """
         with Turns(self, words) as turns:
             run = functools.partial(turns.run, stdin=stdin)

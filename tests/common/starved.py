@@ -2,10 +2,10 @@
 
     python3 starved.py PROGRAM
 
-Each allocation fails in turn: in one run only that one, in another that one and all later ones. If
-all later ones fail too, the run has to end with status 3 and `tpmsim: memory`. If only one fails,
-the run has to end in the same way, or exactly as without a failure, because some collections retry
-with a smaller size.
+Each allocation fails in turn: in one run only that allocation, in another run all later ones too.
+If all later ones fail too, the run must end with status 3 and `tpmsim: memory`. If only one fails,
+the run must end in that way, or exactly as without a failure, because some collections retry with a
+smaller size.
 """
 
 import functools
@@ -22,8 +22,8 @@ TOP = HERE.parent.parent
 SCRIPT = TOP / "examples/measured_boot.tpm"
 MEMORY = Ending(3, error=b"tpmsim: memory\n")
 
-# The bytes that a connection sends: TPM2_Startup(CLEAR), TPM2_GetRandom of 4 bytes, and a new
-# ownerAuth.
+# The bytes that a connection sends: TPM2_Startup(CLEAR), TPM2_GetRandom of 4 bytes, and a command
+# that changes ownerAuth.
 SENT = bytes.fromhex(
     "80010000000c000001440000"
     "80010000000c0000017b0004"
@@ -32,7 +32,7 @@ SENT = bytes.fromhex(
 )
 ROOM = Room("served")
 
-# Results are cached, because most runs leave the image that they found.
+# Results are cached, because most runs do not change the image.
 image_told = functools.cache(streams.image_told)
 
 
@@ -41,7 +41,7 @@ def out_of(name):
 
 
 def check_words(program):
-    """Tests runs that need only their words."""
+    """Tests runs that need only arguments, and no client."""
     script, line = str(SCRIPT), "Startup 0"
     pathlib.Path("bad").write_text("do Startup 3 3\n", "ascii")
     pathlib.Path("startup").write_text("do Startup 0\n", "ascii")
@@ -68,7 +68,7 @@ def check_words(program):
         ("a number that is none", [*SERVE, "x"], usage),
     ]
     for label, words, whole in cases:
-        # After a fault the program looks in the environment whether it has to explain the fault.
+        # After a fault the program reads the environment to find out whether to explain the fault.
         program.check(label, words, whole, MEMORY, explains=whole.status != 0)
     program.check("a script on standard input", ["run", "-"], played, MEMORY, SCRIPT.read_bytes())
     for words in ["--help", "--version", "run --help", "serve --help"]:
@@ -77,7 +77,7 @@ def check_words(program):
 
 @dataclass(frozen=True)
 class Service:
-    """The result of a serving run: how it ended, its responses, and its folder."""
+    """The result of a run that serves: its ending, its responses, and the files in its folder."""
 
     ending: Ending
     answers: bytes
@@ -99,9 +99,9 @@ def talked(turns):
 
 
 def check_service(program, label, image, connections):
-    """Tests runs that serve this many connections, with or without an image. A run allocates before
-    it makes its socket. So a run whose allocation fails answers nothing, and leaves only the
-    lock of its image.
+    """Tests runs that serve this many connections, with or without an image. A run makes all its
+    allocations before it creates its socket. Therefore a run whose allocation fails sends no
+    response, and leaves only the lock of its image.
     """
 
     def run(*refused):

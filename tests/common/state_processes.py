@@ -1,9 +1,10 @@
-"""Runs several processes of one kept device at once, and kills some of them:
+"""Runs several processes on one kept device at once, and kills some of them:
 
     python3 state_processes.py PROGRAM
 
-Each command extends PCR 16. The journal has all answered commands: PCR 16 has had at least as
-many extends as were answered, and at most one more for each process that was killed.
+Each command extends PCR 16. The journal must contain all answered commands. Therefore PCR 16 must
+have been extended at least once for each answered command, and at most once for each command that
+was sent.
 """
 
 import hashlib
@@ -30,12 +31,12 @@ def begun(program: str, script: str) -> "subprocess.Popen[bytes]":
 
 
 def answers(run: "subprocess.Popen[bytes]") -> list[str]:
-    """Returns the responses of a run up to its end."""
+    """Returns the remaining responses of a run."""
     return run.communicate()[0].decode("ascii").splitlines()
 
 
 def extends(program: str) -> int:
-    """Returns the number of extends that PCR 16 has had."""
+    """Returns how often PCR 16 has been extended."""
     (line,) = answers(begun(program, READ))
     value = bytes.fromhex(line)[-32:]
     count = 0
@@ -49,7 +50,7 @@ def extends(program: str) -> int:
 
 
 def together(program: str, processes: int, each: int) -> None:
-    """Runs several processes at once, each of which makes `each` extends."""
+    """Runs several processes at once. Each process extends PCR 16 `each` times."""
     before = extends(program)
     runs = [begun(program, EXTEND * each) for _ in range(processes)]
     said = [line for run in runs for line in answers(run)]

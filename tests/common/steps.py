@@ -1,4 +1,4 @@
-"""A caller of scripts with the steps that many scripts need, and the values in these steps."""
+"""A caller with the steps that many scripts need, and the values in these steps."""
 
 import contextlib
 import functools
@@ -21,7 +21,7 @@ HIERARCHIES = (
     (RH_NULL, "TPM_RH_NULL"),
 )
 
-# The entities with an authorization value that can change, each with a value.
+# Hierarchies and lockout, each with its name and an authorization value.
 AUTHORIZED = (
     (RH_OWNER, "TPM_RH_OWNER", b"owner"),
     (RH_ENDORSEMENT, "TPM_RH_ENDORSEMENT", b"endorsement"),
@@ -29,8 +29,8 @@ AUTHORIZED = (
     (RH_LOCKOUT, "TPM_RH_LOCKOUT", b"lockout"),
 )
 
-# Attributes of two objects: one with dictionary attack protection, and one whose key the device
-# generates.
+# Attributes of two kinds of objects: one with dictionary attack protection, and one whose key the
+# device generates.
 PROTECTED = HERE | Attribute.USER_WITH_AUTH
 GENERATED = HERE | OPEN | Attribute.SENSITIVE_DATA_ORIGIN
 
@@ -42,12 +42,12 @@ AFTER_AUTH_VALUE = {
 
 RESTRICTED_KEY = hmac_key(attributes=HERE | OPEN | Attribute.RESTRICTED)
 
-# Handles that do not name objects, and the outcome of a command that needs an object.
+# Handles that do not name objects. A command that needs an object refuses them with this outcome.
 OTHERS = RH_OWNER, RH_NULL, 0, 0x0100_0000, 0x0200_0000, 0x0300_0000
 NO_OBJECT = "No object's handle: TPM_RH_OWNER, TPM_RH_NULL, PCR 0, an NV index, sessions: VALUE/h1"
 
-# Uses of a session whose policy demands the authorization value, in the HMAC's key or as a
-# password.
+# Functions that return the use of a session whose policy demands the authorization value, in the
+# HMAC's key or as a password.
 with_value = functools.partial(Use, demand=AUTH_VALUE)
 in_plain = functools.partial(Use, demand=PASSWORD)
 
@@ -55,13 +55,15 @@ in_plain = functools.partial(Use, demand=PASSWORD)
 def aes_key(
     attributes: int = Attribute.SIGN | Attribute.DECRYPT, algorithm: int = SHA256
 ) -> Public:
-    """Returns the template of an AES key from the caller, with these further attributes."""
+    """Returns the template of an AES key whose value the caller chooses, with these additional
+    attributes.
+    """
     return Public(SYMCIPHER, algorithm, HERE | OPEN | attributes)
 
 
 class Steps(Teller):
-    """A caller whose steps send commands. Their outcome is in the step's description, or else in
-    the step's name.
+    """A caller whose methods send the commands of common steps. The outcome of a step is in its
+    description, or else follows from the method's name.
     """
 
     # Steps for commands that need an object.
@@ -73,8 +75,7 @@ class Steps(Teller):
         transient: Sequence[int] = (0x8000_0000, 0x8000_0008, 0x80FF_FFFF),
         persistent: Sequence[int] = (0x8100_0000,),
     ) -> None:
-        """Sends a command while there is no object: on handles of other kinds, and on handles of
-        objects.
+        """Sends a command on handles of other kinds, and on handles of objects that do not exist.
         """
         self.says(NO_OBJECT, *map(prepare, (*OTHERS, *more)))
         words = "A transient object, while there is none: REFERENCE_H0"
@@ -105,7 +106,7 @@ class Steps(Teller):
         flushed: str = "It is flushed",
         **more: Any,
     ) -> Iterator[int]:
-        """Makes a primary object, and flushes it at the end."""
+        """Makes a primary object, and flushes it at the end of the `with` block."""
         handle = self.create_primary(what, hierarchy, public, *uses, **more)
         yield handle
         self.flush_objects(flushed, handle)
@@ -114,7 +115,7 @@ class Steps(Teller):
     def loaded(
         self, what: str, parent: int, made: Made, *uses: Means, flushed: str = "It is flushed"
     ) -> Iterator[int]:
-        """Loads an object below its parent, and flushes it at the end."""
+        """Loads an object below its parent, and flushes it at the end of the `with` block."""
         handle = self.load(what, parent, made, *uses)
         yield handle
         self.flush_objects(flushed, handle)
@@ -122,7 +123,7 @@ class Steps(Teller):
     def written(
         self, what: str, public: nv.Public, data: bytes, auth: bytes = b"", by: int | None = None
     ) -> None:
-        """Defines an index by the owner, and writes it."""
+        """Defines an index, authorized by the owner, and writes data to it."""
         self.define(what, public, auth=auth)
         self.does("It is written", self.writing(public.index, data, by=by))
 
@@ -134,24 +135,28 @@ class Steps(Teller):
     # Steps for policies that demand the authorization value.
 
     def by_value(self, session: Session, attributes: int = CONTINUE_SESSION) -> Use:
-        """Sends TPM2_PolicyAuthValue, and returns the use of the session that its policy then
-        demands.
+        """Sends TPM2_PolicyAuthValue. Returns the use of the session with the authorization value,
+        as its policy then demands.
         """
         self.does("TPM2_PolicyAuthValue", self.auth_value_told(session))
         return with_value(session, attributes)
 
     def by_password(self, session: Session, attributes: int = CONTINUE_SESSION) -> Use:
-        """Does the same with TPM2_PolicyPassword."""
+        """Sends TPM2_PolicyPassword. Returns the use of the session with a password, as its policy
+        then demands.
+        """
         self.does("TPM2_PolicyPassword", self.password_told(session))
         return in_plain(session, attributes)
 
     def encrypts_nothing(self, prepare: Callable[[], Prepared]) -> None:
-        """Sends a command by a session that could encrypt, when there is nothing to encrypt."""
+        """Sends a command with a session that could decrypt or encrypt, although the command has
+        nothing that can be encrypted.
+        """
         for attribute, words in ((DECRYPT, "decrypted"), (ENCRYPT, "encrypted")):
             bent = prepare().but_entry(1, attributes=CONTINUE_SESSION | attribute)
             self.refused(f"Nothing can be {words}: ATTRIBUTES/s1", bent)
 
-    # Steps for what the device keeps.
+    # Steps for state that the device keeps without power.
 
     def saves(self) -> None:
         self.does("TPM2_Shutdown(STATE)", self.shutting_down(STATE))
@@ -166,7 +171,7 @@ class Steps(Teller):
         self.resumes(what)
 
     def resumes_not(self, words: str = "TPM2_Startup(STATE): VALUE/p1") -> None:
-        """Checks that no state is saved."""
+        """Checks that no state is saved, so that TPM2_Startup(STATE) fails."""
         self.power()
         self.fails(words, self.starting(STATE))
         self.start_up("TPM2_Startup(CLEAR)")
@@ -180,8 +185,8 @@ class Steps(Teller):
         elements: Sequence[int | tuple[int, int]],
         more: bool = False,
     ) -> None:
-        """Checks that TPM2_GetCapability returns these numbers or pairs, and whether there are
-        more.
+        """Checks that TPM2_GetCapability returns these numbers or pairs, and whether it reports
+        that there are more.
         """
         numbers = itertools.chain(*(it if isinstance(it, tuple) else (it,) for it in elements))
         listed = number(len(elements), 4) + b"".join(number(it, 4) for it in numbers)

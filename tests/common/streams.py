@@ -1,5 +1,5 @@
-"""Devices on a socket: the expected responses of `tpmsim serve` to the bytes of connections, in
-consecutive runs on one image. Lines say what happens:
+"""The expected responses of `tpmsim serve` to the bytes of connections, in consecutive runs on one
+image. Each line of a script is one of these:
 
     new HEX        removes the image; the next run makes a device from these random bytes
     image HEX      replaces the image with these bytes
@@ -18,22 +18,22 @@ from tpmsim.model.machine import Model, Outcome
 from tpmsim.standard import CC, COMMAND_BYTES, frames, HEADER_BYTES
 from tests.common.outputs import RANDOM_BYTES, repeated
 
-# The offset at which commandSize ends.
+# The offset in a command at which its commandSize ends.
 SIZE_END = 6
 
-# The response to TPM2_ReadClock contains the host's time, which the comparison leaves out.
+# The size of a response to TPM2_ReadClock, and the host's time in it, which is not compared.
 CLOCK_ANSWER_BYTES, TIMES = 35, slice(10, 26)
 
 
 def random_of(buffer: bytes) -> bytes:
-    """Returns the random bytes of a command. They depend only on the command's bytes, so they stay
-    the same if other commands are left out.
+    """Returns the random bytes of a command. They depend only on the command, and not on earlier
+    commands.
     """
     return repeated(hashlib.sha256(buffer).digest()[:7])
 
 
 def without_times(buffer: bytes, response: bytes) -> bytes:
-    """Returns a response without the times that the comparison leaves out."""
+    """Returns a response without the host's time, which is not compared."""
     is_clock = buffer[6:10] == frames.number(CC.ReadClock, 4)
     if is_clock and len(response) == CLOCK_ANSWER_BYTES:
         return response[: TIMES.start] + bytes(16) + response[TIMES.stop :]
@@ -41,7 +41,7 @@ def without_times(buffer: bytes, response: bytes) -> bytes:
 
 
 def without_clock(device: Model) -> bytes:
-    """Returns an image without the clock, which the comparison leaves out."""
+    """Returns the image of a device without its clock, which is not compared."""
     clock, device.clock = device.clock, 0
     text = image(device)
     device.clock = clock
@@ -49,9 +49,9 @@ def without_clock(device: Model) -> bytes:
 
 
 class Connection:
-    """The bytes that a connection sends, in pieces of one size. Also the bytes that are not yet a
-    command, and the commands so far. Each command has the number of the line that completes it,
-    and its response.
+    """The bytes that a connection sends, in pieces of one size. It also stores the bytes that are
+    not yet a complete command, and the commands so far. Each command has the number of the line
+    that completes it, and its response.
     """
 
     def __init__(self, piece: int) -> None:
@@ -59,8 +59,8 @@ class Connection:
         self.answered: list[tuple[int, bytes, bytes]] = []
 
     def send(self, data: bytes) -> Iterator[bytes]:
-        """Yields the commands that these bytes complete. A size field that no command can have also
-        ends a command: it consists of the bytes up to that field, and is the last command.
+        """Yields the commands that these bytes complete. A size field that no command can have ends
+        the last command, which consists of the bytes up to the end of that field.
         """
         self.sent += data
         self.left += data
@@ -75,8 +75,8 @@ class Connection:
 
 
 def image_told(text: bytes | None) -> str:
-    """Describes the contents of a file for comparison: no image, an image of some version, or
-    something else.
+    """Describes the contents of a file for comparison: no image, an image of some version, or a
+    fault.
     """
     if text is None:
         return "no image"
@@ -87,15 +87,14 @@ def image_told(text: bytes | None) -> str:
 
 
 def device_told(device: Model) -> str:
-    """Describes the image of a device in the same way."""
+    """Describes the image of a device like `image_told`."""
     return image_told(image(device))
 
 
 @dataclass
 class Run:
-    """A run. `number` is the number of its line. The image before the run comes from a line, or
-    from the run before it. A run also has its locality, random bytes, connections, standard
-    error, and a description of the image that it leaves. It is over if random bytes are missing,
+    """A run. `number` is the number of its line. `is_given` is true if a line contained the image
+    before the run; otherwise the previous run left it. The run is over if random bytes are missing,
     or if its file is not an image.
     """
 
@@ -115,8 +114,8 @@ class Run:
 
 
 class Served:
-    """The device in its runs, and the contents of its image's file, as the lines determine them. A
-    line that makes no sense at its position does nothing.
+    """The device in all its runs, and the contents of its image file, according to the lines. A
+    line that makes no sense at its position is ignored.
     """
 
     def __init__(self) -> None:
@@ -152,8 +151,8 @@ class Served:
             self.image, self.made_of = None, repeated(data)
 
     def begin(self, number: int, locality: int) -> None:
-        """Begins a run. Makes a device if there is no image. After an earlier run the device
-        continues without a power cycle.
+        """Begins a run. Makes a new device if there is no image. If the image is from an earlier
+        run, its device is power-cycled.
         """
         self.run = Run(number, locality, self.image, self.is_given)
         self.runs.append(self.run)

@@ -1,11 +1,11 @@
 """The caller in every program that writes a script. It contains the script and its device.
 
-Each command follows its description. The description names the command's outcome after a colon,
-unless it is a success:
+Each command is written after its description. The description names the command's outcome after a
+colon, unless the command succeeds:
 
     tpm("By another password: AUTH_FAIL/s1").reading(FIRST, 8, b"other")
 
-A long description has a line of its own:
+A long description is written on a line of its own:
 
     said = tpm("By the empty password, and by another one: AUTH_FAIL/s1")
     said.fails(*(tpm.reading(FIRST, 8, it) for it in (b"", b"other")))
@@ -25,7 +25,7 @@ from tests.common.script_caller import ScriptCaller
 
 def wrong_in(prepared: Prepared, *places: int) -> Prepared:
     """Returns the command with one bit changed in the HMAC of each of these entries. An empty HMAC
-    becomes a zero byte.
+    is replaced by a zero byte.
     """
     for place in places or (1,):
         hmac = prepared.entries[place - 1].hmac
@@ -34,18 +34,18 @@ def wrong_in(prepared: Prepared, *places: int) -> Prepared:
 
 
 def others_in(prepared: Prepared, *places: int) -> Prepared:
-    """Returns the command with other bytes in the HMACs of these entries."""
+    """Returns the command with a wrong HMAC in each of these entries."""
     for place in places:
         prepared = prepared.but_entry(place, hmac=b"wrong")
     return prepared
 
 
 class Teller(ScriptCaller):
-    """A caller that has the script of a program. `name` is the name of the program's module. `told`
-    is the script's description: the script's name, a full stop, and what it is about. If
-    `starts` is true, the script begins with TPM2_Startup(CLEAR). If `tries` is true, wrong
-    authorization values never lock anything. `tests/anew.py` writes the script; if the
-    description begins with "Makes", tests/common/made.py does.
+    """A caller with the script of a program. `name` is the name of the program's module. `told` is
+    its docstring, which begins with the script's name, a full stop, and the subject. If `starts` is
+    true, the script begins with TPM2_Startup(CLEAR). If `tries` is true, wrong authorization values
+    never cause a lockout. `tests/anew.py` writes the script. If the docstring begins with "Makes",
+    tests/common/made.py writes it instead.
     """
 
     written_by = ".tpm"
@@ -66,7 +66,7 @@ class Teller(ScriptCaller):
 
     def comes_to(self, words: str, prepared: Prepared) -> bytes:
         """Sends a command with the outcome that `words` names. Returns the decrypted parameters of
-        its response, if any. The device gets fresh random bytes if a session has an entry.
+        its response, if any. If a session has an entry, the script first sets new random bytes.
         """
         named = [it[1] for it in OUTCOME.finditer(words) if it[1] in frames.CODES]
         if not named:
@@ -76,7 +76,7 @@ class Teller(ScriptCaller):
         self.fails(words, prepared)
         return b""
 
-    # The steps of many scripts.
+    # Steps that many scripts need.
 
     def restarts(self, session: Session) -> None:
         self.does("TPM2_PolicyRestart", self.restart(session))
@@ -111,7 +111,7 @@ class Teller(ScriptCaller):
         self.script.power()
 
     def power_cycle(self) -> None:
-        """Makes a power cycle, and sends TPM2_Startup(CLEAR)."""
+        """Power-cycles the device, and sends TPM2_Startup(CLEAR)."""
         self.power()
         self.startup()
 
@@ -120,7 +120,7 @@ class Teller(ScriptCaller):
 
 
 class Example(Teller):
-    """A caller for a script of examples/, which sends its first command itself."""
+    """A caller for a script in examples/. It does not send TPM2_Startup by itself."""
 
     written_by = ".py"
 
@@ -131,14 +131,14 @@ class Example(Teller):
         return self.create_primary(what, RH_OWNER, storage_key())
 
     def measure(self, *measurements: tuple[int, str, bytes]) -> None:
-        """Extends PCRs with measurements, each with its description."""
+        """Extends PCRs with measurements. Each has a PCR, a description and the data."""
         for pcr, what, data in measurements:
             self.accepted(what, self.event(data, b"", pcr=pcr))
 
 
 class Said:
-    """A description, followed by any method of its caller. A method that takes a description gets
-    this one. A command that another method prepares is sent at once.
+    """A description for a method of the caller. A method that takes a description gets this one. If
+    the method prepares a command instead, the command is sent at once with this description.
     """
 
     def __init__(self, tpm: Teller, words: str) -> None:

@@ -1,13 +1,12 @@
-"""Makes the calls of `tpmsim` fail, one by one, by which it reaches files, its socket and the
-clock:
+"""Makes the calls of `tpmsim` that access files, its socket and the clock fail, one by one:
 
     python3 torn.py PROGRAM
 
-The shim tear.c notes the calls of a run in order. Then each call is made to fail, in a run of
-its own. If the call moves bytes, it moves half of them in another run. The table ENDINGS has the
-expected results. A client sends one command after another, and waits for each response, so that
-it knows which commands were executed. The Python device determines the responses and the device
-in the image.
+The shim tear.c records the calls of a run in order. Then each call is made to fail, in a run of its
+own. If the call transfers bytes, another run transfers only half of them. The table ENDINGS has the
+expected results. A client sends one command after another, and waits for each response, so that it
+knows which commands were executed. The Python device determines the expected responses and the
+expected device in the image.
 """
 
 import collections
@@ -42,22 +41,22 @@ SCRIPT = TOP / "examples/measured_boot.tpm"
 ROOM = Room("torn")
 HALF = 0
 
-# Calls that reach files, sockets or the clock, and that the shim does not replace.
+# Functions that access files, sockets or the clock, and that the shim does not replace.
 OTHERS = (
     "accept clock_nanosleep creat dup dup2 fopen fstat lseek lstat mmap open64"
     " openat openat64 poll pread64 pwrite64 readv recvfrom recvmsg renameat renameat2"
     " sendfile sendmsg sendto shutdown splice stat sync unlinkat writev"
 ).split()
 
-# What else may happen when a call fails.
+# Further results of a call that fails.
 NONE, ALONE = "", ", that connection alone ends"
 OLD, NEW = ", the old image stays", ", the new image is there"
 
 
 @dataclass(frozen=True)
 class End:
-    """The result of a call that fails: how the run ends, the files that it leaves, and further
-    results.
+    """The result of a call that fails: the ending of the run, the files that the run leaves, and
+    further results.
     """
 
     ending: Ending
@@ -69,7 +68,8 @@ class End:
         return (self.ending.error.decode().strip() or "the run goes on") + self.more
 
 
-# The results by function and file. `.0` is the folder next to the socket, and `s` the socket in it.
+# The expected results, by function and file. `.0` is the folder next to the socket, and `.0/s` the
+# socket in it.
 UNSAVED = End(FILE, ("image.new",), OLD)
 ENDINGS = {
     call: end
@@ -91,7 +91,7 @@ ENDINGS = {
     for call in calls.split(", ")
 }
 
-# The error with which a call fails, if it is not EIO.
+# The error with which a call fails, unless it is EIO.
 ERRORS = {
     "recv connection": errno.ECONNRESET,
     "send connection": errno.EPIPE,
@@ -99,8 +99,8 @@ ERRORS = {
     "write image.new": errno.ENOSPC,
 }
 
-# The bytes that the connections send: commands in words, or bytes that are no command. These have a
-# wrong tag, a byte too few, or a size that ends the connection.
+# The bytes that the connections send. The invalid commands have a wrong tag, a byte too few, or a
+# size that ends the connection.
 BAD_TAG, CUT = "80030000000c000001440000", "80010000000b0000014400"
 BAD_SIZE = "8001000000090000014400"
 CONNECTIONS = [
@@ -142,14 +142,15 @@ COMMANDS = sum(map(len, SENT))
 
 
 def random_of(number):
-    """Returns the random bytes of the manufacture, number 0, or of an executed command."""
+    """Returns the random bytes for the manufacture, which is number 0, or for an executed command.
+    """
     return repeated(bytes([number]))
 
 
 @dataclass(frozen=True)
 class Service:
-    """How a run ended, the responses to each connection, the image, and the other files that are
-    left.
+    """The result of a run: its ending, the responses to each connection, the image, and the other
+    files in the folder.
     """
 
     ending: Ending
@@ -159,12 +160,12 @@ class Service:
 
     @property
     def told(self):
-        """Returns the same service with a description of the image, for comparison."""
+        """Returns the same result, but with a description of the image, for comparison."""
         return replace(self, image=image_told(self.image))
 
 
 def talked(process, buffers):
-    """Returns the responses to a connection, command by command, until the connection ends."""
+    """Returns the responses to a connection, one for each command, until the connection ends."""
     answers = []
     client = connected(ROOM.path / "socket", process)
     if not client:
@@ -186,7 +187,7 @@ def talked(process, buffers):
 
 
 def served(program, text, at=0, error=0):
-    """Runs the program with or without an image. One call fails."""
+    """Runs the program with or without an image. Call number `at` fails."""
     ROOM.furnish(text, b"".join(map(random_of, range(0 if text is None else 1, COMMANDS + 1))))
     process = program.begun([*SERVE, str(len(SENT))], ROOM.path, at, error)
     answers = [talked(process, buffers) for buffers in SENT]
@@ -194,7 +195,9 @@ def served(program, text, at=0, error=0):
 
 
 class Model:
-    """The Python device, opened from an image or new: its responses to commands, and its image."""
+    """The Python device, opened from an image or new. It computes responses to commands, and the
+    image.
+    """
 
     def __init__(self, text):
         self.device = machine.Model(random_of(0)) if text is None else open_image(text)
@@ -214,14 +217,14 @@ class Model:
         return device_told(self.device)
 
 
-# Calls that fail within a connection.
+# Calls that may fail within a connection.
 IN_CONNECTION = {"recv connection", "send connection", "read entropy", "clock_gettime"}
 
 
 @dataclass(frozen=True)
 class Tear:
-    """A call that fails and its result. Also the number of connections that were accepted before
-    it, and the number of responses that were sent to the last of these.
+    """A call that fails, and its result. Also the number of connections that were accepted before,
+    and the number of responses that were sent to the last of these.
     """
 
     call: str
@@ -248,13 +251,13 @@ class Tear:
         return told
 
     def is_saved(self, number):
-        """Returns whether the image is the device's after connection number `number`."""
+        """Returns whether the run saves the device after connection number `number`."""
         if number > self.accepted:
             return self.end.ending == WELL
         return number < self.accepted or self.end.more != OLD
 
     def wanted(self, text):
-        """Returns the expected result of the run, with or without an image."""
+        """Returns the expected result of a run that begins with or without an image."""
         model, saved, answers = Model(text), image_told(text), []
         for number, buffers in enumerate(SENT, 1):
             answers.append(self.answers(model, number, buffers))
@@ -264,8 +267,8 @@ class Tear:
 
 
 def check_next(program, label, torn):
-    """Checks that the next run opens the image that a torn run left, and removes the other files
-    that it left.
+    """Checks that the next run opens the image that a torn run left, and removes the other files of
+    that run.
     """
     process = program.begun([*SERVE, "1"], ROOM.path)
     talked(process, [])
@@ -276,7 +279,7 @@ def check_next(program, label, torn):
 
 
 def check_torn(program, label, text, calls, at):
-    """Compares a run in which call number `at` fails."""
+    """Checks a run in which call number `at` fails."""
     call = calls[at - 1]
     if call not in ENDINGS:
         fail(f"{label}: {call} is no call that is known")
@@ -290,7 +293,7 @@ def check_torn(program, label, text, calls, at):
 
 
 def check_service(program, label, text):
-    """Makes each call of the runs fail, with or without an image."""
+    """Makes each call fail in a run that serves, with or without an image."""
     model, whole = Model(text), served(program, text).told
     calls = program.noted()
     if whole != Service(WELL, [model.answers(it) for it in SENT], model.image, ()):
@@ -309,8 +312,8 @@ def check_service(program, label, text):
 
 
 def check_words(program, label, words, stdin=b""):
-    """Makes each call of a run fail that reads and prints. The run ends with `tpmsim: file`, and
-    prints the beginning of what it would print without the failure.
+    """Makes each call fail in a run that only reads and prints. The run must end with `tpmsim:
+    file`, after it has printed a prefix of its usual output.
     """
 
     def run(at=0, error=0):

@@ -1,6 +1,6 @@
-"""Two runs of `tpmsim serve` at once. Either each has its own image and they share the socket, or
-each has its own socket and they share the image. One run continues while the other waits at one of
-its calls.
+"""Runs two processes of `tpmsim serve` at once. Either each has its own image and they share the
+socket, or each has its own socket and they share the image. One process continues while the other
+one waits at one of its calls.
 """
 
 import socket
@@ -11,13 +11,14 @@ from tests.common.shims import AT_MOST, FILE, SERVE, SOCKET, Room, Tears, ended,
 ROOM = Room("torn")
 RANDOM = bytes(512)
 
-# The time that a second run may take, in seconds. It may have to wait for the first one.
+# The time that the second process may take, in seconds. It may have to wait for the first process.
 A_WHILE = 0.3
 
 
 class Rival:
-    """A run that serves many connections. Before its call number `at`, it waits until the file `go`
-    exists. `own` says which file it has to itself: `image` or `socket`.
+    """A process that serves many connections. Before its call number `at`, it waits until the file
+    `go` exists. It shares all files with the other process except `own`, which is `image` or
+    `socket`.
     """
 
     def __init__(self, program, name, own, at=0):
@@ -35,7 +36,7 @@ class Rival:
         return "accept4" in self.noted
 
     def await_that(self, is_so, seconds=AT_MOST):
-        """Waits until a condition is true, for at most this many seconds."""
+        """Waits until a condition is true, but at most this many seconds."""
         end = time.monotonic() + seconds
         while not is_so() and time.monotonic() < end:
             time.sleep(0.001)
@@ -52,21 +53,21 @@ class Rival:
 
 
 def begin_anew():
-    """Makes a folder that contains only random bytes."""
+    """Empties the folder, and writes only random bytes to it."""
     ROOM.furnish(None, RANDOM)
 
 
 def begin_beside_left():
-    """Makes the same folder with a socket on which nobody answers."""
+    """Empties the folder, and adds random bytes and a socket on which no process listens."""
     begin_anew()
     with socket.socket(socket.AF_UNIX, socket.SOCK_STREAM) as left:
         left.bind(str(ROOM.path / "socket"))
 
 
 def check_rivals(program, begin, own, wanted, at_most):
-    """Has the first run wait at each of its calls in turn. The second run then has `at_most`
-    seconds before the first one goes on. One of them must end as expected. Returns the calls at
-    which the second run needed the first one.
+    """Makes the first process wait at each of its calls in turn. The second process then has
+    `at_most` seconds before the first one continues. Exactly one of them must end, and in the
+    expected way. Returns the calls at which the second process had to wait for the first one.
     """
     begin()
     alone = Rival(program, "first", own)

@@ -1,11 +1,12 @@
-"""Makes the calls of `tpmsim run --image` fail, one by one, by which it reaches files:
+"""Makes the calls of `tpmsim run --image` that access files fail, one by one:
 
     python3 torn_scripts.py PROGRAM
 
-The shim tear.c notes the calls of a run in order. Then each call is made to fail, in a run of
-its own. If the call moves bytes, it moves half of them in another run. The client sends one line
-after another, and waits for each response. Whichever call fails, the image has the effects of
-all answered commands, by the Python device. The run ends with the fault of the failed call.
+The shim tear.c records the calls of a run in order. Then each call is made to fail, in a run of its
+own. If the call transfers bytes, another run transfers only half of them. The client sends one line
+after another, and waits for each response. Whichever call fails, the image must have the effects of
+all answered commands, according to the Python device. The run must end with the fault of the failed
+call.
 """
 
 import errno
@@ -39,8 +40,9 @@ LINES = [
 
 
 class Model:
-    """The Python device: its response to each line, and the images that may exist after that line.
-    Before the first response this is the image at the start, if any, or the new device's image.
+    """The Python device: its response to each line, and the images that are allowed after each
+    response. Before the first response the file contains the image from the start, if any, or the
+    new device's image.
     """
 
     def __init__(self, text):
@@ -54,8 +56,8 @@ class Model:
             self.images[len(self.answers)].append(device_told(self.player.device))
 
     def allows(self, told, saved):
-        """Returns whether an image has the effects of the first `told` responses. It may also have
-        the effect of the next line.
+        """Returns whether an image has the effects of the commands that the first `told` responses
+        answer. It may also have the effect of the next line.
         """
         return saved in self.images[told] or saved in self.images[min(told + 1, len(self.answers))]
 
@@ -74,8 +76,8 @@ def answers_to(process):
         for line in LINES:
             process.stdin.write(f"{line}\n".encode())
             if line.startswith("do"):
-                # Reads all lines of a response at once, so that a run makes the same calls each
-                # time.
+                # Sends all lines since the last command at once, so that each run makes the same
+                # calls.
                 process.stdin.flush()
                 answer = process.stdout.readline()
                 if not answer.endswith(b"\n"):
@@ -86,7 +88,7 @@ def answers_to(process):
 
 
 def ran(program, text, at=0, error=0):
-    """Runs the program with or without an image. One call fails."""
+    """Runs the program with or without an image. Call number `at` fails."""
     ROOM.furnish(text, RANDOM)
     process = program.begun(RUN, ROOM.path, at, error)
     answers = list(answers_to(process))

@@ -3,12 +3,11 @@ docs/THEOREMS.md:
 
     python3 tests/common/unpromised_calls.py DOCUMENT FOLDER
 
-FOLDER contains the crates. A public function promises something if its signature has an
-`ensures` clause. The list is the table after the words "These public functions promise nothing".
-A row names a crate, the files of its src/ that contain such functions, and the reason. Each
-difference has a line, and the last line counts the functions. Then one file is removed from the
-list, and another is added to it; the comparison must find both. The status is 1 if there is a
-difference, or if one of these changes is not found.
+FOLDER contains the crates. The list is the table after the words "These public functions promise
+nothing". Each row names a crate, the files of its src/ that contain public functions without
+`ensures` clauses, and the reason. Each difference has a line, and the last line counts the
+functions. Then the test removes one file from the list, and adds another; the comparison must find
+both mistakes. The status is 1 if there is a difference, or if a mistake is not found.
 """
 
 import collections
@@ -18,8 +17,8 @@ import sys
 
 BEGIN = "These public functions promise nothing"
 PUBLIC = re.compile(r"^\s*pub fn (\w+)", re.M)
-# A signature with clauses ends at a line that is only a brace. A signature without clauses ends at
-# a brace at the end of its last line.
+# A signature with clauses ends with a line that contains only a brace. A signature without clauses
+# ends with a brace at the end of its last line.
 BODY = re.compile(r"^\s*\{\}?$", re.M)
 LAST_BRACE = re.compile(r" \{\}?$", re.M)
 CLAUSE = re.compile(r"^\s*ensures\b", re.M)
@@ -28,7 +27,7 @@ CODE = re.compile(r"`([^`]+)`")
 
 
 def signatures(text: str) -> list[tuple[str, str]]:
-    """Returns each public function's name, with its signature and clauses up to the body."""
+    """Returns the name of each public function, with the text of its signature and clauses."""
     found = []
     for start in PUBLIC.finditer(text):
         rest = text[start.end() :]
@@ -43,8 +42,8 @@ def signatures(text: str) -> list[tuple[str, str]]:
 
 
 def without_promise(crates: pathlib.Path) -> Found:
-    """Returns the names of the public functions without an `ensures` clause, by crate and by file
-    of its src/.
+    """Returns the names of the public functions without `ensures` clauses, by crate and by file in
+    src/.
     """
     found: Found = collections.defaultdict(dict)
     for path in sorted(crates.glob("*/src/**/*.rt")):
@@ -56,14 +55,14 @@ def without_promise(crates: pathlib.Path) -> Found:
 
 
 def listed(document: str) -> dict[str, set[str]]:
-    """Returns the files that each row of the table names, by crate."""
+    """Returns the files in the table's rows, by crate."""
     section = document.partition(BEGIN)[2].partition("\n## ")[0]
     rows = (line.strip("|").split("|") for line in section.splitlines() if line.startswith("| `"))
     return {CODE.findall(row[0])[0]: set(CODE.findall(row[1])) for row in rows}
 
 
 def differences(found: Found, rows: dict[str, set[str]]) -> list[str]:
-    """Describes the entries that the list lacks, and those that it should not have."""
+    """Describes the files that the list lacks, and those that should not be in it."""
     faults = []
     for crate in sorted({*found, *rows}):
         files, named = found.get(crate, {}), rows.get(crate, set())
@@ -76,8 +75,8 @@ def differences(found: Found, rows: dict[str, set[str]]) -> list[str]:
 
 
 def are_found(found: Found, rows: dict[str, set[str]]) -> bool:
-    """Returns whether the comparison finds a file that is missing from the list, and a file too
-    many.
+    """Returns whether the comparison finds both a file that is missing from the list and one that
+    should not be in it.
     """
     lacking = {crate: set(sorted(files)[1:]) for crate, files in rows.items()}
     longer = {crate: files | {"another.rt"} for crate, files in rows.items()}

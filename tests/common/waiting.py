@@ -1,10 +1,11 @@
-"""Three clients of `tpmsim serve`. Two of them wait while the first one keeps its connection and
-sends nothing more:
+"""Three clients of `tpmsim serve`, of which two wait while the first one keeps its connection open
+and sends nothing more:
 
     python3 waiting.py SOCKET ERRORS HEX
 
-The first client sends the command, and keeps its connection for as long as nothing is in the file
-ERRORS. Meanwhile a second client and a third one wait. It prints each response.
+All clients send the command. Each response is printed. The first client does not close its
+connection before the file ERRORS contains something. The second and the third client wait
+meanwhile.
 """
 
 import pathlib
@@ -25,7 +26,8 @@ def main():
         while not pathlib.Path(errors).stat().st_size and time.monotonic() < until:
             time.sleep(0.01)
         if number == 2:
-            # Silence for longer than the program waits before it looks again.
+            # The client is silent for longer than the three seconds after which the program looks
+            # for a waiting client.
             time.sleep(4)
         client.close()
 

@@ -2,9 +2,9 @@
 
     wrong_made.py PROGRAM
 
-Each script has a wrong device. The program's response to some command of the script has to differ
-from that device's. The test prints whether it does. The status is 1 if it does not, or if a script
-has no wrong device.
+There is a wrong device for each script. At least one response of this device must differ from that
+of the program. The test prints whether it does. The status is 1 if it does not, or if there is no
+wrong device for a script.
 """
 
 import sys
@@ -32,14 +32,14 @@ def any_size(fields: Fields, length: int) -> tuple[int, CC]:
 
 
 def any_tag(fields: Fields, length: int) -> tuple[int, CC]:
-    """Accepts any tag other than 8002 as 8001."""
+    """Treats any tag other than 8002 as 8001."""
     if fields.data[:2] != b"\x80\x02":
         fields.data = b"\x80\x01" + fields.data[2:]
     return read_header(fields, length)
 
 
 def other_code(fields: Fields, wanted: tuple[Handle, ...], device: Any) -> list[int]:
-    """Refuses a handle that names nothing as a handle of a wrong kind."""
+    """Refuses a handle that names nothing like a handle of a wrong kind."""
     try:
         return read_handles(fields, wanted, device)
     except Refusal as refusal:

@@ -1,8 +1,8 @@
-"""Altered commands: the offsets of the sizes and counts in a buffer, and the buffers in which one
-of these numbers is increased or decreased by one.
+"""Altered commands. This module finds the sizes and counts in a command buffer, and yields buffers
+in which one of these numbers is increased or decreased by one.
 
-Sizes and counts follow from the form of the command: its handles, its entries, and the kinds of
-its parameters, as in lines.py. So a new command needs no line here, unless one of its sized
+Sizes and counts follow from the form of a command: its handles, its entries, and the kinds of its
+parameters, as in lines.py. Therefore a new command needs an entry here only if one of its sized
 buffers contains a structure.
 """
 
@@ -10,12 +10,12 @@ from typing import NamedTuple
 
 from tpmsim.standard import AES, ALG_NULL, CC, KEYEDHASH, XOR, digest_bytes, frames, lines, number
 
-# The size of the fields after a cipher's algorithm, in bytes.
+# The size of the fields that follow a cipher's algorithm, in bytes.
 BEHIND_CIPHER = {ALG_NULL: 0, AES: 4, XOR: 2}
 
 
 class Number(NamedTuple):
-    """A size or a count: its name, its offset, and its size in bytes."""
+    """A number that is a size or a count: its name, its offset, and its own size in bytes."""
 
     name: str
     at: int
@@ -26,7 +26,7 @@ COMMAND_SIZE = Number("commandSize", 2, 4)
 
 
 class Walk:
-    """Reads a buffer from its beginning. `found` collects the sizes and counts."""
+    """Parses a buffer from its beginning. `found` collects its sizes and counts."""
 
     def __init__(self, buffer):
         self.buffer, self.at, self.found = buffer, 0, []
@@ -45,7 +45,9 @@ class Walk:
         return self.number(size)
 
     def sized(self, name, inside=None):
-        """Reads a sized buffer. `inside` reads its content, up to the last size in it."""
+        """Reads a sized buffer. If `inside` is passed, it reads the content, at least up to the
+        last size in it.
+        """
         size = self.found_number(f"the size of {name}", 2)
         end = self.at + size
         if inside:
@@ -53,7 +55,7 @@ class Walk:
         self.take(end - self.at)
 
     def items(self, name, item):
-        """Reads a list after its count. The items are numbered from 1."""
+        """Reads a count and the items of the list after it. The items are numbered from 1."""
         for place in range(1, self.found_number(f"the count of {name}", 4) + 1):
             item(f"item {place} of {name}")
 
@@ -78,7 +80,7 @@ class Walk:
             self.sized(f"the hmac in entry {place}")
 
 
-# How the parameters of each kind are read, by the names of the kinds.
+# Functions that read a parameter, by the name of its kind.
 FORMS = {
     "u8": lambda walk, name: walk.take(1),
     "u16": lambda walk, name: walk.take(2),
@@ -94,7 +96,7 @@ FORMS = {
 
 
 def parts(*names):
-    """Returns a reader of sized buffers with these names, one after the other."""
+    """Returns a function that reads consecutive sized buffers with these names."""
     return lambda walk: [walk.sized(name) for name in names]
 
 
@@ -114,8 +116,8 @@ def public_area(walk):
     walk.sized("unique")
 
 
-# Parameters that are structures in sized buffers, by command and position. They are read up to
-# their last size. A private area is read up to its encrypted part.
+# Functions for parameters that are sized buffers with a structure in them, by command and position.
+# They read the structure up to its last size. A private area is read up to its encrypted part.
 STRUCTURES = {
     (CC.CreatePrimary, 1): parts("userAuth", "data"),
     (CC.CreatePrimary, 2): public_area,
@@ -128,8 +130,8 @@ STRUCTURES = {
 
 
 def pieces(walk):
-    """Reads a command to its end. Yields the end of each handle, of the authorization area, and of
-    each parameter. The authorization area has no number.
+    """Reads a command to its end. Yields the name and the end of each handle, of the authorization
+    area, and of each parameter. The name of the authorization area is empty.
     """
     tag, _, code = walk.number(2), walk.number(4), CC(walk.number(4))
     for place in range(1, len(code.handles) + 1):
@@ -149,15 +151,15 @@ def pieces(walk):
 
 
 def numbers(buffer):
-    """Returns the sizes and counts of a command after its header."""
+    """Returns the sizes and counts after a command's header."""
     walk = Walk(buffer)
     list(pieces(walk))
     return walk.found
 
 
 def changed(buffer, it, by):
-    """Returns the buffer with a number changed by `by`. If it is 0, decreasing it gives the largest
-    number.
+    """Returns the buffer with a number changed by `by`. If 0 is decreased, it becomes the largest
+    number of its size.
     """
     end = it.at + it.size
     value = int.from_bytes(buffer[it.at : end], "big") + by
@@ -165,15 +167,14 @@ def changed(buffer, it, by):
 
 
 def raised_and_lowered(buffer, it):
-    """Yields a description of the change and the changed buffer, for an increase and for a decrease
-    by one.
+    """Yields the buffers with a number increased and decreased by one, each after its description.
     """
     for by, done in ((1, "raised"), (-1, "lowered")):
         yield f"{it.name} {done}", changed(buffer, it, by)
 
 
 def bends(buffer):
-    """Yields a description of each change, with the altered buffer."""
+    """Yields the altered buffers, each after its description."""
     yield from raised_and_lowered(buffer, COMMAND_SIZE)
     yield "a zero byte more and commandSize corrected", changed(buffer + b"\0", COMMAND_SIZE, 1)
     for it in numbers(buffer):

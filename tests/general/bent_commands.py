@@ -16,7 +16,9 @@ script = LookingScript(__name__, __doc__)
 
 
 def bent(example: Example) -> Iterator[tuple[str, str, list[bytes]]]:
-    """Yields the altered buffers of a command, each with its outcome on the Python device."""
+    """Yields the altered buffers of a command, each with its description and its outcome on the
+    Python device.
+    """
     for what, buffer in bends(example.whole) if example.outcome == SUCCESS else ():
         refused = script.outcome_now(buffer)
         if refused == SUCCESS:

@@ -21,12 +21,12 @@ says = tpm.raw
 
 
 def listed(what, wanted, *handles):
-    """Reads the handles of a kind by TPM2_GetCapability, and compares them."""
+    """Checks the handles of a kind that TPM2_GetCapability lists."""
     tpm.lists(what, HANDLES, wanted, 64, handles)
 
 
 def lockout_is(what, *values):
-    """Reads TPM_PT_LOCKOUT_COUNTER and the three properties after it."""
+    """Checks TPM_PT_LOCKOUT_COUNTER and the three properties after it."""
     tpm.lists(what, PROPERTIES, 0x20E, 4, list(enumerate(values, 0x20E)))
 
 
@@ -115,7 +115,7 @@ tpm.chapter("The seed of the owner is new, and the others are not.")
 for hierarchy, name, _ in AUTHORIZED[:3]:
     object_name, ticket = primary_of(f"The same primary object of {name}", hierarchy)
     assert (object_name == names[hierarchy][0]) == (hierarchy != RH_OWNER)
-    # The proofs of both hierarchies are new, so that old tickets are invalid.
+    # The owner's and the endorsement hierarchy have new proofs, so their old tickets are invalid.
     assert (ticket == names[hierarchy][1]) == (hierarchy == RH_PLATFORM)
 parent = tpm.owned("A storage key of the new owner", storage_key())
 tpm("What was created below the old one: INTEGRITY/p1").loading(parent, below)

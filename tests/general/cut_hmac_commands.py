@@ -25,20 +25,20 @@ tpm = GroundsCaller(__name__, __doc__)
 
 
 def refused(what: str, outcome: str, tries: int, *buffers: bytes) -> None:
-    """Sends buffers that are refused, and checks the number of failed tries afterwards."""
+    """Sends buffers that must be refused, and checks the number of failed tries afterwards."""
     tpm.raw(f"{what}: {outcome}", *buffers)
     tpm.tries_are("Tries", tries)
 
 
 def refused_alone(what: str, outcome: str, tries: int, buffer: bytes) -> None:
-    """Does the same for one buffer. A failed try that counts is then reset."""
+    """Does the same as `refused` for one buffer. A failed try that counts is then reset."""
     refused(what, outcome, tries, buffer)
     if tries:
         tpm.unlocks()
 
 
 def cuts_of(prepared: Prepared) -> Iterator[tuple[str, bytes]]:
-    """Yields the command with each shorter length of its parameters, with a description."""
+    """Yields the command with its parameters cut to each shorter length, after a description."""
     whole, count = prepared.buffer(), len(prepared.parameters)
     for left in range(count):
         yield f"Cut to {left} of {count} bytes", with_size(whole[: len(whole) - count + left])
@@ -51,8 +51,8 @@ def comes_whole(prepared: Prepared) -> None:
 
 
 def cut(name: str, prepared: Prepared, outcome: str = "AUTH_FAIL/s1", tries: int = TRY) -> None:
-    """Sends a command that is cut or has a byte too many. Each attempt counts `tries` failed tries.
-    Then sends the whole command.
+    """Sends a command cut to each shorter length, and with an extra byte. Each attempt must count
+    `tries` failed tries. Then sends the whole command.
     """
     tpm.chapter(f"{name}.")
     for what, buffer in cuts_of(prepared):
@@ -63,7 +63,9 @@ def cut(name: str, prepared: Prepared, outcome: str = "AUTH_FAIL/s1", tries: int
 
 
 def by_each_command(session: Session, told: Session, key: int) -> None:
-    """Sends other commands at a protected index or object, by a session that is not bound."""
+    """Sends other commands to a protected index or object, authorized with a session that is not
+    bound.
+    """
     cut("TPM2_NV_Read", tpm.reading(FIRST, 3, session, offset=2))
     cut("TPM2_NV_SetBits", tpm.setting(SECOND, 5, session))
     cut("TPM2_NV_Extend", tpm.extending(THIRD, DATA, session))
@@ -73,7 +75,7 @@ def by_each_command(session: Session, told: Session, key: int) -> None:
 
 
 def beside(session: Session, bound: Session) -> None:
-    """Uses a session that is bound to the index in an entry that does not authorize the index."""
+    """Uses a session that is bound to the index in entries that do not authorize the index."""
     cut("TPM2_PCR_Event of PCR 16, which the bound session authorizes", tpm.event(DATA, bound))
     case = "TPM2_PCR_Event that a password authorizes, with the bound session after it"
     cut(case, tpm.event(DATA, b"", bound), "AUTH_FAIL/s2")
@@ -95,7 +97,7 @@ tpm("The first is written").writing(FIRST, DATA, offset=2)
 said, protected = tpm("A protected HMAC key"), hmac_key(attributes=PROTECTED)
 key = said.create_primary(RH_OWNER, protected, user_auth=PIN, data=b"a key")
 
-# TPM2_NV_Write of the first index, by each kind of session.
+# TPM2_NV_Write of the first index, authorized with each kind of session.
 unbound = tpm.start("A session that is bound to nothing: the value of the index is the key")
 cut("TPM2_NV_Write by it", tpm.writing(FIRST, DATA, unbound, offset=2))
 sha1 = tpm.start("One of SHA-1", algorithm=SHA1)
@@ -128,7 +130,7 @@ as_it_was = (whole[:length] for length in range(len(whole)))
 refused("With the old commandSize", "COMMAND_SIZE", NO_TRY, *as_it_was)
 comes_whole(prepared)
 
-# The entry is right for the parameters that are left. Then the parameters are refused.
+# The entry is right for the remaining parameters. Therefore the parameters themselves are refused.
 whole = frames.nv_write(DATA, 2)
 in_data = range(len(sized(DATA)))
 for words, use in (
@@ -166,7 +168,7 @@ tpm.restarts(told)
 by_each_command(unbound, told, key)
 beside(unbound, bound)
 
-# Repeats the cuts for entities without dictionary attack protection.
+# The same cuts for entities without dictionary attack protection.
 case = "TPM2_NV_Write of the index with TPMA_NV_NO_DA"
 cut(case, tpm.writing(FOURTH, DATA, unbound), "BAD_AUTH/s1", NO_TRY)
 tpm('ownerAuth is "pin"').change_auth(RH_OWNER, PIN, b"")

@@ -1,7 +1,8 @@
 """Commands that are cut to every shorter length.
 
-A cut buffer with the old commandSize is refused for its size. With the right commandSize it is
-refused for the missing bytes. Descriptions and codes say what refuses it, and up to which length.
+If a cut buffer has the old commandSize, it is refused for its size. If it has the right
+commandSize, it is refused because bytes are missing. The buffers are in rows, each with a
+description of the cuts and a response code.
 """
 
 from collections.abc import Iterator
@@ -13,7 +14,7 @@ from tests.general.bends import pieces, Walk
 
 HEADER_BYTES = 10
 
-# Descriptions of a cut in a handle or parameter that are not the name of Part 3.
+# Descriptions of a cut in a handle or parameter, if they do not use its name from Part 3.
 WORDS = {
     "digests": "within its digests",
     "eventData": "within its data",
@@ -28,7 +29,7 @@ WORDS = {
 
 
 def names(code: CC) -> Iterator[str]:
-    """Yields the descriptions of cuts: within each handle, and then within each parameter."""
+    """Yields descriptions of cuts: within each handle, and then within each parameter."""
     for it in (*code.handles, *code.parameters):
         if code.authorized and [it] == list(code.handles) and it.name != "nvIndex":
             yield "within its handle"
@@ -37,9 +38,9 @@ def names(code: CC) -> Iterator[str]:
 
 
 def ends(example: Example) -> Iterator[tuple[int, str, str]]:
-    """Yields the end of each piece of a command, with the description of a cut before it, and the
-    outcome. A command that is refused whole has the same outcome for each cut after the
-    authorization area.
+    """Yields the end of each part of a command, the description of a cut in that part, and the
+    outcome. If even the whole command is refused, each cut after the authorization area has the
+    same outcome.
     """
     named = names(example.code)
     for place, end in pieces(Walk(example.whole)):

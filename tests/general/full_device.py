@@ -36,7 +36,7 @@ TEMPLATES = (
 SHA1_POLICY = {"algorithm": SHA1, "auth_policy": AFTER_AUTH_VALUE[SHA1]}
 SHA256_POLICY = {"auth_policy": AFTER_AUTH_VALUE[SHA256]}
 
-# Large and small ordinary indices, written or not, and the other types.
+# Indices: ordinary ones of different sizes, written or not, and indices of the other types.
 INDICES = (
     (area(0x0100_0000, BY_OWNER, size=2048), b""),
     (area(0x01FF_FFFF, BY_OWNER, size=2048), b"a"),

@@ -10,8 +10,8 @@ from tests.common.vocabulary import selection, SHA1, SHA256, storage_key, wrong
 
 MOST = 2**32 - 1
 
-# TPMA_CC of each command: its code; the number of its handles, from bit 25 on; and bit 28 if it
-# returns a handle.
+# The TPMA_CC of each command. It contains the command's code; the number of its handles, from bit
+# 25 on; and bit 28 if the command returns a handle.
 ATTRIBUTES = [command_attributes(it) for it in sorted(CC)]
 
 tpm = Steps(__name__, __doc__, starts=False)
@@ -19,7 +19,8 @@ says, gives = tpm.raw, tpm.lists
 
 
 def borders(name, capability, wanted, whole):
-    """Reads everything from `wanted` on, in parts: with each count that gives another result."""
+    """Reads a list from `wanted` on with different counts: none, one, all but one, all, and more.
+    """
     gives(f"{name}, as many as there are", capability, wanted, MOST, whole)
     for count in (64, 65):
         gives("", capability, wanted, count, whole)

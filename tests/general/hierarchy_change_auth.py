@@ -11,7 +11,9 @@ change = tpm.change_auth
 
 
 def owners(parameters):
-    """Returns the command with the owner's authorization value, and with these bytes as newAuth."""
+    """Returns the command for TPM_RH_OWNER with these bytes as parameters, authorized with
+    ownerAuth.
+    """
     return tpm.prepare(CC.HierarchyChangeAuth, [RH_OWNER], parameters, b"owner")
 
 
@@ -20,7 +22,7 @@ tpm.startup()
 
 tpm.chapter("By passwords, each of the four. Every authorization value is empty at first.")
 for handle, name, new in AUTHORIZED:
-    # A wrong value for TPM_RH_LOCKOUT is in a script of its own, lockout_authorization.
+    # The script lockout_authorization tests wrong values for TPM_RH_LOCKOUT.
     tried = handle != RH_LOCKOUT
     if tried:
         tpm(f'{name} by the password "x": BAD_AUTH/s1').change_auth(handle, new, b"x")

@@ -1,5 +1,5 @@
-"""Scripts of commands that are first refused, and then succeed. After each refusal some commands
-read the state of the device, which must be unchanged.
+"""Scripts with commands that are first refused and then succeed. After each refusal, other commands
+read the state of the device, which must not have changed.
 """
 
 import copy
@@ -14,7 +14,7 @@ from tpmsim.standard.nv import Attribute
 from tests.common.examples import CHAPTERS, Example
 from tests.common.script import Script, SUCCESS, told_head
 
-# A description, an outcome, and the buffers that have this outcome.
+# A description, an outcome, and the buffers that must have this outcome.
 Row = tuple[str, str, list[bytes]]
 
 AS_BYTES = (
@@ -22,7 +22,7 @@ AS_BYTES = (
     "that look are in words."
 )
 
-# The handles that can be listed, and their kinds.
+# The types of handles that can be listed, by their first byte.
 LISTED = {
     NV: "NV indices",
     HMAC_SESSION: "sessions",
@@ -39,8 +39,8 @@ def capabilities(kind: int, first: int, count: int = capability.MOST_ELEMENTS) -
 
 
 def at_pcrs() -> bytes:
-    """Reads these PCRs in both banks, and the update counter. Each change of a PCR increments that
-    counter.
+    """Returns a TPM2_PCR_Read of these PCRs in both banks. Its response contains the update
+    counter, which each change of a PCR increments.
     """
     return command(CC.PCR_Read, frames.selection((SHA1, PCRS), (SHA256, PCRS)))
 
@@ -50,8 +50,7 @@ def at_handles(kind: int) -> bytes:
 
 
 def at_index(index: Index, owner_auth: bytes) -> Iterator[bytes]:
-    """Yields commands that read the public area of an index, and its data if the owner can read
-    them.
+    """Yields commands that read an index's public area, and also its data if the owner can read it.
     """
     public = index.public
     yield command(CC.NV_ReadPublic, number(public.index, 4))
@@ -70,7 +69,7 @@ def at_all(device: Model) -> Iterator[bytes]:
     yield at_pcrs()
     for kind in LISTED:
         yield at_handles(kind)
-    # These are the failed tries, maxTries, recoveryTime and lockoutRecovery.
+    # The properties are the number of failed tries, maxTries, recoveryTime and lockoutRecovery.
     yield capabilities(capability.PROPERTIES, capability.LOCKOUT_COUNTER, 4)
     yield command(CC.ReadClock, b"")
     for handle in device.sessions:
@@ -81,9 +80,9 @@ def at_all(device: Model) -> Iterator[bytes]:
 
 
 class LookingScript(Script):
-    """A script that reads the PCRs and the handles of a kind after each refusal. After the last
-    refusal of a command, it reads all readable state. `name` is the name of its program's
-    module, and `told` the program's description of the script.
+    """A script that reads the PCRs and the handles of one kind after each row of refusals. After
+    the last refusal of a command, it reads all readable state. `name` is the name of its program's
+    module, and `told` the program's docstring.
     """
 
     def __init__(self, name: str, told: str) -> None:
@@ -100,8 +99,8 @@ class LookingScript(Script):
         self.kind, self.seen, self.probe = HMAC_SESSION, dict[bytes, bytes](), self.device
 
     def look(self, what: str, looks: Iterable[bytes]) -> None:
-        """Sends commands that read the state. Their responses must be the same as after the last
-        whole command.
+        """Sends commands that read the state. Since the last whole command, their responses must
+        not have changed.
         """
         outcome = SUCCESS if self.device.started else "INITIALIZE"
         number = "" if outcome == SUCCESS else f" ({frames.code_of(outcome):03X})"
@@ -115,15 +114,17 @@ class LookingScript(Script):
         self.look(what, list(at_all(self.device)))
 
     def outcome_now(self, buffer: bytes) -> str:
-        """Returns the outcome that a command would have now, from a copy of the device."""
+        """Returns the outcome that a command would have now, by executing it on a copy of the
+        device.
+        """
         refused = self.probe.execute(buffer, self.locality, self.random).refused
         if refused is None or refused.startswith("AUTH_FAIL"):
             self.probe = copy.deepcopy(self.device)
         return refused or SUCCESS
 
     def refuses_each(self, refused_of: Callable[[Example], Iterable[Row]]) -> None:
-        """Plays the examples of each command. Before each example come the refused buffers that are
-        made from it, in rows: a description, an outcome, and buffers.
+        """Plays the examples of all chapters. Before each example, it sends the refused buffers
+        that `refused_of` makes from it, in rows.
         """
         for at, chapter in enumerate(CHAPTERS):
             self.kind = chapter.kind
@@ -135,7 +136,7 @@ class LookingScript(Script):
                 self.refuses(example, list(refused_of(example)))
 
     def refuses(self, example: Example, rows: Sequence[Row]) -> None:
-        """Sends the rows of refused buffers, and then the whole command."""
+        """Sends rows of buffers that must be refused, and then the whole command."""
         if not rows:
             self.command(f"{example.name}: {example.outcome}", example.whole, as_bytes=True)
             return

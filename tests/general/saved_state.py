@@ -38,7 +38,8 @@ def extending_pcr(pcr):
     return tpm.prepare(CC.PCR_Extend, [pcr], digests((SHA256, bytes(32))), b"")
 
 
-# A successful use of each command, after the commands that prepare it.
+# Functions that return a successful command of each code. They first send the commands that it
+# needs.
 COMMANDS = {
     CC.SelfTest: lambda: tpm.self_test(1),
     CC.GetCapability: lambda: tpm.capability(6, 0x100, 1),
@@ -90,7 +91,8 @@ assert COMMANDS.keys() == set(CC) - {CC.Startup, CC.Shutdown}
 
 
 def start_again(is_kept):
-    """Starts the device from the saved state, if that was kept."""
+    """Power-cycles the device. TPM2_Startup(STATE) must succeed only if the saved state was kept.
+    """
     if is_kept:
         tpm.resumes("It was kept: TPM2_Startup(STATE)")
     else:

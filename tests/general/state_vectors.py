@@ -5,7 +5,8 @@ before there was a device. The program stops if it gets another response.
 from tests.common.vocabulary import area, BY_VALUE, FIRST, frames, ObjectAttribute, RH_NULL, sealed
 from tests.common.vocabulary import storage_key, Teller
 
-# The empty password, and the response to it if the command returns nothing.
+# The authorization area with the empty password, and the response of a command that returns
+# nothing.
 PW = "00000009 40000009 0000 01 0000"
 OK = "8002 00000013 00000000 00000000 0000 01 0000"
 
@@ -18,7 +19,7 @@ tpm = Teller(__name__, __doc__, starts=False)
 
 
 def code(number):
-    """Returns the response to a refused command."""
+    """Returns the response of a command that is refused with this code."""
     return f"8001 0000000A {number:08X}"
 
 

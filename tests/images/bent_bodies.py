@@ -1,6 +1,6 @@
-"""Bodies of images that are altered at random, with a head and a digest that fit them.
+"""Bodies of images that are altered at random, with a correct head and digest.
 
-A seed gives the same bodies everywhere, because only the stable part of `random` is used.
+A seed always results in the same bodies, because only the stable functions of `random` are used.
 """
 
 import pickle
@@ -10,17 +10,17 @@ from tests.images import image_fields
 from tpmsim.model.image import VERSION_2, framed
 from tests.images.image_fields import Counted, Plain, Sized, image_of, text_of
 
-# The maximum size of pieces that are removed, doubled or inserted, in bytes.
+# The maximum size of a piece that is removed, repeated or inserted, in bytes.
 PIECE_BYTES = 40
 
-# The new values of sizes and counts, in addition to values near the right one.
+# New values for sizes and counts, in addition to values near the right one.
 SIZES = 0, 1, 16, 17, 32, 33, 34, 35, 128, 129, 2048, 2049
 NUMBERS = *SIZES, 0x8000, 0xFFFF
 BYTES = 0, 1, 2, 3, 0x80, 0x81, 0xFF
 
 
 class Body:
-    """The body of a device; each use gets a new copy of its fields."""
+    """The fields of the body of a device's image. Each use returns a new copy of them."""
 
     def __init__(self, device):
         self.pickled = pickle.dumps(image_fields.body_of(device))
@@ -31,7 +31,7 @@ class Body:
 
 
 def within(fields):
-    """Returns all lists of fields, from the outermost on."""
+    """Returns all lists of fields in these fields. Outer lists come before inner ones."""
     found = []
     add_lists(found, fields)
     return found
@@ -48,7 +48,7 @@ def add_lists(found, fields):
 
 
 class Bender(random.Random):
-    """Alters a body. Some ways alter its text, the others its fields."""
+    """Alters a body. Some methods alter its bytes, others its fields."""
 
     def below(self, count):
         return int(self.random() * count)
@@ -57,7 +57,8 @@ class Bender(random.Random):
         return values[self.below(len(values))]
 
     def bent(self, body, version=VERSION_2):
-        """Alters one field, or sometimes two. Returns what was done, and the image."""
+        """Alters the bytes once, or the fields once or twice. Returns a description and the image.
+        """
         fields = body.fields
         text_bends = self.change_byte, self.remove_piece, self.double_piece, self.insert_piece
         field_bends = (
@@ -73,7 +74,7 @@ class Bender(random.Random):
             names.append(it.__name__)
         return " ".join(names), image_of(fields, version)
 
-    # Ways to alter the text.
+    # Methods that alter the bytes.
 
     def other_byte(self, byte):
         changed = (byte ^ 1 << self.below(8), self.one_of(BYTES), byte + 1 & 0xFF, self.below(256))
@@ -100,8 +101,8 @@ class Bender(random.Random):
         at, size = self.below(len(text) + 1), 1 + self.below(PIECE_BYTES)
         return text[:at] + bytes(self.below(256) for _ in range(size)) + text[at:]
 
-    # Ways to alter the fields. The content after a size or a count is written with the new size or
-    # count.
+    # Methods that alter the fields. The sizes and counts that contain a changed field are
+    # corrected.
 
     def all_of(self, fields, *kinds):
         return [it for inner in within(fields) for it in inner if isinstance(it, kinds)]
@@ -114,13 +115,13 @@ class Bender(random.Random):
         field.text = self.change_byte(field.text)
 
     def copy_field(self, fields):
-        """Gives a field the value of another field of the same size."""
+        """Copies the value of another field of the same size to a field."""
         field = self.plain(fields)
         same = [it for it in self.all_of(fields, Plain) if len(it.text) == len(field.text)]
         field.text = self.one_of(same).text
 
     def change_number(self, fields):
-        """Changes a size or a count, so that its content no longer has it."""
+        """Changes a size or a count, so that it no longer fits its content."""
         field = self.one_of(self.all_of(fields, Sized, Counted))
         right = int.from_bytes(field.text[:2], "big")
         near = right + 1 & 0xFFFF, right - 1 & 0xFFFF, right ^ 0x100
@@ -131,7 +132,7 @@ class Bender(random.Random):
             field.count = wrong
 
     def resize(self, fields):
-        """Gives a field more or fewer bytes. The sizes around it are corrected."""
+        """Makes a field longer or shorter, and corrects the sizes that contain it."""
         field = self.one_of(self.all_of(fields, Plain))
         near = len(field.text) + 1, max(len(field.text) - 1, 0)
         size = self.one_of((*near, *SIZES, self.below(near[0])))
@@ -139,7 +140,7 @@ class Bender(random.Random):
         field.text = field.text[:size].ljust(size, fill)
 
     def groups(self, fields):
-        """Returns adjacent fields, or the groups after a count."""
+        """Returns a list of adjacent fields, or of the groups after a count."""
         lists = [it for it in within(fields) if it]
         lists += [it.groups for it in self.all_of(fields, Counted) if it.groups]
         return self.one_of(lists)

@@ -1,5 +1,5 @@
-"""Bodies of images with one fault, each with the nearest good body; and good bodies with values
-that are not checked.
+"""Bodies of images with one error, each with the most similar good body. Also good bodies with
+values that are not checked.
 """
 
 import copy
@@ -27,8 +27,8 @@ WRITTEN = BY_OWNER | Attribute.WRITTEN
 FIRST = 0x8100_0000
 WITH_VALUES = RH_OWNER, RH_ENDORSEMENT, RH_PLATFORM, RH_LOCKOUT
 
-# The offsets of the three bytes in a new device's image that have few valid values. The two counts
-# follow the last of them.
+# The offsets in a new device's image of the three bytes that have few valid values. The counts of
+# objects and indices follow the last of these bytes.
 DISABLE_CLEAR, CLOSED, SAVED = 16 + 4 * 66 + 2, 16 + 4 * 66 + 19, 361 - DIGEST_AT_END - 5
 SAVED_BANKS = SAVED_PCRS * (20 + 32)
 
@@ -37,7 +37,7 @@ FULL = full_device.build()
 
 
 def largest(version=VERSION_2):
-    """Returns a device each of whose fields is as large as an image of this version allows."""
+    """Returns a device whose fields are all as large as an image of this version allows."""
     device, value = Model(), b"v" * 32
     device.auth_values = {handle: value for handle in WITH_VALUES}
     device.saved = Saved.STATE
@@ -61,9 +61,7 @@ def one_index(public, data=b"", auth_value=b"a"):
 
 
 def one_object(public=None, handle=FIRST, hierarchy=RH_OWNER, name=b"", **sensitive):
-    """Returns the image of a device with one object. Each of the object's fields can have another
-    value.
-    """
+    """Returns the image of a device with one object, whose fields can have other values."""
     public = hmac_key() if public is None else public
     given = dict(kind=public.kind, auth_value=b"", seed_value=b"", data=b"key")
     kept = Object(public, Sensitive(**(given | sensitive)), hierarchy, name)
@@ -83,7 +81,7 @@ def with_auth_value(handle, value):
 
 
 def with_byte(at, value):
-    """Returns the image of a new device with another byte at offset `at` in its body."""
+    """Returns the image of a new device with another value in the byte at offset `at`."""
     text = image(Model())
     return framed(text[BODY_AT:at] + bytes([value]) + text[at + 1 : -DIGEST_AT_END])
 
@@ -98,7 +96,8 @@ def with_saved(value, banks=b""):
 
 
 def of_bytes(of, words, *rows):
-    """Yields wrong values of a field, and right ones."""
+    """Yields images with wrong values of a field and with right ones, each described by its length.
+    """
     for bad, good in rows:
         ends = ", the last a zero" if bad.endswith(b"\0") else ""
         wrong = f"{words} of {plural(len(bad))}{ends}", bad
@@ -137,7 +136,7 @@ def flag_cases():
 
 
 def changed_lists():
-    """Yields changed objects or indices of a full device, described; and the good image."""
+    """Yields altered lists of objects or indices in a full device, each with the good image."""
     for words, find in (("objects", objects_of), ("indices", indices_of)):
         for at in (0, 7, len(find(image_fields.body_of(FULL)).groups) - 2):
             fields = image_fields.body_of(FULL)
@@ -200,7 +199,7 @@ def object_cases():
 
 
 def public_cases():
-    """Yields public areas that cannot be read."""
+    """Yields images with public areas that cannot be parsed, each with a good image."""
     key = hmac_key()
     for words, change in (
         ("a reserved bit", dict(attributes=key.attributes | 1)),
@@ -229,7 +228,7 @@ def public_cases():
 
 
 def data_cases():
-    """Yields indices whose data, or the size of their data, differs from their public area."""
+    """Yields indices whose data, or the size of their data, does not fit their public area."""
     written = area(attributes=WRITTEN)
     bad = "8 bytes of data of an index without WRITTEN", area(), bytes(8)
     yield from pairs(one_index, bad, ("with it", written, bytes(8)))
@@ -269,7 +268,9 @@ def index_cases():
 
 
 def size_cases():
-    """Yields buffers that their structure does not fill, and longer or shorter texts."""
+    """Yields sized buffers that are longer than their structure, and texts that are too long or too
+    short.
+    """
     for words, find, at in (
         ("an object's public area", objects_of, 3),
         ("an object's sensitive area", objects_of, 4),
@@ -297,7 +298,7 @@ def size_cases():
 
 
 def not_looked_at():
-    """Yields good images with values that TPM2_NV_DefineSpace and templates would not accept."""
+    """Yields good images with values that TPM2_NV_DefineSpace or a template could not set."""
     locked = Attribute.GLOBALLOCK | Attribute.ORDERLY | Attribute.POLICY_DELETE
     device = Model()
     index = nv_commands.Index(counter(attributes=WRITTEN), b"", bytes([255] * 8))
@@ -326,7 +327,7 @@ def not_looked_at():
 
 
 def cases():
-    """Yields the cases. After each bad one comes the nearest good one."""
+    """Yields all cases. After each bad one comes the most similar good one."""
     yield from version_cases()
     yield from hierarchy_cases()
     yield from flag_cases()

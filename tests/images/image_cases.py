@@ -1,5 +1,5 @@
-"""Descriptions of texts that are images or nearly images. Also images of devices that have only NV
-indices, and images of both versions, within their limits or beyond them.
+"""Texts that are images or nearly images, with descriptions. Some contain only NV indices. Some are
+within the limits of their version, and some exceed them.
 """
 
 from dataclasses import dataclass
@@ -30,8 +30,8 @@ def pair(bad, bad_text, good, good_text):
 
 
 def pairs(of, bad, good):
-    """Returns the images that `of` makes from a bad value and a good value, with their
-    descriptions.
+    """Returns the images that `of` makes from a bad and from a good value. Each value comes after
+    its description.
     """
     return pair(bad[0], of(*bad[1:]), good[0], of(*good[1:]))
 
@@ -44,17 +44,17 @@ def with_indices(*indices, version=VERSION_2):
 
 
 def areas(*sizes, version=VERSION_2):
-    """Returns the image of a device with an index of each of these sizes."""
+    """Returns the image of a device with indices of these sizes."""
     numbered = enumerate(sizes, 0x0100_0000)
     held = (nv_commands.Index(area(index, size=size), b"") for index, size in numbered)
     return with_indices(*held, version=version)
 
 
-# The two versions.
+# The two versions of images.
 
 
 def with_other_limits():
-    """Yields the image of a new device with one bit of the limits changed, for each bit."""
+    """Yields the image of a new device with each bit of its limits changed in turn."""
     body = image(Model())[BODY_AT:-DIGEST_AT_END]
     limits, size = int.from_bytes(VERSION_2.limits, "big"), len(VERSION_2.limits)
     for bit in range(8 * size):
@@ -62,17 +62,15 @@ def with_other_limits():
 
 
 def without_state():
-    """Yields texts of version 2 that have bytes only for the head and the digest, and at most 31
-    more.
-    """
+    """Yields texts of version 2 with 42 to 73 bytes: a head, at most 31 bytes, and a digest."""
     new = image(Model())
     for size in range(42, 74):
         yield f"of {size} bytes", digested(2, new[HEAD_BYTES : size - DIGEST_AT_END])
 
 
 def version_cases():
-    """Yields images with other bytes between the head and the body, and images at the limits of
-    version 1.
+    """Yields images with wrong limits between head and body, and images near the limits of version
+    1.
     """
     new = image(Model())
     old, body = image(Model(), VERSION_1), new[BODY_AT:-DIGEST_AT_END]

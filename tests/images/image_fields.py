@@ -1,7 +1,8 @@
-"""The image of a device as its fields: fields with a size, fields with a count, and plain fields.
+"""Splits the image of a device into fields: fields with a size, fields with a count, and plain
+fields.
 
-The fields can be changed. Then they are written again with their sizes and counts, or with other
-sizes and counts.
+The fields can be changed, and then written again with their correct sizes and counts, or with
+others.
 """
 
 from dataclasses import dataclass
@@ -10,20 +11,20 @@ from tpmsim.model import image, persistent
 from tpmsim.model.state import Saved
 from tpmsim.standard import RH_LOCKOUT, number
 
-# The sizes of the numbers in a SYMCIPHER's cipher and in a KEYEDHASH's scheme, in bytes.
+# The size of each number in a SYMCIPHER's cipher or a KEYEDHASH's scheme, in bytes.
 DETAIL_BYTES = 2
 
 
 @dataclass
 class Plain:
-    """The bytes of a field that has a fixed size."""
+    """The bytes of a field without a size or a count."""
 
     text: bytes
 
 
 @dataclass
 class Sized:
-    """Fields with a size in front of them."""
+    """Fields with their size before them."""
 
     fields: list
     size: int = None
@@ -36,7 +37,7 @@ class Sized:
 
 @dataclass
 class Counted:
-    """Groups of fields with a count in front of them."""
+    """Groups of fields with their count before them."""
 
     groups: list
     count: int = None
@@ -52,7 +53,7 @@ def text_of(fields):
 
 
 def image_of(fields, version=image.VERSION_2):
-    """Returns the image with these fields, with the right head and digest."""
+    """Returns the image with these fields, and with the right head and digest."""
     return image.framed(text_of(fields), version)
 
 
@@ -69,8 +70,8 @@ def pieces(text, size):
 
 
 def body_of(device):
-    """Returns the fields of a device's body. `objects_of` and `indices_of` find the two lists in
-    it.
+    """Returns the fields of a device's body. `objects_of` and `indices_of` return its last two
+    fields, the lists.
     """
     fields = []
     for hierarchy in image.HIERARCHIES:

@@ -1,8 +1,8 @@
-"""Writes the image of the device after a script, as `tpmsim serve --image` would store it:
+"""Writes the image of the device after a script, as `tpmsim serve --image` would save it:
 
     tools/python.sh tests/images/images.py SCRIPT [IMAGE]
 
-The image is written to the file IMAGE. Without IMAGE it is printed in hex.
+The program writes the image to the file IMAGE. Without IMAGE it prints the image in hex.
 """
 
 import pathlib

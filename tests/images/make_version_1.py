@@ -1,12 +1,12 @@
-"""Writes the images of version 1 that are missing, and compares those that exist:
+"""Writes missing images of version 1, and compares the existing ones:
 
     tools/python.sh tests/images/make_version_1.py PROGRAM
 
 PROGRAM is a program that writes this version. It serves the device of each script NAME.tpm in
-tests/images/version_1. There is a run for the commands up to each `power` line, with the
-script's random bytes, at the times that tests/common/clock.c gives to it; `cc` builds that. The
-image at the end must be the image of the Python device after the same commands. If there is no
-NAME.hex, the image is written there. If there is one, the images must be equal.
+tests/images/version_1. The commands up to each `power` line are one run. The test passes the
+script's random bytes to it, and sets its clock with tests/common/clock.c, which `cc` compiles. The
+image at the end must be that of the Python device after the same commands. If NAME.hex exists, the
+image in it must be equal. Otherwise the test writes the image there.
 """
 
 import os
@@ -51,22 +51,24 @@ def played(runs):
 
 
 class Served:
-    """A device that a program serves in a folder. A file there has the present time, in
-    milliseconds since the first command of a run.
+    """A device that a program serves in a folder. The file `clock` there contains the time of the
+    host for the program.
     """
 
     def __init__(self, program, path):
         self.path, self.program = pathlib.Path(path), Shim(os.path.abspath(program), "clock", path)
 
     def is_now(self, time):
-        """Sets the host's clock, which keeps this time until it is set again."""
+        """Sets the host's clock to a time in milliseconds since the first command of the run. The
+        clock keeps this time until it is set again.
+        """
         seconds, milliseconds = divmod(time, 1000)
         told = f"{FIRST_SECOND + seconds} {milliseconds * 1_000_000}\n"
         (self.path / "clock.new").write_text(told, "ascii")
         (self.path / "clock.new").replace(self.path / "clock")
 
     def serve(self, run):
-        """Returns the responses of a run over one connection."""
+        """Returns the responses of a run with one connection."""
         random = b"" if (self.path / "image").exists() else MANUFACTURED
         (self.path / "entropy").write_bytes(random + b"".join(it.random for it in run))
         time = 0
@@ -89,7 +91,7 @@ class Served:
 
 
 def served(program, runs):
-    """Returns the responses of the program, and the image that it leaves."""
+    """Returns the responses of the program in all runs, and the image that it leaves."""
     with tempfile.TemporaryDirectory() as path:
         device = Served(program, path)
         answers = [answer for run in runs for answer in device.serve(run)]

@@ -1,4 +1,6 @@
-"""Bodies of state texts with one fault, each with the nearest good body; and the largest body."""
+"""Bodies of state texts with one error, each with the most similar good body. Also the largest
+body.
+"""
 
 from dataclasses import replace
 
@@ -17,7 +19,7 @@ MOST_TIME = 1000 * 2**32
 
 
 def largest():
-    """Returns a device each of whose fields is as large as possible, and its completing layer."""
+    """Returns a device whose fields are all as large as possible, and its completing layer."""
     device = image_bodies.largest()
     told = State(bytes(32), 1, 1, bytes(32), True)
     bound = bytes(34), b"v" * 32, LOCKOUT_AUTH
@@ -33,7 +35,7 @@ def body_of(device, layer=None):
 
 
 def changed(change):
-    """Returns the body of the worked device after a change."""
+    """Returns the body of worked_state.py's device after `change` has changed the device."""
     device = worked_state.device()
     change(device)
     return body_of(device)
@@ -52,8 +54,8 @@ def of_policy(handle=BOUND, **fields):
 
 
 def size_pairs():
-    """Yields sizes that a session's hash does not allow. The hash is SHA-256 for the bound session,
-    and SHA-1 for the other one.
+    """Yields bodies with sizes that a session's hash does not allow. The bound session has SHA-256,
+    and the HMAC session SHA-1.
     """
     for handle, sizes in ((BOUND, ((15, 16), (33, 32))), (HMAC, ((15, 16), (21, 20)))):
         for size, near in sizes:
@@ -84,8 +86,8 @@ def of_object(kind=None, **fields):
 
 
 def spelled(bad, good):
-    """Returns the body of the worked device with other bytes instead of some that occur once in it;
-    and the unchanged body.
+    """Returns the body of worked_state.py's device with `bad` instead of `good`, which occurs once
+    in it, and the unchanged body.
     """
     body = body_of(worked_state.device())
     assert body.count(good) == 1
@@ -111,8 +113,8 @@ def session_pairs():
 
 
 def place_pairs():
-    """Yields bodies with missing or extra slots. The slots after them are then read as something
-    else.
+    """Yields bodies with a missing or extra slot, so that all later slots are parsed at wrong
+    offsets.
     """
     body = body_of(worked_state.device())
     session = state_text.optional_text(
@@ -126,7 +128,8 @@ def place_pairs():
 
 
 def pairs():
-    """Yields each wrong body, a description of its fault, and the related good body."""
+    """Yields the description of an error, the body with this error, and the most similar good body.
+    """
     yield from session_pairs()
     yield from place_pairs()
     for name in ("forgiving_time", "closed_time"):

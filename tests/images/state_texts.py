@@ -1,10 +1,11 @@
-"""State texts, as the Python device writes and reads them:
+"""Tests how the Python device writes and reads state texts:
 
     state_texts.py TESTS
 
-The scripts in the folders SCRIPTS of TESTS are played. After each command the device is read
-again from its text. Each response must be the one in the file next to the script. A text with a
-fault must be refused with that fault. A text that is read must be written again unchanged.
+The test plays scripts in the folders SCRIPTS of TESTS. After each command, the device is opened
+again from its state text. Each response must be the one in the file next to the script. A text with
+an error must be refused with the right fault. A text that is accepted must be written again
+unchanged.
 """
 
 import collections
@@ -20,20 +21,20 @@ from tests.images import state_bodies, worked_state
 
 SCRIPTS = "objects", "policies", "sessions"
 
-# One of this many scripts is played. The last bit is changed in one of this many bytes of a body.
+# One in this many scripts is played, and one in this many bytes of a body is changed.
 ONE_IN = 3
 
 
 def goes_on(text):
-    """Returns the device of a text, which must be written as the same text again."""
+    """Returns the device of a state text. Checks that the device writes the same text again."""
     device, layer = state_text.open_state(text)
     assert layer is None and state_text.state_text(device) == text
     return device
 
 
 def played(script):
-    """Plays a script, and reads the device from its text after each command. Returns the number of
-    commands, and the responses that differ from the expected ones.
+    """Plays a script, and opens the device from its state text after each command. Returns the
+    number of commands, and the number of wrong responses.
     """
     player, responses = Player(), []
     for line in script.read_bytes().splitlines():
@@ -53,12 +54,12 @@ def play_all(tests):
 
 
 def worked():
-    """Checks that the text of the device with everything in it is the one in the file. Each line of
-    the file was compared by hand with docs/table/state_text.md: its field is the page's next
-    one, and has the same size. The sizes before sized fields are right. So are the numbers of
-    types, algorithms, protection, demand and localities, and the byte of each slot that says
-    whether it is in use. The values that the script sets (values, nonces, command, times,
-    counts, the layer's numbers) are in their fields.
+    """Checks that the state text of worked_state.py's device is the one in the file. That device
+    has something in each field. Each line of the file was compared by hand with
+    docs/table/state_text.md: its field is the next one of the page, and has the same size. Also
+    right are the sizes before sized fields; the numbers of types, algorithms, protection, demand
+    and localities; and the byte of each slot that says whether it is in use. The values that the
+    script sets (values, nonces, command, times, counts, the layer's numbers) are in their fields.
     """
     text = worked_state.text()
     print("the worked text is as it is written:", text == worked_state.written())
@@ -67,8 +68,8 @@ def worked():
 
 
 def version_1():
-    """A text of version 1 is read without the objects that were flushed. It is written as
-    version 2.
+    """A text of version 1 is opened without the objects that were flushed, and written as version
+    2.
     """
     text = worked_state.written(worked_state.FIELDS_1)
     wanted = state_text.state_text(worked_state.device_1(), worked_state.layer())
@@ -85,7 +86,7 @@ def sizes():
 
 
 def faults_of(texts):
-    """Counts the texts for each fault. None is for the texts that are read."""
+    """Counts the texts by fault. None counts the texts without a fault."""
     return collections.Counter(map(state_text.fault_of, texts))
 
 
@@ -105,7 +106,7 @@ def refused(text):
 
 
 def corrected(text):
-    """Tries bodies with a changed byte, each with a right head and digest."""
+    """Changes bytes of the body, one at a time, and corrects the head and the digest."""
     body, counts = text[HEAD_BYTES:-DIGEST_AT_END], collections.Counter()
     for at in range(0, len(body), ONE_IN):
         framed = state_text.framed(turned(body, at))

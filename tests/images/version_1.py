@@ -1,6 +1,6 @@
-"""Images of version 1, which are kept as bytes in tests/images/version_1. NAME.hex has an image
-that a program of that version saved, and NAME.tpm has the script of its device. Neither file is
-ever written again.
+"""Images of version 1, whose bytes are stored in tests/images/version_1. NAME.hex contains an image
+that a program of that version saved, and NAME.tpm the script of its device. Neither file will ever
+be changed.
 """
 
 import pathlib
@@ -26,13 +26,13 @@ def kept(name):
 
 
 def spelled(text):
-    """Returns the lines of NAME.hex."""
+    """Returns the text of NAME.hex for an image."""
     pieces = (text[at : at + BYTES_OF_LINE] for at in range(0, len(text), BYTES_OF_LINE))
     return "".join(f"{it.hex()}\n" for it in pieces)
 
 
 def device_of(name):
-    """Returns the device after the script, each of whose comments names an outcome."""
+    """Returns the device after a script. Each comment of the script names an outcome."""
     return device_behind(script(name))
 
 

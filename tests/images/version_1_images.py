@@ -2,9 +2,9 @@
 
     tools/python.sh tests/images/version_1_images.py PROGRAM
 
-The commands read the device's state, and use its secrets. The program's responses must be those
-of the Python device, and so must the image of version 2 that it saves afterwards. For each image
-a line says what was tried. The last line is `N agree, M differ`.
+The commands read the device's state, and use its secrets. The program's responses must be those of
+the Python device, and the image of version 2 that it saves afterwards must be the same too. For
+each image, the lines say what was tested. The last line is `N agree, M differ`.
 """
 
 import collections
@@ -39,7 +39,7 @@ VERSION = 5
 
 
 class Commands(PreparedCommands):
-    """Commands for a device in its current state, with its authorization values."""
+    """Makes commands for a device in its present state, with its authorization values."""
 
     def __init__(self, device):
         super().__init__()
@@ -49,7 +49,7 @@ class Commands(PreparedCommands):
         return self.device.auth_value(handle)
 
     def use(self, handle):
-        """Returns a command that needs an object's sensitive area."""
+        """Returns a command that needs the sensitive area of an object."""
         public = self.device.objects[handle].public
         if public.kind == SYMCIPHER:
             return self.child(handle, sealed(), user_auth=b"auth", data=b"data")
@@ -59,7 +59,7 @@ class Commands(PreparedCommands):
         return self.unsealing(handle)
 
     def asker(self, index):
-        """Returns the handle that authorizes reading and writing of an index."""
+        """Returns the handle that can authorize reading and writing an index."""
         public = self.device.indices[index].public
         if public.has(nv.Attribute.OWNERREAD):
             return RH_OWNER
@@ -70,8 +70,8 @@ class Commands(PreparedCommands):
 
 
 def looks(tpm):
-    """Yields commands that read the whole readable state, a command on a session that was lost, and
-    a use of each secret.
+    """Yields commands that read all readable state, a command on a session that no longer exists,
+    and commands that use each secret.
     """
     for first in (NV, frames.HMAC_SESSION, TRANSIENT, PERSISTENT):
         yield tpm.capability(HANDLES, first << 24, 64)
@@ -94,8 +94,9 @@ def looks(tpm):
 
 
 def changes(tpm):
-    """Yields commands that depend on a counter's largest value and on authorization values, and
-    wrong commands. One more index is defined, even if the image has the maximum of its version.
+    """Yields commands that depend on the largest value of counters or on authorization values, and
+    commands with wrong passwords. They define one more index, even if the image has the maximum of
+    its version.
     """
     for index, held in sorted(tpm.device.indices.items()):
         if held.public.kind == nv.Type.COUNTER:
@@ -114,8 +115,8 @@ def changes(tpm):
 
 
 def resumed(tpm):
-    """Yields TPM2_Startup(STATE), TPM2_Startup(CLEAR) in case no state was saved, and all of the
-    commands above.
+    """Yields TPM2_Startup(STATE); TPM2_Startup(CLEAR), in case no state was saved; the commands of
+    `looks` and `changes`; and TPM2_Shutdown(STATE).
     """
     yield tpm.starting(STATE)
     yield tpm.starting(CLEAR)
@@ -125,8 +126,8 @@ def resumed(tpm):
 
 
 def restarted(tpm):
-    """Yields TPM2_Startup(CLEAR), which may be a restart. Then TPM2_Clear removes the owner's
-    entities, unless it is disabled.
+    """Yields TPM2_Startup(CLEAR), which may be a restart, and TPM2_Clear, which removes the owner's
+    entities unless it is disabled. Then yields the commands of `looks`.
     """
     yield tpm.starting(CLEAR)
     yield tpm.clearing(RH_PLATFORM)
@@ -137,7 +138,7 @@ def restarted(tpm):
 
 
 def taken(text, commands):
-    """Yields the commands, each made for the device after the commands before it."""
+    """Yields the buffers of commands. Each is made for the device after the previous ones."""
     device = image.open_image(text)
     for prepared in commands(Commands(device)):
         buffer = prepared.buffer()
@@ -146,10 +147,10 @@ def taken(text, commands):
 
 
 def executed(device, buffers, clock):
-    """Returns the outcomes of commands during the time that passed for the program, in
-    milliseconds. The response to the last command has that time. All of it passes before the
-    last command, except the time that passed before TPM2_Clear. TPM2_Clear sets Clock back, so
-    that Clock is then less than Time.
+    """Returns the outcomes of commands on the Python device, with the times that passed for the
+    program. `clock` is the program's response to the last command, which is TPM2_ReadClock.
+    TPM2_Clear sets Clock to 0, so the time before TPM2_Clear is the difference of Time and Clock.
+    The rest of the time passes before the last command.
     """
     time, clock = int.from_bytes(clock[TIME], "big"), int.from_bytes(clock[CLOCK], "big")
     before_clear = max(time - clock, 0)
@@ -166,7 +167,7 @@ def is_clear(buffer):
 
 
 def told(outcomes):
-    """Returns the outcomes of the commands of each name, on a line for each name."""
+    """Yields a line for each kind of command, with the number of commands for each outcome."""
     counts = {}
     for outcome in outcomes:
         refused = outcome.refused or "SUCCESS"
@@ -181,13 +182,13 @@ class Comparison:
         self.agree, self.differ = 0, 0
 
     def check(self, holds, words):
-        """Prints what was tried, or what differs."""
+        """Counts a check, and prints what was tested or what differs."""
         self.agree, self.differ = self.agree + holds, self.differ + (not holds)
         print(f"    {words}" if holds else f"    DIFFERS: {words}", flush=True)
 
     def run(self, text, buffers, connections=1):
-        """Runs the program on an image. Returns its responses, its messages, and the image that it
-        saves.
+        """Runs the program on an image. Returns its responses, its error message, and the image
+        that it saves.
         """
         run = streams.Run(0, 0, text, True, b"".join(map(streams.random_of, buffers)))
         run.connections = [streams.Connection(AT_ONCE) for _ in range(connections)]
@@ -197,7 +198,9 @@ class Comparison:
         return answers, error, self.folder.image.read_bytes()
 
     def kept(self, text, device):
-        """Checks a kept image: the Python device has the same image after the script."""
+        """Checks a stored image. The Python device must have the same image after the image's
+        script.
+        """
         opened = image.open_image(text)
         again, of_script = version_1.image_of(opened), version_1.image_of(device)
         self.check(again == text, "the device in Python opens it, and has this image")
@@ -207,7 +210,9 @@ class Comparison:
         self.check(self.run(wanted[2], []) == wanted, "it opens that, and saves it as it is")
 
     def opened(self, text, words, commands):
-        """Executes commands, and then TPM2_ReadClock, on the device of an image."""
+        """Executes commands, and then TPM2_ReadClock, on the device of an image. Compares all
+        results.
+        """
         buffers = [*taken(text, commands), lines.assemble(b"ReadClock")]
         (answers,), error, saved = self.run(text, buffers)
         device = image.open_image(text)
@@ -223,7 +228,7 @@ class Comparison:
         self.check(saved == image.image(device), f"{words}, it saves the same")
 
     def refused(self, fault, text, words):
-        """Checks that a text that is not an image is refused."""
+        """Checks that the program refuses a text that is not an image with this fault."""
         _, error, left = self.run(text, [], connections=0)
         holds = image.fault_of(text) == fault and error == f"tpmsim: image {fault}"
         self.check(holds and left == text, f"{words}: {fault}")
@@ -244,7 +249,9 @@ def damaged(text):
 
 
 def beyond_limits(text):
-    """Yields images of a full device beyond the limits of version 1: an index or a byte more."""
+    """Yields images of a full device that exceed the limits of version 1: by an index, or by a
+    byte.
+    """
     device = image.open_image(text)
     device.indices[LAST_INDEX] = nv_commands.Index(area(LAST_INDEX, BY_OWNER, size=0), b"", b"")
     assert len(device.indices) == image.VERSION_1.indices + 1

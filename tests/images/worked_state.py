@@ -1,5 +1,5 @@
-"""The device of the worked example of a state text, and that text. worked_state.txt lists the
-fields of the text. worked_state_1.txt lists those of a text of version 1 with the same device.
+"""The worked example of a state text, and its device. worked_state.txt lists the fields of the
+text. worked_state_1.txt lists those of a text of version 1 of the same device.
 """
 
 import copy
@@ -9,9 +9,9 @@ import pathlib
 from tpmsim.model.player import Player
 from tpmsim.model.state_text import Layer, state_text
 
-# Clock is three milliseconds ahead of Time. One authorization has failed, and lockoutAuth is
-# locked. Of the three sessions the first one has been flushed. The last one is bound, and is a
-# policy session.
+# At the end, Clock is three milliseconds ahead of Time. One authorization has failed, and
+# lockoutAuth is disabled. Of the three sessions, the first one was flushed, and the last one is a
+# bound policy session.
 LINES = """
 entropy 000102030405060708090a0b0c0d0e0f101112131415161718191a1b1c1d1e1f202122232425262728292a2b2c2d2e2f303132333435363738393a3b3c3d3e3f
 do Startup 0
@@ -55,12 +55,12 @@ def played():
 
 
 def device():
-    """Returns a new copy of the device each time. The caller may change it."""
+    """Returns a new copy of the device, which the caller may change."""
     return copy.deepcopy(played())
 
 
 def layer():
-    """Returns a completing layer with the context of a session."""
+    """Returns a completing layer with the saved context of one session."""
     return Layer(0x1122334455667788, 3, [0, 2] + [0] * 14)
 
 
@@ -69,7 +69,7 @@ def text():
 
 
 def device_1():
-    """Returns the device that is read from the text of version 1, in which object 0 was flushed."""
+    """Returns the device that a text of version 1 contains after object 0 was flushed."""
     found = device()
     del found.objects[0x80000000]
     return found

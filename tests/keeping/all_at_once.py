@@ -1,13 +1,12 @@
-"""Hosts of each kind use one kept device at once, and some of them are killed at random moments:
+"""Hosts of all kinds use one kept device at once, while some of them are killed at random moments:
 
     python3 all_at_once.py PROGRAM HOSTS SHIM SECONDS PROCESSES SEED [fills]
 
-LD_PRELOAD has loaded failing.c into this process, for clocks that jump by up to a day. Each
-process counts in one index of the device, cycles its power, opens it again, and forks. Signals
-interrupt its calls all the time. Its system calls do not fail otherwise. With `fills` the disk
-of the working folder is full now and then. At the end the index has each increment that was
-answered, and no increment that was not requested. A process never reads a number that is less
-than its own count.
+LD_PRELOAD has loaded failing.c into this process, for clocks that jump by up to a day. Each process
+increments one index of the device, power-cycles it, opens it again, and forks. Signals interrupt
+its calls all the time. Otherwise its system calls do not fail. With `fills` the disk of the working
+folder is sometimes full. At the end the index must contain each increment that was answered, and
+none that was not requested. A process must never read a number that is less than its own count.
 """
 
 import contextlib
@@ -30,8 +29,8 @@ FOLDER, FULL, CLONE_NEWPID, SECONDS_TO_END = "state", "full", 0x20000000, 60
 INTERRUPT_EACH, KILL_EACH = 0.0007, 0.02
 ASKED, DONE, OTHER, WRONG = b"a", b"d", b"o", b"w"
 
-# The kinds of hosts, which begin in turn. With an odd seed the power is cycled often; otherwise the
-# journals grow.
+# The kinds of hosts, which begin in turn. With an odd seed the power is cycled often; with an even
+# seed the journals grow.
 KINDS = ((Module, Python, Run, Module, Python), (Module, Python, Run, Module, Python, Simulator))
 CYCLES = 0.0005, 0.02
 
@@ -95,8 +94,8 @@ class Worker:
             self.forks()
 
     def asks(self, act: str) -> object:
-        """Returns the answer to an operation. The device is started first if the operation needs
-        that.
+        """Returns the answer to an operation. If the device is not started, starts it for the next
+        one.
         """
         answer = answer_of(act, does(self.host, act, FOLDER))
         if answer == INITIALIZE:
@@ -121,8 +120,8 @@ class Worker:
             self.least = answer[1]
 
     def forks(self) -> None:
-        """Forks a child that continues with the host. If possible, the child has the same process
-        number.
+        """Forks a child that continues with the host. If possible, the child has the process number
+        of its parent.
         """
         self.has_forked = True
         ctypes.CDLL(None).unshare(CLONE_NEWPID)
@@ -159,7 +158,7 @@ class Counts:
 
 
 def begun(kind: type[Host], files: Files, seed: int, until: float) -> tuple[int, int]:
-    """Begins a process in a group of its own. Returns its number and the pipe of its reports."""
+    """Begins a process in its own process group. Returns its number and the pipe of its reports."""
     reads, writes = os.pipe()
     child = os.fork()
     if child == 0:
@@ -178,8 +177,7 @@ def begun(kind: type[Host], files: Files, seed: int, until: float) -> tuple[int,
 
 
 def plays(files: Files, seconds: float, processes: int, seed: int, fills: bool) -> Counts:
-    """Runs this many processes at once, for this many seconds. Each process that is killed is
-    replaced.
+    """Runs this many processes at once, for this many seconds. Each process that ends is replaced.
     """
     choices, counts, chooser = random.Random(seed), Counts(), selectors.DefaultSelector()
     until, kinds = time.monotonic() + seconds, KINDS[seed % 2]
@@ -220,7 +218,7 @@ def plays(files: Files, seconds: float, processes: int, seed: int, fills: bool) 
 
 
 def kill(group: int) -> None:
-    """Kills a process with its children; or only the process, while it has no group yet."""
+    """Kills a process group, if it exists."""
     with contextlib.suppress(ProcessLookupError):
         os.killpg(group, signal.SIGKILL)
 

@@ -1,9 +1,9 @@
-"""A counter in a kept device: its possible values after commands of which some were answered and
-some failed.
+"""A counter in a kept device. Computes its possible values after commands of which some were
+answered and some failed.
 
-A history of operations is recorded as it happens: an operation with its answer, or several
-operations of which the first few were done. From this follows a set of possible states. An answer
-that no state of the set allows is wrong.
+Operations are recorded as they happen: an operation with its answer, or several operations of which
+only the first few may have been done. They determine a set of possible states. An answer that is
+not possible in any of these states is wrong.
 """
 
 from dataclasses import dataclass, replace
@@ -64,7 +64,7 @@ def outcome(state: State, act: str) -> tuple[State, object]:
 
 
 def answer_of(act: str, response: bytes) -> object:
-    """Returns the content of a response, in the form of `outcome`."""
+    """Returns the answer in a response, in the same form as `outcome`."""
     if act in (BEGIN, POWER):
         return None
     code = int.from_bytes(response[6:10], "big")
@@ -92,7 +92,9 @@ class Counted:
             self.states = {outcome(it, act)[0] for it in self.states if it.is_there or act == BEGIN}
 
     def may_have(self, acts: Iterable[str]) -> None:
-        """Records that operations were requested. Perhaps only the first few of them were done."""
+        """Records that operations were requested. Any number of them, from the first on, may have
+        been done.
+        """
         done = set(self.states)
         for act in acts:
             done = {outcome(it, act)[0] if it.is_there or act == BEGIN else it for it in done}

@@ -1,16 +1,16 @@
-"""The host of a kept device crashes after each change that it makes to its folder:
+"""Simulates a crash of the host of a kept device after each change that it makes to its folder:
 
     python3 crash_each.py PROGRAM HOSTS SHIM SHARE [WORD]
 
 SHIM is the library of disk.c, which LD_PRELOAD has loaded into this process too. It logs what each
-host does to its folder. A crash keeps the bytes that were synced, and any prefix of the rest,
-perhaps followed by zeros. A name that was not synced may be lost, or may be an earlier file's
-again.
+host does to its folder. A crash keeps all synced bytes, and any prefix of the others, perhaps
+followed by zeros. A name that was not synced may be lost, or may refer to an earlier file again.
 
-After each line of the log some such folders are made, and another host opens them. With
-force=always each folder has the device that executed the answered operations, and perhaps the
-unanswered one. Otherwise it has one of the devices since the last power cycle. One of SHARE crashes
-is made; with WORD, only those of hosts whose name contains it.
+After each line of the log the test makes some folders as a crash may leave them, and another host
+opens them. With force=always each folder must contain the device that executed the answered
+operations, and perhaps the unanswered one. Otherwise it must contain one of the devices since the
+last power cycle. Only one in SHARE crashes is tested; with WORD, only those of hosts whose name
+contains it.
 """
 
 import ctypes
@@ -32,8 +32,8 @@ MOST_ZEROS, CHOICES = 5000, 3
 
 @dataclass
 class File:
-    """A file's content; its contents since it was synced; and how many of its first bytes are on
-    the disk.
+    """The content of a file, its earlier contents since it was synced, and the number of its first
+    bytes that are on the disk.
     """
 
     now: bytes = b""
@@ -41,7 +41,7 @@ class File:
     forced: int = 0
 
     def becomes(self, text: bytes) -> None:
-        """Sets the content. Bytes that are written again unchanged stay on the disk."""
+        """Sets the content. The unchanged bytes at the beginning stay on the disk."""
         self.past.append(self.now)
         self.forced = min(self.forced, len(os.path.commonprefix([self.now, text])))
         self.now = text
@@ -63,7 +63,7 @@ class File:
 
 
 class Disk:
-    """A folder, as its processes see it and as a crash may leave it."""
+    """A folder as processes see it, and as a crash may leave it."""
 
     def __init__(self, folder: pathlib.Path, is_there: bool) -> None:
         self.folder, self.is_there, self.is_named = folder, is_there, is_there
@@ -75,7 +75,7 @@ class Disk:
                 self.files[number] = File(path.read_bytes(), [], path.stat().st_size)
 
     def name_of(self, path: str) -> str:
-        """Returns the name of a file in the folder; empty for another file."""
+        """Returns the name of a file in the folder, or an empty name for any other file."""
         folder, _, name = path.rpartition("/")
         return name if folder == str(self.folder) else ""
 
@@ -114,8 +114,8 @@ class Disk:
             file.forces()
 
     def leaves(self, folder: pathlib.Path, choices: random.Random, how: int) -> None:
-        """Makes a folder as a crash may leave it: with the least content, with all of it, or with a
-        random part.
+        """Makes a folder as a crash may leave it, with the least content, all of it, or a random
+        part.
         """
         shutil.rmtree(folder, ignore_errors=True)
         if not self.is_there or (not self.is_named and (how == 0 or choices.random() < 0.5)):
@@ -138,8 +138,8 @@ class Disk:
 
 
 class Allowed:
-    """The devices that may be in the folder: the device after the answered operations, or all
-    devices since the last power cycle.
+    """The devices that the folder may contain: the one after the answered operations, or any device
+    since the last power cycle.
     """
 
     def __init__(self, state: State, is_always: bool) -> None:
@@ -175,7 +175,7 @@ class Allowed:
 
 @dataclass(frozen=True)
 class Case:
-    """A host, the folder and device that it begins with, and the operations that it has to do."""
+    """A host, its folder and device at the beginning, and the operations that it must do."""
 
     files: Files
     host: type[Host]
@@ -219,7 +219,7 @@ class Case:
         self.plays(self.host(self.files, {"DISK_LOG": str(log)}), folder, mark)
 
     def lines(self, room: pathlib.Path, folder: pathlib.Path) -> list[list[str]]:
-        """Returns the log of what the host does to the folder, with its answers."""
+        """Returns the log of the changes that the host makes to the folder, and of its answers."""
         log = room / "log"
         log.unlink(missing_ok=True)
         runs = self.in_a_fork if self.host in (Module, Python) else self.as_a_program
@@ -227,8 +227,8 @@ class Case:
         return [line.split() for line in log.read_text("ascii").splitlines()]
 
     def check(self, room: pathlib.Path, share: int) -> tuple[int, int]:
-        """Tries one in every `share` possible crashes. Returns how many were tried, and the number
-        of faults found.
+        """Tests one in every `share` crashes. Returns the number of tested crashes, and of wrong
+        ones.
         """
         folder, left = room / "state", room / "left"
         self.start.put(folder)

@@ -3,9 +3,9 @@ journal:
 
     python3 damage_each.py PROGRAM HOSTS SHIM SHARE
 
-Either the journal stays unchanged, byte for byte, or a new journal replaces it. The new journal
-has the device before the damage, or that device after the power cycle. One of SHARE runs is
-made.
+Afterwards the journal must either be unchanged, byte for byte, or replaced by a new journal. The
+new journal must contain the device before the damage, or that device after the power cycle. Only
+one in SHARE runs is made.
 """
 
 import functools
@@ -69,7 +69,7 @@ class Damaged:
         self.journal = (room / "damaged" / "journal").read_bytes()
 
     def tries(self, meeting: Meeting) -> tuple[str, str]:
-        """Returns which call had the fault, and what went wrong."""
+        """Returns the call that failed, and a description of what is wrong."""
         self.start.put(self.folder)
         told = Told(Counted([FRONT]))
         Trial(self.make, (POWER,), str(self.folder), told, self.shim, meeting).as_a_program()

@@ -3,11 +3,11 @@
     python3 each_call.py PROGRAM HOSTS SHIM SHARE [WORD]
 
 HOSTS is the folder with the module and the programs. SHIM is the library of failing.c, which
-LD_PRELOAD has loaded into this process too. One of SHARE runs is made; with WORD, only those of
-hosts whose name contains it. In each run a host has to do some operations, and one system call has
-a fault of VARIANTS. Then another host opens the folder. The device has executed the answered
-operations, and perhaps the unanswered one. Standard error says what is wrong, and the number of
-runs.
+LD_PRELOAD has loaded into this process too. Only one in SHARE runs is made; with WORD, only those
+of hosts whose name contains it. In each run a host has to do some operations, and one system call
+has a fault of VARIANTS. Then another host opens the folder. The device must have executed the
+answered operations, and perhaps the unanswered one. Standard error describes what is wrong, and
+reports the number of runs.
 """
 
 import collections
@@ -31,7 +31,7 @@ from tests.keeping.counted import POWER, READ, STARTUP, State, UNWRITTEN
 from tests.keeping.hosts import does, Files, Host, Module, Power, ProgramPower, Python, Refused
 from tests.keeping.hosts import Run, Simulator
 
-# The faults that failing.c gives to a call.
+# The faults that failing.c can cause in a call.
 Act = IntEnum(
     "Act",
     "FAILS FAILS_ON STORMS DOES_AND_FAILS DOES_HALF IS_KILLED DOES_AND_IS_KILLED"
@@ -58,7 +58,7 @@ WELL, FAULT, KILLED = 0, 3, -signal.SIGKILL
 
 @dataclass(frozen=True)
 class Meeting:
-    """The number of the call that fails, and the fault of that call."""
+    """The number of the call that fails, and its fault."""
 
     number: int
     act: Act
@@ -89,9 +89,7 @@ class Shim:
         return {"LD_PRELOAD": str(self.path), "FAILING": told}
 
     def met(self) -> str:
-        """Returns the name of the call that had the fault; empty if there was no call of that
-        number.
-        """
+        """Returns the name of the call that failed, or an empty text if there were fewer calls."""
         if not self.report.exists():
             return ""
         text = self.report.read_text("utf8").strip()
@@ -101,8 +99,8 @@ class Shim:
 
 @dataclass
 class Told:
-    """The reports of a run. `waiting` are the operations that may be done, and are not answered
-    yet. `untold` are the operations that ended with an OSError without a message.
+    """The reports of a run. `waiting` are operations that were requested and not answered yet.
+    `untold` are the messages of OSErrors that ended operations.
     """
 
     counted: Counted
@@ -115,8 +113,7 @@ class Told:
         self.waiting.append(act)
 
     def answers(self, response: bytes) -> None:
-        """Records that all waiting operations were done, and that this is the answer of the last
-        one.
+        """Records that all waiting operations were done, and that the last one had this response.
         """
         *before, last = self.waiting
         self.waiting = []
@@ -132,14 +129,15 @@ class Told:
         self.waiting = []
 
     def ends(self, how: str) -> None:
-        """Records that the waiting operations ended without an answer. Perhaps they were done."""
+        """Records that the waiting operations ended without an answer, so they may have been done.
+        """
         if self.waiting:
             self.acts.append(f"{'+'.join(self.waiting)}:{how}")
             self.counted.may_have(self.waiting)
         self.waiting = []
 
     def hears(self, word: str, text: str) -> None:
-        """Applies a line that a child has sent."""
+        """Applies a report of a child."""
         if word == "asks":
             self.asks(text)
         elif word == "answers":
@@ -196,7 +194,7 @@ class Child:
 
 
 def lines_of(pipe: int, child: int) -> Iterator[tuple[str, str]]:
-    """Yields the reports of a child, until it ends. A child that does not end is killed."""
+    """Yields the reports of a child. If the child does not end in time, it is killed."""
     text, until = b"", time.monotonic() + SECONDS
     while True:
         ready, _, _ = select.select([pipe], [], [], max(0, until - time.monotonic()))
@@ -217,7 +215,7 @@ def lines_of(pipe: int, child: int) -> Iterator[tuple[str, str]]:
 
 @dataclass(frozen=True)
 class Trial:
-    """A host, the operations that it has to do, and the call that fails."""
+    """A host, the operations that it must do, and the call that fails."""
 
     make: Callable[..., Host]
     script: Sequence[str]
@@ -265,7 +263,7 @@ class Trial:
 
 
 def seen(files: Files, folder: str) -> State:
-    """Returns the state of the device in a folder, as a host without faults reads it."""
+    """Returns the state of the device in a folder, according to a host without faults."""
     if not os.path.exists(f"{folder}/journal"):
         return NOTHING
     host = Python(files)
@@ -289,7 +287,7 @@ def left_in(folder: str) -> list[str]:
 
 @dataclass(frozen=True)
 class Start:
-    """The folder that a host begins with, if any, and the state of the device in it."""
+    """The folder that a host begins with, if any, and the state of its device."""
 
     label: str
     state: State
@@ -303,8 +301,8 @@ class Start:
 
 @dataclass(frozen=True)
 class Starts:
-    """The three starting points: a kept device; one whose journal has grown so much that the next
-    command restarts it; and no device.
+    """The three starting points: a kept device; one whose journal is so long that the next command
+    restarts it; and no device.
     """
 
     kept: Start
@@ -320,7 +318,7 @@ class Starts:
 
 @dataclass(frozen=True)
 class Case:
-    """A host, the folder and device that it begins with, and the operations that it has to do."""
+    """A host, its folder and device at the beginning, and the operations that it must do."""
 
     files: Files
     host: type[Host]
@@ -333,7 +331,7 @@ class Case:
         return f"{self.host.name}, {self.start.label}"
 
     def tries(self, room: pathlib.Path, shim: Shim, meeting: Meeting) -> tuple[str, Told, str]:
-        """Returns which call had the fault, what was reported, and what went wrong."""
+        """Returns the call that failed, the reports, and a description of what is wrong."""
         folder = room / "state"
         self.start.put(folder)
         told = Told(Counted([self.start.state]))
@@ -349,7 +347,7 @@ class Case:
         return met, told, "; ".join(told.strange)
 
     def check(self, room: pathlib.Path, shim: Shim, share: int) -> tuple[int, int]:
-        """Makes one of `share` runs. Returns the number of runs, and the number of wrong ones."""
+        """Makes one in `share` runs. Returns the number of runs, and the number of wrong ones."""
         runs, wrongs, untold = 0, 0, collections.Counter[str]()
         for turn, variant in enumerate(VARIANTS):
             for number in range(1 + turn % share, MOST_CALLS, share):
@@ -373,8 +371,8 @@ def said(line: str) -> None:
 
 
 def made(files: Files, folder: pathlib.Path, least: int) -> State:
-    """Makes a device that has counted to 2, or further until its journal has the size `least`. Then
-    adds the beginning of one more record.
+    """Makes a device that has counted to 2, or further until its journal has at least `least`
+    bytes. Then adds the beginning of another record.
     """
     host, journal, count, sizes = Python(files), folder / "journal", 0, [0]
     for act in (BEGIN, STARTUP, DEFINE):

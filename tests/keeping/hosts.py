@@ -1,8 +1,7 @@
-"""The hosts of a kept device, each with the operations of counted.py. `Files` says where the hosts
-are.
+"""The hosts of a kept device, which do the operations of counted.py. `Files` contains their paths.
 
-The module and Python run in this process, and fork with it. The other hosts are programs, which
-begin with an environment.
+The module and Python run in this process, and fork with it. The other hosts are programs, and get
+their own environment.
 """
 
 import contextlib
@@ -46,8 +45,8 @@ class Refused(Exception):
 
 
 class Host:
-    """The operations of a host. `part` is a part of its library's name. A host without
-    `answers_all` reports that it began or cycled the power only with the next response. If
+    """A host and its operations. `part` is a part of the name of its library. If `answers_all` is
+    false, only the next response shows that the host has begun, or has cycled the power. If
     `comes_on` is true, beginning the host powers the device on.
     """
 
@@ -70,7 +69,7 @@ class Host:
         raise NotImplementedError
 
     def close(self) -> tuple[int, str]:
-        """Ends the host. Returns how it ended, and its output."""
+        """Ends the host. Returns its exit status, and its messages."""
         raise NotImplementedError
 
 
@@ -82,7 +81,7 @@ BEGINS = ctypes.CFUNCTYPE(RC, POINTER, ctypes.POINTER(SIZE), ctypes.c_char_p)
 
 
 class Context(ctypes.Structure):
-    """The beginning of TSS2_TCTI_CONTEXT."""
+    """The first fields of TSS2_TCTI_CONTEXT."""
 
     _fields_ = [
         ("magic", ctypes.c_uint64),
@@ -94,7 +93,7 @@ class Context(ctypes.Structure):
 
 
 class Info(ctypes.Structure):
-    """TSS2_TCTI_INFO."""
+    """The structure TSS2_TCTI_INFO."""
 
     _fields_ = [
         ("version", ctypes.c_uint32),
@@ -106,7 +105,7 @@ class Info(ctypes.Structure):
 
 
 class Module(Host):
-    """The module for libtss2. It is called as libtss2 calls it."""
+    """The module for libtss2. This class calls it as libtss2 does."""
 
     name, part = "the module", "libtss2-tcti-tpmsim"
 
@@ -155,7 +154,7 @@ class Module(Host):
 
 
 class Python(Host):
-    """The device that Python keeps."""
+    """The kept device of the Python package."""
 
     name, part = "Python", "libtpmsim"
 
@@ -172,7 +171,8 @@ class Python(Host):
 
     @contextlib.contextmanager
     def refusing(self) -> Iterator[None]:
-        """Turns DeviceEnded, BadImage, BadState and MemoryError into Refused, with the reason."""
+        """Converts DeviceEnded, BadImage, BadState and MemoryError into Refused, with the reason.
+        """
         try:
             with warnings.catch_warnings():
                 warnings.simplefilter("ignore", RuntimeWarning)
@@ -200,8 +200,8 @@ class Python(Host):
 
 
 class Run(Host):
-    """`tpmsim run --state`, which gets one line after another. Only its next response shows that a
-    power cycle is done.
+    """`tpmsim run --state`, which reads one line after another. After a power cycle, only its next
+    response shows that the cycle is done.
     """
 
     name, answers_all = "the program", False
@@ -210,7 +210,7 @@ class Run(Host):
 
     @property
     def pipes(self) -> tuple[IO[bytes], IO[bytes]]:
-        """Returns its standard input and output."""
+        """Returns the program's standard input and output."""
         assert self.process and self.process.stdin and self.process.stdout
         return self.process.stdin, self.process.stdout
 
@@ -265,7 +265,7 @@ class Power(Run):
         return [str(self.files.power), folder]
 
     def power(self) -> None:
-        """Does nothing, because the program's run is the power cycle."""
+        """Does nothing, because the program itself cycles the power."""
 
 
 class ProgramPower(Power):
@@ -276,7 +276,7 @@ class ProgramPower(Power):
 
 
 class Simulator(Run):
-    """tpmsim-simulator, with a client of its protocol. Its power comes on when it begins."""
+    """tpmsim-simulator, with a client of its protocol. Beginning it powers the device on."""
 
     name, answers_all, comes_on = "the simulator", True, True
     device: SimulatorDevice | None = None
@@ -322,7 +322,7 @@ class Simulator(Run):
 
 
 def does(host: Host, act: str, folder: str) -> bytes:
-    """Has a host do an operation. Returns the response, if there is one."""
+    """Makes a host do an operation. Returns the response, if there is one."""
     if act == BEGIN:
         host.begin(folder)
     elif act == POWER:

@@ -2,8 +2,8 @@
 
     python3 past_each.py PROGRAM HOSTS SHIM
 
-Python keeps three past journals. After another power cycle without a fault, the last journals
-have the first numbers in order, and none is missing.
+The Python host keeps three past journals. After a power cycle with a fault and one without, the
+latest journals must have the first numbers in order, and none may be missing.
 """
 
 import errno
@@ -30,7 +30,7 @@ class KeepingPast(Python):
 
 
 def made(host: Host, folder: pathlib.Path) -> None:
-    """Makes a device with three past journals of one letter each; the last one is A."""
+    """Makes a device with three past journals, each with one letter. The latest one contains A."""
     for act in (BEGIN, STARTUP):
         does(host, act, str(folder))
     host.close()
@@ -39,7 +39,7 @@ def made(host: Host, folder: pathlib.Path) -> None:
 
 
 def past_in(folder: pathlib.Path, journal: bytes) -> list[str]:
-    """Returns the journals with the numbers from 1 on."""
+    """Returns what the past journals contain, from number 1 on."""
     told = []
     for number in range(1, KEPT + 1):
         path = folder / f"journal.{number}"

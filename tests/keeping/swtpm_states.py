@@ -1,14 +1,14 @@
-"""Makes each call of swtpm on the files of its states fail, in turn, with libtpms.so.0 of this
-repository:
+"""Makes each call of swtpm on the files of its states fail, in turn. swtpm uses this repository's
+libtpms.so.0:
 
     python3 swtpm_states.py FOLDER SHIM SHARE [WORD]
 
-FOLDER is that of `hosts/build.sh libtpms`, and SHIM is the library of failing.c. One of SHARE runs
-is made; with WORD, only those whose label contains it. In each run swtpm has to do some operations,
-and one call on a file in its folder has a fault of VARIANTS. Then swtpm is started again, without a
-fault. Its device has executed the answered operations, and perhaps the unanswered ones; or swtpm or
-the library says why there is no device. Standard error says what is wrong, and the numbers of runs
-and of such faults.
+FOLDER is made by `hosts/build.sh libtpms`, and SHIM is the library of failing.c. Only one in SHARE
+runs is made; with WORD, only those whose label contains it. In each run swtpm has to do some
+operations, and one call on a file in its folder has a fault of VARIANTS. Then swtpm is started
+again without a fault. Its device must have executed the answered operations, and perhaps the
+unanswered ones; or swtpm or the library must report why there is no device. Standard error
+describes what is wrong, and reports the number of runs, and of those without a device.
 """
 
 import contextlib
@@ -31,17 +31,17 @@ from tpmsim.device.base import DeviceEnded
 from tpmsim.standard import number
 
 SECONDS, SUSPEND = 20, "suspend"
-# Requests of the control channel, and the flag of INIT that removes the volatile state which was
-# resumed. QEMU sends it when a guest is resumed.
+# Requests of the control channel, and the flag of INIT that removes the volatile state after it is
+# resumed. QEMU sends this flag when it resumes a guest.
 INIT, SHUTDOWN, STORE_VOLATILE = 2, 3, 10
 REMOVES_VOLATILE = 1
-# TPM_RC_FAILURE is the response to a command that could not be stored.
+# TPM_RC_FAILURE is the response to a command that could not be saved.
 FAILURE = bytes.fromhex("80010000000a00000101")
 
 
 class Swtpm:
-    """swtpm with the library of a folder, on the states of another folder. Its sockets and its log
-    are next to the latter.
+    """swtpm with the library in one folder, and its states in another. Its sockets and its log are
+    next to the folder of the states.
     """
 
     def __init__(self, library: pathlib.Path, folder: pathlib.Path, told: dict[str, str]) -> None:
@@ -62,7 +62,7 @@ class Swtpm:
 
     @contextlib.contextmanager
     def refusing(self) -> Iterator[None]:
-        """Turns the end of a connection, and a request that is refused, into Refused."""
+        """Converts the end of a connection, and a refused request, into Refused."""
         try:
             yield
         except (DeviceEnded, OSError) as fault:
@@ -119,8 +119,8 @@ class Swtpm:
         return b""
 
     def close(self) -> int:
-        """Ends swtpm by its control channel, or by a signal if there is no connection. Returns its
-        status.
+        """Ends swtpm with its control channel, or with a signal if there is no connection. Returns
+        its status.
         """
         assert self.process is not None
         try:
@@ -155,21 +155,21 @@ class Start:
 
 
 class Played:
-    """The operations of a run, and the possible states of the device after them."""
+    """The operations of a run, and the states that the device may have after them."""
 
     def __init__(self, start: Start) -> None:
         self.told, self.is_resumed = Told(Counted([start.state])), start.is_suspended
         self.may_be_suspended, self.is_suspended = start.is_suspended, False
 
     def play(self, swtpm: Swtpm, script: Sequence[str]) -> None:
-        """Has swtpm do the operations, until one cannot be done because swtpm has ended."""
+        """Makes swtpm do the operations, until one fails because swtpm has ended."""
         for act in script:
             is_done = self.suspend(swtpm) if act == SUSPEND else self.act(swtpm, act)
             if not is_done and (act in (BEGIN, POWER) or not swtpm.is_running):
                 return
 
     def act(self, swtpm: Swtpm, act: str) -> bool:
-        """Has swtpm do an operation. Returns whether it was answered."""
+        """Makes swtpm do an operation. Returns whether it was answered."""
         self.told.asks(act)
         try:
             response = swtpm.does(act, self.is_resumed)
@@ -195,7 +195,7 @@ class Played:
 
     @property
     def states(self) -> set[State]:
-        """Returns the states in which the device may be when swtpm is started again."""
+        """Returns the states that the device may have when swtpm is started again."""
         running = set(self.told.counted.states)
         cycled = {replace(it, is_started=False) for it in running}
         if self.is_suspended:
@@ -204,7 +204,7 @@ class Played:
 
 
 def seen(swtpm: Swtpm) -> State:
-    """Returns the state of the device that swtpm begins."""
+    """Starts swtpm, and returns the state of its device."""
     swtpm.begin(False)
     value = answer_of(READ, swtpm.execute(COMMANDS[READ]))
     is_started = value != INITIALIZE
@@ -217,7 +217,7 @@ def seen(swtpm: Swtpm) -> State:
 
 @dataclass(frozen=True)
 class Case:
-    """The folder that swtpm begins with, and the operations that it has to do."""
+    """The folder that swtpm begins with, and the operations that it must do."""
 
     library: pathlib.Path
     start: Start
@@ -228,7 +228,9 @@ class Case:
         return f"swtpm, {self.start.label}"
 
     def tries(self, room: pathlib.Path, shim: Shim, meeting: Meeting) -> tuple[str, str, str]:
-        """Returns which call had the fault, what went wrong, and why there is no device."""
+        """Returns the call that failed, a description of what is wrong, and the reason if there is
+        no device.
+        """
         folder = room / "state"
         self.start.put(folder)
         told = {**shim.environment(meeting), "FAILING_IN": str(folder)}
@@ -252,7 +254,7 @@ class Case:
         return met, f"{wrong}: {acts}" if wrong else "", ""
 
     def check(self, room: pathlib.Path, shim: Shim, share: int) -> tuple[int, int]:
-        """Makes one of `share` runs. Returns the number of runs, and the number of wrong ones."""
+        """Makes one in `share` runs. Returns the number of runs, and the number of wrong ones."""
         runs, wrongs, without = 0, 0, 0
         for turn, variant in enumerate(VARIANTS):
             for at in range(1 + turn % share, MOST_CALLS, share):
@@ -269,7 +271,7 @@ class Case:
 
 
 def made(library: pathlib.Path, folder: pathlib.Path, is_suspended: bool) -> State:
-    """Makes a device that has counted to 2, and suspends it or ends it."""
+    """Makes a device that has counted to 2, and suspends it or ends swtpm."""
     folder.mkdir()
     swtpm = Swtpm(library, folder, {})
     acts = (BEGIN, STARTUP, DEFINE, INCREMENT, INCREMENT, *([SUSPEND] * is_suspended))

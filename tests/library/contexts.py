@@ -1,9 +1,9 @@
-"""Contexts of objects and sessions, as the completing layer makes and loads them:
+"""Tests contexts of objects and sessions that the completing layer saves and loads:
 
     tools/python.sh contexts.py [LIBRARY]
 
-LIBRARY is the shared object. The device in Python executes each command too, and must give the same
-response, and be the same device at the end. Without LIBRARY there is only the device in Python.
+LIBRARY is the shared library. The Python device executes each command too. It must return the same
+response, and have the same state at the end. Without LIBRARY there is only the Python device.
 """
 
 import collections
@@ -29,7 +29,7 @@ from tests.common.shims import fail
 SEED, CHILDREN = b"contexts", 12
 SAVED_HANDLE_AT, HIERARCHY_AT = slice(8, 12), slice(12, 16)
 
-# Changes of a byte: of its lowest bit, of its highest bit, and by one.
+# Ways to change a byte: flip its lowest bit; flip its highest bit; add one.
 WAYS = (lambda byte: byte ^ 1, lambda byte: byte ^ 0x80, lambda byte: byte + 1 & 0xFF)
 
 
@@ -45,8 +45,8 @@ class Completed(LibraryDevice):
 
 
 class Pair(ModelDevice):
-    """The device in Python with the completing layer, and next to it the library's, if there is
-    one. Both execute the same commands.
+    """The Python device with the completing layer, and the library's device, if there is a library.
+    Both execute the same commands.
     """
 
     def __init__(self):
@@ -77,7 +77,7 @@ class Pair(ModelDevice):
             self.other.cycle()
 
     def compare(self):
-        """Ends the program if the two devices are not the same."""
+        """Ends the program if the two devices have different states."""
         text = state_text(self.model, self.completion.numbers)
         if self.other and self.other.state() != text:
             fail("the devices differ")
@@ -88,7 +88,7 @@ class Pair(ModelDevice):
 
 
 class Client:
-    """A started device, and a caller of it."""
+    """A started device and its caller."""
 
     def __init__(self):
         self.device = Pair()
@@ -96,7 +96,7 @@ class Client:
         self.tpm.start_up()
 
     def done(self, code, parameters):
-        """Returns what follows the header of a response, which has to be a success."""
+        """Sends a command that must succeed, and returns the response without its header."""
         response = self.device.execute(command(code, parameters)).response
         if any(response[6:10]):
             fail(f"{code:03x} is refused: {response.hex()}")
@@ -134,8 +134,8 @@ class Client:
 
 
 def children(client):
-    """Keys under one parent, each loaded, saved and flushed, and later loaded again for each use,
-    as a resource manager does.
+    """Keys under one parent. Each is loaded, saved and flushed, and later loaded again for each
+    use, as a resource manager does.
     """
     parent, kept = client.tpm.create_primary(storage_key()), []
     for at in range(CHILDREN):
@@ -153,7 +153,7 @@ def children(client):
 
 
 def copies(client):
-    """A context loads several times, until all slots are taken."""
+    """A context can be loaded several times, until no slot is free."""
     context, handles = client.saved(client.key()), []
     while len(client.device.model.objects) < OBJECTS:
         handles.append(client.loaded(context))
@@ -189,7 +189,8 @@ def counted(words, codes):
 
 
 def bent(client):
-    """Loads each prefix of a context, and each context with a byte changed, or with the wrong kind.
+    """Loads each proper prefix of a context, longer texts, and contexts with another byte,
+    hierarchy or savedHandle.
     """
     handle = client.key()
     context = client.saved(handle)
@@ -225,7 +226,9 @@ def cleared(client):
 
 
 def cycled(client):
-    """The contexts of an object without stClear, of one with stClear, and of a session."""
+    """Loads contexts after power cycles: of an object without stClear, of one with stClear, and of
+    a session.
+    """
     kept = client.saved(client.key()), client.saved(
         client.key(b"two", HERE | OPEN | Attribute.ST_CLEAR)
     )
@@ -244,7 +247,7 @@ def cycled(client):
 
 
 def sessions(client):
-    """Saved sessions keep their slots."""
+    """Saved sessions still occupy their slots."""
     kept = [client.saved(client.tpm.session().handle) for _ in range(SESSIONS)]
     try:
         client.tpm.session()

@@ -1,9 +1,9 @@
-"""A process with a device of an image forks. Only the process that opened the image writes it:
+"""A process forks while it has a device of an image. Only the process that opened the image may
+write it:
 
     tools/python.sh forked_image.py LIBRARY
 
-LIBRARY is the shared object. The program runs in an empty folder, and prints a line for each
-case.
+LIBRARY is the shared library. The program runs in an empty folder, and prints a line for each case.
 """
 
 import hashlib
@@ -34,7 +34,7 @@ def image():
 
 
 def in_child(device, snapshot):
-    """Returns the results of a forked child's calls, and whether it wrote the image."""
+    """Prints the results of the calls of a forked child, and whether they changed the image."""
     before = image()
     acts = {
         "a command": lambda: device.execute(b""),
@@ -57,7 +57,7 @@ def forks(device, snapshot):
 
 
 def outlived(device):
-    """Checks that a forked child that lives on holds nothing, from its first moment on."""
+    """Checks that a child that outlives the device does not keep the image locked."""
     reads, writes = os.pipe()
     child = os.fork()
     if not child:

@@ -1,5 +1,5 @@
-"""Shared by the tests of a device that Python keeps in a folder. The first word of the command line
-names the library's shared object.
+"""Shared by the tests of a device that Python keeps in a folder. The first argument of the program
+is the shared library.
 """
 
 import hashlib
@@ -29,7 +29,7 @@ signal.signal(signal.SIGALRM, raise_waits)
 
 
 def within(seconds, act):
-    """Returns the result of `act` within this many seconds; else raises Waits."""
+    """Returns the result of `act`. Raises Waits if it takes more than this many seconds."""
     signal.setitimer(signal.ITIMER_REAL, seconds)
     try:
         return act()
@@ -38,7 +38,7 @@ def within(seconds, act):
 
 
 def started(folder):
-    """Returns the device of a folder after a power cycle and TPM2_Startup."""
+    """Returns the device in a folder, after a power cycle and TPM2_Startup."""
     device = KeptDevice(folder)
     device.power_cycle()
     Caller(device).start_up()

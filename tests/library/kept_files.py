@@ -1,5 +1,5 @@
-"""A device that Python keeps in a folder: next to wrong files, with writes that fail, in threads,
-and in forked processes:
+"""A device that Python keeps in a folder: with wrong files, with writes that fail, in threads, and
+in forked processes:
 
     tools/python.sh kept_files.py LIBRARY
 
@@ -28,7 +28,7 @@ FAULTS = BadImage, BadState, DeviceEnded, MemoryError, OSError, TypeError, Value
 
 
 def told(act):
-    """Describes the result of `act` in words."""
+    """Returns a description of the result of `act`."""
     try:
         within(SECONDS, act)
     except FAULTS as fault:
@@ -37,15 +37,15 @@ def told(act):
 
 
 def asks():
-    """Opens the device. Has it execute a command and a power cycle."""
+    """Opens the device, and makes it execute a command and a power cycle."""
     with KeptDevice(STATE) as device:
         device.execute(b"")
         device.power_cycle()
 
 
 def with_file(path, make):
-    """Returns the fault that is reported while `make` has put something else at a path. Then
-    restores the path.
+    """Returns the fault that is reported while `make` replaces what is at a path. Then restores the
+    path.
     """
     aside = pathlib.Path("aside")
     if path.exists():
@@ -92,14 +92,14 @@ def wrong_words():
 
 
 def head(kind, text):
-    """Returns a journal head with this text as its content. The text is not checked."""
+    """Returns a journal head that contains this text, which may be wrong."""
     mark = number(0, 8) + number(len(text), 4) + number(sum_of(text), 8)
     line = f"# tpmsim journal {kind} {mark.hex()} {sum_from(OFFSET_BASIS, mark):016x}"
     return f"{line}\n# {text.hex()}\n".encode()
 
 
 def wrong_texts(text):
-    """Yields a text for each fault, made from `text`, which is an image or a state text."""
+    """Yields a wrong text for each fault, made from `text`, which is an image or a state text."""
     turned = bytes([text[60] ^ 1])
     body = bytes(len(text) - 42)
     yield "Short", b""
@@ -112,7 +112,7 @@ def wrong_texts(text):
 
 
 def damaged_journals():
-    """Checks that each damage is reported, and that the journal stays as it is."""
+    """Checks that all damage is reported, and that the journal is not changed."""
     started(STATE).close()
     whole = JOURNAL.read_bytes()
     with ModelDevice() as device:
@@ -151,7 +151,7 @@ def changed_meanwhile():
 
 @contextlib.contextmanager
 def file_limit(size):
-    """Limits the size of every file. The limit also applies to this program's output."""
+    """Limits the size of all files that this program writes, including its output."""
     limits = resource.getrlimit(resource.RLIMIT_FSIZE)
     resource.setrlimit(resource.RLIMIT_FSIZE, (size, limits[1]))
     try:
@@ -224,7 +224,7 @@ def journals_of_the_past():
 
 
 def takes_turns():
-    """Has threads share a device while forked children use it too."""
+    """Threads share a device while forked children use it too."""
     device = started(STATE)
     before, ended = value_of(device), []
 
@@ -252,7 +252,7 @@ def takes_turns():
 
 
 def forks():
-    """Checks that a forked child holds the device too, but does not share its parent's lock."""
+    """A forked child can use the device too, and does not share its parent's lock."""
     device = started(STATE)
     before = value_of(device)
     child = os.fork()
@@ -267,7 +267,7 @@ def forks():
     device.close()
 
 
-# Since version 3.12 Python warns at each fork of a process with threads that the child may wait
+# Since version 3.12 Python warns when a process with threads forks, because the child may wait
 # forever.
 warnings.filterwarnings("ignore", "This process .* is multi-threaded", DeprecationWarning)
 wrong_files()

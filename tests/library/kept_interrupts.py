@@ -1,11 +1,11 @@
-"""A device that Python keeps in a folder. Its calls are interrupted: each call at each of its
-lines, then at random moments, and while it waits for the lock:
+"""A device that Python keeps in a folder, with calls that are interrupted: at each line that they
+execute, at random moments, and while they wait for the lock:
 
     tools/python.sh kept_interrupts.py LIBRARY
 
-The program prints a line for each call. After each interrupt the device has executed what its
-journal contains. Another thread can use it, and no file is locked or left open. An interrupted
-`restore` leaves the device of the snapshot, or the device before.
+The program prints a line for each call. After each interrupt the device must have executed what its
+journal contains, another thread must be able to use it, and no file may be locked or left open. An
+interrupted `restore` must leave the device of the snapshot, or the earlier device.
 """
 
 import contextlib
@@ -28,19 +28,19 @@ from tpmsim.device import DeviceEnded, KeptDevice
 WATCHED = str(pathlib.Path(sys.modules[KeptDevice.__module__].__file__).parent)
 SECONDS, LEAST_LINES = 5, 5
 
-# The number of signals that interrupt calls, and the longest delay after a call's beginning, in
-# seconds.
+# The number of signals that interrupt calls, and their maximum delay after the beginning of a call,
+# in seconds.
 SIGNALS, MOST_DELAY = 400, 200e-6
 
-# The time for which the lock is held, in seconds. The handler's signal comes long before its end.
+# How long the lock is held, and when the signal comes, in seconds. The lock is released much later.
 HELD_SECONDS, SIGNAL_SECONDS = 0.4, 0.1
 
 
 @contextlib.contextmanager
 def interrupted(number):
-    """Raises KeyboardInterrupt at line number `number` that the package's devices execute. An
-    exception of __del__ would be ignored. No signal handler runs between the body of a `with`
-    and its end. So neither is interrupted.
+    """Raises KeyboardInterrupt when the package's devices execute their line number `number`. Two
+    places are not interrupted: methods __del__, whose exceptions are ignored, and the end of a
+    `with`, because no signal handler runs between its body and its end.
     """
     left, entered = number, set()
 
@@ -73,8 +73,8 @@ def interrupted(number):
 
 
 def is_interrupted(act, number, then):
-    """Returns whether `act` executes this many lines. `then` checks what the act left, while
-    everything that the exception refers to still exists.
+    """Returns whether `act` executes this many lines. If so, it is interrupted, and `then` checks
+    what it left, before the exception releases the objects that it refers to.
     """
     try:
         with interrupted(number):
@@ -91,8 +91,8 @@ def files_open():
 
 
 def in_thread(act):
-    """Returns the result of `act` in another thread. That thread waits forever if this one has not
-    ended its turn.
+    """Returns the result of `act` in another thread. That thread waits forever if this one still
+    has the lock.
     """
     done = []
     thread = threading.Thread(target=lambda: done.append(act()), daemon=True)
@@ -102,7 +102,7 @@ def in_thread(act):
 
 
 class Lines:
-    """A device and another holder of its folder. An act is interrupted at each of its lines."""
+    """A device, and another holder of its folder. Interrupts an act at each of its lines."""
 
     def __init__(self, folder):
         self.folder, self.faults = folder, []
@@ -131,8 +131,8 @@ class Lines:
         return f"{self.folder}/{self.begun}"
 
     def then(self):
-        """Checks the folder after an interrupt. The other holder comes first, because it would wait
-        for a lock that was not released.
+        """Checks the folder after an interrupt. First it uses the other holder, which would wait if
+        the lock had not been released.
         """
         with contextlib.suppress(Exception):
             Caller(self.other).start_up()
@@ -164,8 +164,8 @@ class Lines:
 
 
 def at_random(folder):
-    """Interrupts commands at random moments. The command of an interrupted call was executed or
-    not. An answered command was executed.
+    """Interrupts calls at random moments. If a call was answered, its command must have been
+    executed. If not, it may have been.
     """
     device, chance = started(folder), random.Random(1)
     before, counts = value_of(device), [0, 0]
@@ -196,8 +196,8 @@ def at_random(folder):
 
 
 def while_it_waits(folder):
-    """Interrupts a call while it waits for the lock. The handler runs after the call has returned
-    and its command was executed.
+    """Interrupts a call while it waits for the lock. The handler must run only after the call has
+    executed its command.
     """
     device = started(folder)
     before = value_of(device)

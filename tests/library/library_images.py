@@ -2,7 +2,7 @@
 
     tools/python.sh library_images.py LIBRARY
 
-LIBRARY is the shared object. The images and the output are those of common/damaged_images.py,
+LIBRARY is the shared library. The images and the output are those of common/damaged_images.py,
 which opens the images with the program.
 """
 
@@ -15,13 +15,17 @@ from tests.common.damaged_images import main, RANDOM
 
 
 class Library:
-    """The library. It treats an image as a served device does. All images share one holder."""
+    """The library, which opens images and saves devices like a program that serves. All images use
+    the same holder.
+    """
 
     def __init__(self) -> None:
         self.device = LibraryDevice(manufactured=RANDOM)
 
     def fault_of(self, text: bytes) -> str | None:
-        """Returns the fault of an image. Without a fault, the holder gets its device."""
+        """Returns the fault of an image. If there is none, the holder then contains the image's
+        device.
+        """
         try:
             self.device.begin(text)
         except BadImage as fault:

@@ -1,9 +1,9 @@
-"""Devices that report their whole state. Their calls are interrupted at their lines:
+"""Devices that can be restored from their state. Their calls are interrupted at lines of Python:
 
     tools/python.sh restored.py LIBRARY
 
-LIBRARY is the shared object. A device that an interrupted call left in the middle reports that,
-until `restore` repairs it.
+LIBRARY is the shared library. If an interrupted call leaves a device in an unknown state, the
+device must report that until `restore` repairs it.
 """
 
 import os
@@ -25,8 +25,8 @@ EXTEND = frames.on_handle(
 
 
 def interrupted(act, left):
-    """Interrupts `act` after this many lines of the package. Returns whether it executes that many
-    lines.
+    """Interrupts `act` at line number `left` that it executes in the package. Returns whether it
+    executes that many lines.
     """
 
     def trace(frame, event, _):
@@ -50,7 +50,7 @@ def interrupted(act, left):
 
 
 def values(device):
-    """Returns the values of the PCR in both banks, as the device reports them."""
+    """Returns the values of the PCR in both banks that the device reports."""
     read = Caller(device).send(Caller(device).read_pcr(PCR))["pcrValues"]
     return tuple(read)
 
@@ -60,7 +60,7 @@ def extend(device):
 
 
 class Played:
-    """A device with a snapshot. Also the PCR's values in the snapshot, and after each of three more
+    """A device with a snapshot, and the PCR's values in the snapshot and after each of three later
     commands.
     """
 
@@ -80,7 +80,8 @@ class Played:
         extend(self.device)
 
     def told(self, allowed):
-        """Describes the reports of the device after an interrupt, and after it is restored."""
+        """Describes what the device reports after an interrupt, and checks that it can be restored.
+        """
         try:
             said = "known" if values(self.device) in allowed else "unknown values"
         except Refused:
@@ -103,8 +104,8 @@ class Played:
 
 
 def within_writing():
-    """Checks that a handler's exception while an image is written is not taken for a fault of the
-    image. The command was executed.
+    """If a signal handler raises an exception while an image is written, this must not be reported
+    as a fault of the image.
     """
     image = pathlib.Path("image")
     with LibraryDevice(image) as device:

@@ -2,13 +2,12 @@
 
     tools/python.sh scripts.py STACK PLAYER..     compares
     tools/python.sh scripts.py --figures STACK    reports how much stack each call uses
-    tools/python.sh scripts.py --lines SCRIPT     prints a script without words, for play.c
+    tools/python.sh scripts.py --lines SCRIPT     prints a script for play.c, without lines in words
 
-Each PLAYER is built from play.c. It plays one after another the scripts of tests/ and the
-examples that end well. Its output must be that of the files next to the script, and that of the
-Python device for the same commands: each response, row and number of drawn random bytes, and the
-images at the end. STACK is built from stack.c. It plays the scripts too, and no call may use
-more stack than tpmsim.h says.
+Each PLAYER is built from play.c. It plays the scripts of tests/ and the examples that succeed. Its
+output must agree with the files next to the script. It must also be that of the Python device: each
+response, row and number of drawn random bytes, and the images at the end. STACK is built from
+stack.c. It plays the scripts too, and no call may use more stack than tpmsim.h states.
 """
 
 import pathlib
@@ -27,7 +26,7 @@ MOST_STACK = 64 * 1024
 
 
 def check_number(check: str) -> int:
-    """Returns the number of a row's check."""
+    """Returns the number for a check in a row."""
     if check == "ok":
         return 0
     if check == "M":
@@ -36,7 +35,7 @@ def check_number(check: str) -> int:
 
 
 class Counted(Model):
-    """The Python device, which also counts the random bytes that a command draws."""
+    """The Python device, which also counts the random bytes that each command draws."""
 
     drawn = 0
 
@@ -55,7 +54,7 @@ class Counted(Model):
 
 
 class Lines(Player):
-    """A script without commands in words, and the expected output of a player for each command."""
+    """A script without lines in words, and the output that a player must print for each command."""
 
     def __init__(self) -> None:
         super().__init__(Counted())
@@ -91,7 +90,7 @@ class Lines(Player):
 
 
 class Script:
-    """A script, after the Python device has played it."""
+    """A script that the Python device has played."""
 
     def __init__(self, path: pathlib.Path) -> None:
         self.path = path
@@ -107,7 +106,7 @@ class Script:
         fail(f"{self.path.name}: {words}")
 
     def check(self, given: list[str]) -> None:
-        """Compares a player's output for the script with the expected lines."""
+        """Compares a player's output for the script with the expected output."""
         pairs = zip_longest(self.wanted, given, fillvalue="no more")
         for number, (one, other) in enumerate(pairs, 1):
             if one != other:
@@ -115,7 +114,7 @@ class Script:
         self.check_files(given[:-2])
 
     def check_files(self, given: list[str]) -> None:
-        """Compares the output for the commands with the files next to the script."""
+        """Compares the responses and the trace with the files next to the script."""
         responses = "".join(line.split(" ")[0] + "\n" for line in given)
         if self.path.with_suffix(".out").read_text("ascii") != responses:
             self.fail("the responses are other than those of its file")
@@ -144,7 +143,7 @@ def check(player: str, played: list[Script]) -> None:
 
 
 class Stack:
-    """The most stack that each call uses. An execution also has its command."""
+    """The maximum stack that each call uses. For an execution, also the command that uses it."""
 
     def __init__(self, program: str, played: list[Script]) -> None:
         self.most: dict[str, tuple[int, str]] = {}

@@ -2,10 +2,10 @@
 
     tools/python.sh snapshots.py LIBRARY [ONE_IN]
 
-LIBRARY is the shared object. It gets all texts with a changed byte, with and without the right
-digest, or one in ONE_IN of them. A text that is refused leaves the device as it was. A text that
-is accepted is written again unchanged, a text of version 1 in version 2; if it has no completing
-layer, the new text has a new layer.
+LIBRARY is the shared library. Texts in which one byte is changed, with and without the right
+digest, are restored; with ONE_IN, one in this many bytes is changed. A text that is refused must
+not change the device. A text that is accepted must be written again unchanged, or in version 2 if
+it has version 1. If it has no completing layer, the new text has a new one.
 """
 
 import collections
@@ -22,12 +22,12 @@ from tests.images import state_bodies, worked_state
 
 MOST_BYTES, RANDOM = 36_195, bytes(range(256))
 
-# The fault for each return code of tpmsim_restore.
+# The fault for each result of tpmsim_restore.
 FAULTS = {0: None}
 FAULTS |= dict(enumerate(("Short", "Magic", "Version", "Length", "Digest", "Body"), 13))
 
-# Changes of a byte: of its lowest bit, of its highest bit, and by one (up if the lowest bit is set,
-# else down), so that more than the lowest bit changes.
+# Ways to change a byte: flip its lowest bit; flip its highest bit; add one if the lowest bit is
+# set, else subtract one. The last one changes more than the lowest bit.
 WAYS = (
     *(lambda byte: byte ^ 0x01, lambda byte: byte ^ 0x80),
     lambda byte: byte + (1 if byte & 1 else -1) & 0xFF,
@@ -51,23 +51,25 @@ class Library:
         return self.buffer.raw[:size]
 
     def fault_of(self, text: bytes) -> str | None:
-        """Returns the fault of a text. If there is none, the device is restored from the text."""
+        """Restores the device from a text. Returns the text's fault, or None if the device was
+        restored.
+        """
         size = ctypes.c_size_t(len(text))
         told = self.calls.tpmsim_restore(ctypes.byref(self.holder), text, size)
         return FAULTS.get(told, f"number {told}")
 
 
 def with_layer(text: bytes) -> bytes:
-    """Returns the text of the same device with its completing layer. If it has none, the layer is
-    new.
+    """Returns the state text of the same device with its completing layer, or with a new layer if
+    it has none.
     """
     device, layer = state_text.open_state(text)
     return state_text.state_text(device, layer or Layer())
 
 
 def judge(library: Library, words: str, text: bytes) -> str:
-    """Returns the fault of a text, which both devices must report. A refused text leaves the
-    library's device as it was.
+    """Returns the fault of a text, or "restored". Checks that the library reports the same, and
+    that a refused text does not change its device.
     """
     wanted, before = state_text.fault_of(text), library.snapshot()
     given = library.fault_of(text)
@@ -79,13 +81,13 @@ def judge(library: Library, words: str, text: bytes) -> str:
 
 
 def kind(library: Library, words: str, texts: Iterable[bytes]) -> None:
-    """Prints the number of texts of a kind, with their faults."""
+    """Prints the number of texts of a kind with each fault."""
     counts = collections.Counter(judge(library, words, it) for it in texts)
     print(f"{words}: {', '.join(f'{count:,} {it}' for it, count in sorted(counts.items()))}")
 
 
 def turned(text: bytes, one_in: int) -> Iterator[bytes]:
-    """Yields the text with one changed byte: one of each `one_in` bytes, in three ways."""
+    """Yields the text with one byte changed, in three ways. One in `one_in` bytes is changed."""
     for at in range(0, len(text), one_in):
         for way in WAYS:
             yield text[:at] + bytes([way(text[at])]) + text[at + 1 :]

@@ -1,5 +1,5 @@
 """Writes assemble.out: the results of the lines of assemble.lines, and of longer lines.
-tests/lines/assemble.sh passes them to `tpmsim asm`.
+tests/lines/assemble.sh passes these lines to `tpmsim asm`.
 
 A line of assemble.lines has the escapes of printf: a byte that is not ASCII is \\ooo, in octal.
 """
@@ -11,7 +11,7 @@ from tests.common.expected import assembled
 
 
 def spelled(written):
-    """Returns the bytes of a line with printf's escapes."""
+    """Returns the bytes of a line, without printf's escapes."""
     named = {b"t": b"\t", b"r": b"\r", b"n": b"\n"}
     return re.sub(
         rb"\\([0-7]{3}|[trn])",
@@ -27,7 +27,7 @@ def outcome(label, line):
 
 
 def long_lines():
-    """Yields the lines that assemble.sh makes itself, with their labels."""
+    """Yields the long lines, which assemble.sh makes itself, with their labels."""
     zeros = "0" * 59999
     yield "GetRandom and 60000 digits", f"GetRandom {zeros}7"
     yield "GetRandom and 0x and 60000 digits", f"GetRandom 0x{zeros}7"

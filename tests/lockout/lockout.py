@@ -12,7 +12,7 @@ PIN, SECRET = b"2468", b"a secret"
 
 FIVE = b"0", b"1", b"2", b"3", b"4"
 
-# Two objects, of which one is protected.
+# Two objects, of which the first one is protected.
 GUARDED, FREE = 0x8000_0000, 0x8000_0001
 
 tpm = Steps(__name__, __doc__)
@@ -39,7 +39,7 @@ def locked(what, *passwords, index=FIRST, after=0):
 
 
 def opened(what, wait):
-    """Checks that the device stays locked until exactly this many milliseconds have passed."""
+    """Checks that the lockout ends after exactly this many milliseconds."""
     tpm.chapter(what)
     locked(f"{wait - 1:,} milliseconds later", after=wait - 1)
     right("One more", after=1)
@@ -61,7 +61,7 @@ tpm.written("One with TPMA_NV_NO_DA", free, SECRET, auth=PIN)
 
 
 def sealed_objects():
-    """Makes the objects, which do not survive a power cycle."""
+    """Creates the two objects, which a power cycle removes."""
     for words, handle, more in (("without", GUARDED, 0), ("with", FREE, ObjectAttribute.NO_DA)):
         said, template = tpm(f"A sealed object {words} noDA"), sealed(attributes=PROTECTED | more)
         made = said.owned(template, user_auth=PIN, data=SECRET)

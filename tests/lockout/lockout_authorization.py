@@ -13,7 +13,7 @@ tpm = Teller(__name__, __doc__, tries=True)
 
 
 def change(handle, *means):
-    """Replaces the authorization value by itself."""
+    """Returns a command that replaces an authorization value by the same value."""
     return tpm.change_auth(handle, tpm.auth_value(handle), *means)
 
 
@@ -90,7 +90,7 @@ said = tpm("A wrong hmac of the session that is bound to nothing: AUTH_FAIL/s1")
 said.refused(tpm.change_auth(RH_LOCKOUT, b"", unbound).but_entry(1, hmac=b"\0"))
 tpm("No hmac of it").change_auth(RH_LOCKOUT, b"", unbound)
 
-# From here on, time passes only where the script says so.
+# From here on, time passes only at explicit waits.
 tpm.script.pause = 0
 
 

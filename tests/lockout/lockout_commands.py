@@ -10,7 +10,7 @@ from tests.common.vocabulary import storage_key, STORES, THIRD, wrong
 
 PIN, DATA = b"pin", b"data"
 
-# A policy by which anybody who knows an index's authorization value may change it.
+# A policy that permits TPM2_NV_ChangeAuth with the authorization value of the index.
 AFTER_CODE = policy.after_command_code(SHA256, bytes(32), CC.NV_ChangeAuth)
 CHANGING = policy.after_auth_value(SHA256, AFTER_CODE)
 
@@ -18,8 +18,8 @@ tpm = Steps(__name__, __doc__)
 
 
 def tries(name, prepare, outcome="SUCCESS"):
-    """Sends the right entry, a wrong one, and the right one again. The command itself may be
-    refused.
+    """Sends a right entry, a wrong one, and the right one again. Even with the right entry, the
+    command itself may be refused.
     """
     tpm.chapter(f"TPM2_{name}.")
     if outcome == "SUCCESS":

@@ -19,8 +19,8 @@ tpm = Steps(__name__, __doc__)
 
 @dataclass
 class Way:
-    """A way to use an entity: how a command is prepared, the number of the entry that becomes
-    wrong, and the assertions that the policy session needs before each use.
+    """A way to use an entity: a function that prepares a command, the number of the entry that is
+    made wrong, and the assertions that its policy session needs before each use.
     """
 
     words: str
@@ -36,7 +36,7 @@ class Way:
 
 def ways(handle, use):
     """Returns all ways in which an entry is an authorization attempt at a protected entity, and the
-    sessions for them.
+    sessions that they use.
     """
     unbound = tpm.start("An HMAC session that is bound to nothing")
     to_owner = tpm.start("One that is bound to TPM_RH_OWNER", RH_OWNER)
@@ -80,7 +80,7 @@ def check(name, handle, use):
         if way.tell:
             tpm.restarts(sessions[4])
         tpm.unlocks()
-    # Ways that need no protected value work while the device is locked.
+    # Ways to use entities without a protected value still work during the lockout.
     unbound, to_owner, bound, to_lockout, told, bound_policy = sessions
     tpm.chapter(f"What is no try, {name}.")
     others = (
@@ -110,8 +110,8 @@ def check(name, handle, use):
 
 
 def policy_without_value():
-    """A policy that demands no authorization value is no authorization attempt, whatever its HMAC
-    is.
+    """If a policy demands no authorization value, its use is not an authorization attempt, whatever
+    its HMAC is.
     """
     tpm.chapter("A policy that asks for no authorization value, and a session bound to nothing.")
     digest = policy.after_locality(SHA256, bytes(32), 1)

@@ -7,7 +7,7 @@ from tests.common.vocabulary import area, bits, BY_POLICY, BY_VALUE, counter, ex
 from tests.common.vocabulary import nv, NvAttribute, RH_ENDORSEMENT, RH_LOCKOUT, RH_NULL, RH_OWNER
 from tests.common.vocabulary import RH_PLATFORM, RS_PW, SECOND, Teller, THIRD
 
-# Pairs of one attribute for writing and one for reading, with the entity that they allow to do so.
+# Pairs of an attribute for writing and one for reading, with the entity that they allow to do so.
 ALLOWED = (
     (NvAttribute.OWNERWRITE, NvAttribute.OWNERREAD, "owner"),
     (NvAttribute.PPWRITE, NvAttribute.PPREAD, "platform"),
@@ -25,7 +25,7 @@ tpm = Teller(__name__, __doc__)
 
 
 def refusal(asker, allowed):
-    """Returns the outcome of an entity's password if only one kind of entity is allowed."""
+    """Returns the outcome for an entity's password if only the entity `allowed` may authorize."""
     if asker == allowed:
         return "SUCCESS"
     return "AUTH_UNAVAILABLE" if asker == "index" else "NV_AUTHORIZATION"
@@ -34,8 +34,7 @@ def refusal(asker, allowed):
 def each_asker(what, allowed, prepare):
     for words, handle, asker in ASKERS:
         tpm.comes_to(f"{words}, {what}: {refusal(asker, allowed)}", prepare(handle))
-    # Another index may not authorize this one, although it can authorize itself by its own
-    # attributes.
+    # Another index cannot authorize this one, although its attributes allow it to authorize itself.
     tpm.fails(f"Another index that can be written, {what}: NV_AUTHORIZATION", prepare(SECOND))
 
 

@@ -11,9 +11,7 @@ tpm = Steps(__name__, __doc__, tries=True)
 
 
 def changing_policy(algorithm=SHA256, before=None):
-    """Returns the digest after TPM2_PolicyCommandCode, which comes after the assertions of
-    `before`.
-    """
+    """Returns the digest after TPM2_PolicyCommandCode, which follows the assertions of `before`."""
     old = before or bytes(digest_bytes(algorithm))
     return policy.after_command_code(algorithm, old, CC.NV_ChangeAuth)
 

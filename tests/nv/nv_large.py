@@ -13,7 +13,7 @@ writing, reading, read = (partial(it, by=RH_OWNER) for it in (tpm.writing, tpm.r
 
 
 def some(size, seed=b""):
-    """Returns this many bytes, in which no block of 32 bytes repeats."""
+    """Returns this many bytes, without repeated blocks."""
     digests = (hashlib.sha256(seed + number(it, 4)).digest() for it in range(size // 32 + 1))
     return b"".join(digests)[:size]
 

@@ -13,8 +13,7 @@ BY_KNOWING = AFTER_AUTH_VALUE[SHA256]
 
 tpm = Steps(__name__, __doc__, tries=True)
 
-# Every command on an index that the index itself can authorize. Also whether the command needs the
-# right to read.
+# The commands that an index can authorize on itself, and whether each needs the right to read.
 COMMANDS = (
     ("TPM2_NV_Write", False, lambda by: tpm.writing(FIRST, DATA, by)),
     ("TPM2_NV_WriteLock", False, lambda by: tpm.write_locking(FIRST, by)),

@@ -33,7 +33,7 @@ def sent_again():
     start = tpm.prepare(CC.StartAuthSession, *frames.start_auth_session(nonce))
 
     def start_session(what):
-        """Starts a session, each time with the same bytes and the same random bytes."""
+        """Starts a session, each time with the same command and the same random bytes."""
         tpm.chapter(f"{what}.")
         tpm.script.entropy(b"the start's own")
         answer = tpm.received(start, tpm.says("TPM2_StartAuthSession: SUCCESS", start))

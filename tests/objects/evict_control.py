@@ -18,8 +18,7 @@ from tests.common.vocabulary import (
 from tests.common.vocabulary import RH_ENDORSEMENT, RH_LOCKOUT, RH_NULL, RH_OWNER, RH_PLATFORM
 from tests.common.vocabulary import sealed, SHA256, storage_key, wrong
 
-# Handles of persistent objects. Those below 81800000 are the owner's, and the others the
-# platform's.
+# Handles of persistent objects. The owner's are below 81800000, and the platform's are not.
 FIRST, OWNERS_LAST, PLATFORMS_FIRST, LAST = 0x8100_0000, 0x817F_FFFF, 0x8180_0000, 0x81FF_FFFF
 OTHER, THIRD = 0x8100_0001, 0x8100_0002
 
@@ -29,14 +28,14 @@ tpm = Steps(__name__, __doc__)
 
 
 def fails(words, *commands):
-    """Sends TPM2_EvictControl with the password. Each command has the hierarchy, the object, and
-    the persistent handle.
+    """Sends TPM2_EvictControl with the empty password. Each tuple contains the hierarchy, the
+    object, and the persistent handle.
     """
     tpm.says(words, *(tpm.evicting(*it, b"") for it in commands))
 
 
 def kept_handles(what, *handles):
-    """Checks the handles of all persistent objects, by TPM2_GetCapability."""
+    """Checks the handles of all persistent objects with TPM2_GetCapability."""
     tpm.lists(what, HANDLES, FIRST, 64, handles)
 
 
@@ -67,7 +66,7 @@ def handles_and_parameter(owners):
 
 
 def in_order():
-    """Causes each refusal, by commands that also have the later faults."""
+    """Causes each refusal, with commands that also have all later faults."""
     tpm.chapter("The checks in their order; each command has the later faults too.")
     owners = tpm.owned("An object of the owner", storage_key())
     clears = tpm.owned("One with stClear", CLEARED)

@@ -18,18 +18,18 @@ parent = tpm.owned("A storage key", storage_key())
 
 
 def sealed_by(what, auth_policy, algorithm=SHA256, attributes=HERE | NO_DA, user_auth=PIN):
-    """Makes an object that only this policy authorizes."""
+    """Creates an object that only this policy authorizes."""
     template = sealed(algorithm, attributes, auth_policy=auth_policy)
     return tpm.below(f"{what}: TPM2_Create", parent, template, user_auth=user_auth, data=SECRET)
 
 
 def start_again(session):
-    """Checks that assertions count only once: the policy state is the initial one again."""
+    """Checks that the session has no assertions again, because each assertion counts only once."""
     tpm.digest_is("TPM2_PolicyGetDigest: zeros", session, zeros(session))
 
 
 def demands(algorithm, handle):
-    """Checks the demands of the policy of an object with the value "pin", by an unbound session."""
+    """Tests the demands of policies with an unbound session, on an object with the value "pin"."""
     session = tpm.policy("A policy session", algorithm=algorithm)
     tpm("Nothing is asserted: POLICY_FAIL/s1").unsealing(handle, session)
 
@@ -152,7 +152,7 @@ tpm.chapter("Each condition of a use in its order: all of them fail, and one is 
 
 
 def tell_all(session, cp_hash, code=CC.Unseal, localities=1):
-    """Makes an assertion of each kind. The last one is TPM2_PolicyLocality."""
+    """Makes an assertion of each kind, ending with TPM2_PolicyLocality."""
     tpm("TPM2_PolicyPCR").pcrs(session, PCR_16)
     tpm("TPM2_PolicyCommandCode").command_code(session, code)
     tpm("TPM2_PolicySecret with a cpHash").secret(session, cp_hash=cp_hash)
@@ -175,7 +175,7 @@ right_hash, wrong_hash = tpm.cp_hash(tpm.unsealing(handle)), bytes([7]) * 32
 
 
 def wrong(handle, session):
-    """Returns the command with a wrong HMAC in addition. The HMAC is compared last."""
+    """Returns the command with a wrong HMAC too. The HMAC is compared last."""
     return others_in(tpm.unsealing(handle, session), 1)
 
 

@@ -1,10 +1,10 @@
 """Writes object_vectors.tpm: objects, each byte of which is computed here, step by step.
 
-    tools/python.sh tests/objects/object_vectors.py    also prints each step, for tests that need numbers
+    tools/python.sh tests/objects/object_vectors.py
 
-The program uses hashlib and hmac, and aes.py for the cipher, but not object_rules.py. It has the
-equations of objects once more, each on its own line, with the numbers of one example. The
-script's responses, which the Python device computes, are compared with them.
+The program uses hashlib and hmac, and aes.py for the cipher, but not object_rules.py. It states the
+equations of objects again, each on its own line, with the numbers of one example. It compares the
+script's responses, which the Python device computes, with the results. It also prints each step.
 """
 
 import hashlib
@@ -13,9 +13,9 @@ import hmac
 from tpmsim.standard import aes, CC, command, entry, number, on_handle, RH_OWNER, selection, sized
 from tests.common.script import Script
 
-# The device of a script is manufactured with the bytes 00 to ff. These are eight pieces of 32
-# bytes: the seeds of the owner's, the endorsement, the platform and the null hierarchy, and then
-# their proofs.
+# The device of a script is manufactured with the bytes 00 to ff. They are eight pieces of 32 bytes:
+# the seeds of the owner's, the endorsement, the platform and the null hierarchy, and then their
+# proofs.
 OWNER_SEED, OWNER_PROOF = bytes(range(0x00, 0x20)), bytes(range(0x80, 0xA0))
 OWNER = number(RH_OWNER, 4)
 SHA256_NUMBER = bytes.fromhex("000B")
@@ -45,8 +45,8 @@ def step(name, value):
 
 def creation(kind, name, above, outside_info):
     """Returns the part of the response about the creation: the creation data, with no PCRs and
-    locality 0 (bit 0), their hash and the ticket. `above` is the algorithm, the Name and the
-    qualified name of the parent.
+    locality 0 (bit 0), their hash and the ticket. `above` contains the parent's algorithm, Name and
+    qualified name.
     """
     algorithm, *names = above
     data = selection() + sized(sha256(b"")) + b"\x01" + algorithm
@@ -76,7 +76,7 @@ public = template[:-2] + sized(unique)
 name = step("primary Name", SHA256_NUMBER + sha256(public))
 qualified_name = step("primary qualified name", SHA256_NUMBER + sha256(OWNER, name))
 
-# The hierarchy is the parent.
+# The hierarchy replaces the parent.
 created = creation("primary", name, (bytes.fromhex("0010"), OWNER, OWNER), b"first")
 
 given = sized(in_sensitive) + sized(template)
@@ -88,10 +88,10 @@ assert answer[18:-5] == sized(public) + created + sized(name)
 answer = script.command("TPM2_ReadPublic: SUCCESS", command(CC.ReadPublic, number(0x8000_0000, 4)))
 assert answer[10:] == sized(public) + sized(name) + sized(qualified_name)
 
-# Data that are sealed under the key, and created with the random bytes 40, 41, 42, ... From these
-# come the seed and then the first block of the cipher. The attributes are fixedTPM, fixedParent,
-# userWithAuth and noDA (00000452). The scheme is NULL. The authorization value ends with two zeros,
-# which do not count.
+# Data that is sealed under the key, and created with the random bytes 40, 41, 42, ... They become
+# the seed and then the first block of the cipher. The attributes are fixedTPM, fixedParent,
+# userWithAuth and noDA (00000452). The scheme is NULL. The two zeros at the end of the
+# authorization value are removed.
 random = bytes(range(0x40, 0x40 + 64))
 data = b"what is sealed"
 in_sensitive = sized(b"pin\0\0") + sized(data)

@@ -16,7 +16,9 @@ def start(what, seed):
 
 
 def primaries():
-    """Returns the Name of a storage key in each hierarchy, and a child of each."""
+    """Creates a storage key in each hierarchy, and a child of each. Returns the keys' Names and the
+    children.
+    """
     names, children = {}, {}
     for hierarchy, name in HIERARCHIES:
         with tpm.held(f"A storage key in {name}", storage_key(), hierarchy=hierarchy) as handle:

@@ -16,8 +16,8 @@ SECRET = b"secret"
 
 
 def general_refusals(code, handle, cut, uses):
-    """Causes all refusals before the parameters: of the handle, the authorization area, the entries
-    and the HMACs.
+    """Causes all refusals before the parameters: those of the handle, the authorization area, the
+    entries and the HMACs.
     """
     other = RH_LOCKOUT if code == CC.CreatePrimary else RH_OWNER
     for words, text in (
@@ -43,8 +43,8 @@ restricted = said.create_primary(RH_OWNER, RESTRICTED_KEY, user_auth=b"r", data=
 session = tpm.start("A session with AES, that is bound to TPM_RH_OWNER", bind=RH_OWNER, aes=True)
 DECRYPTS = Use(session, 1 | DECRYPT)
 
-# A template with a wrong authPolicy, wrong attributes and a wrong scheme. The others have only some
-# of these faults.
+# A template whose authPolicy, attributes and scheme are wrong. The templates after it have only
+# some of these faults.
 WRONG = hmac_key(SHA1, HERE | OPEN | ObjectAttribute.RESTRICTED, ALG_NULL, auth_policy=b"p")
 FIXED_ALONE = sealed(SHA1, ObjectAttribute.FIXED_TPM | OPEN, scheme=SHA1)
 PUBLIC_FAULTS = (
@@ -53,7 +53,7 @@ PUBLIC_FAULTS = (
     ("Scheme HMAC without sign", "SCHEME/p2", sealed(SHA1, scheme=SHA1)),
 )
 GOOD = frames.sensitive_create(data=SECRET)
-# A sensitive area whose userAuth is too long.
+# A sensitive area with a userAuth that is too long.
 LONG = frames.sensitive_create(b"a" * 21, SECRET)
 NONE, BAD_TYPE = sized(b""), sized(number(1, 2))
 BANK = number(1, 4) + number(0x000C, 2) + b"\x03\0\0\0"

@@ -54,7 +54,7 @@ def sensitive(data=b"forged", auth=b"", seed=b"s" * 32, kind=KEYEDHASH):
 
 @dataclass(frozen=True)
 class Forger:
-    """A forger who knows the parent's seed makes private areas for a public area."""
+    """Makes private areas for a public area, as a forger who knows the parent's seed can."""
 
     parent: int
     public: Public
@@ -64,7 +64,7 @@ class Forger:
         return tpm.script.device.objects[self.parent]
 
     def forge(self, text, iv=b"\x5a" * aes.BLOCK, name=None, algorithm=None):
-        """Returns a private area with this encrypted text. It uses the equations, and not
+        """Returns a private area with this encrypted text. It is computed by the equations, without
         object_rules.py.
         """
         seed = self.known.sensitive.seed_value
@@ -77,7 +77,7 @@ class Forger:
         return sized(mac(algorithm, key, protected + name)) + protected
 
     def behind(self, rest):
-        """Returns a private area with the right integrity value, followed by arbitrary bytes."""
+        """Returns a private area with a right integrity value and arbitrary bytes after it."""
         return sized(object_rules.integrity(self.known, rest, self.public.name)) + rest
 
     def refused(self, what, *privates):
@@ -87,9 +87,7 @@ class Forger:
         self.refused(what, *map(self.forge, texts))
 
     def made(self, given=b"", **parts):
-        """Returns a private area with these parts of its sensitive area, and its authorization
-        value.
-        """
+        """Returns an object whose sensitive area has these parts, with its authorization value."""
         return Made(self.forge(sensitive(**parts)), self.public, given)
 
     def loaded(self, what, given=b"", flushed="It is flushed", **parts):

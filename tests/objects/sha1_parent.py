@@ -31,8 +31,8 @@ for parent_algorithm, parent_hash in HASHES:
             said = tpm(f"TPM2_Create of {what} with nameAlg {hash_name}")
             pcrs = [(SHA1, [0]), (SHA256, [0])]
             made = said.create(parent, public, user_auth=b"child", data=data, pcrs=pcrs)
-            # The parent's hash algorithm determines the size of integrity. The first block always
-            # has 16 bytes.
+            # The parent's hash algorithm determines the size of integrity. The first block of the
+            # cipher always has 16 bytes.
             fields = Fields(made.private)
             assert len(fields.sized()) == digest_bytes(parent_algorithm)
             assert len(fields.sized()) == 16

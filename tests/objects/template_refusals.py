@@ -26,15 +26,15 @@ tpm = Steps(__name__, __doc__)
 
 @dataclass(frozen=True)
 class Target:
-    """A command with inPublic, and its handle. Everything after inPublic is empty. So is the
-    private area of TPM2_Load, which would be refused later.
+    """A command with inPublic, and its handle. All parameters after inPublic are empty. The private
+    area of TPM2_Load is empty too, but it would be refused only later.
     """
 
     code: CC
     handle: int
 
     def prepared(self, public, first=None):
-        """Returns the command with these parameters, each of which already has its size."""
+        """Returns the command with these parameters, whose sizes are already included."""
         if self.code == CC.Load:
             first, rest = first or sized(b""), b""
         else:

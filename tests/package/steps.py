@@ -3,9 +3,9 @@
     python3 tests/package/steps.py FOLDER [--run]
 
 The program prints each command of .github/workflows/*.yml and .gitlab-ci.yml in FOLDER. It also
-prints the paths of the repository and the targets of the Makefile that a command names and that
-do not exist. The status is 1 if there are any. With --run it runs the commands in FOLDER, each
-once, except those of apt-get and git. It ends at the first command that fails.
+prints the paths and the targets of the Makefile that a command names and that do not exist; the
+status is 1 if there are any. With --run it runs each command once in FOLDER, except those of
+apt-get and git, and ends at the first one that fails.
 """
 
 import pathlib

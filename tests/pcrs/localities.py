@@ -7,7 +7,7 @@ program contains a copy of that table.
 from tpmsim.standard import CC, command, digests, on_handle, selection, SHA1, SHA256
 from tests.common.script import Script
 
-# The PCRs, their use, and the localities from which they can be extended and reset.
+# The PCRs, their use, and the localities that can extend and reset them.
 ANY, NONE = range(5), ()
 USES = (
     (range(0, 16), "of the platform's start", ANY, NONE),

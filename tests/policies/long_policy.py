@@ -12,7 +12,7 @@ tpm = PolicyTeller(__name__, __doc__)
 
 
 def both(what, tell):
-    """Makes an assertion in the trial session and in the policy session."""
+    """Makes the same assertion in the trial session and in the policy session."""
     tpm.says(f"{what}: SUCCESS", tell(trial), tell(session))
 
 

@@ -14,13 +14,13 @@ tpm = Teller(__name__, __doc__, tries=True)
 
 
 def refused(words, prepared, *wrong):
-    """Sends a command that is refused. The HMACs of the entries `wrong` are wrong."""
+    """Sends a command that must be refused. The entries `wrong` get wrong HMACs."""
     tpm.refused(words, wrong_in(prepared, *wrong) if wrong else prepared)
 
 
 def up_to_hmacs(text):
-    """Causes all refusals before the parameters of a command with one handle. `text` is the
-    command's parameters.
+    """Causes all refusals before the parameters, in a command with one handle. `text` is its
+    parameters.
     """
 
     def using(*uses, handle=policy.handle):
@@ -51,7 +51,7 @@ def symmetric(use):
 
 def by_right(words, text):
     """Sends TPM2_PolicySecret with the right password, while the policy session itself decrypts
-    nonceTPM.
+    nonceTPM. It must be refused.
     """
     refused(words, secret(text, b"lockout", policy.decrypting))
 

@@ -20,7 +20,7 @@ COMMANDS = (
     (CC.PolicyGetDigest, b""),
 )
 
-# Two more commands, at the end.
+# Two more commands, which are tested last.
 LATER = ((CC.PolicyCpHash, frames.sized(bytes(32))), (CC.PolicyNvWritten, b"\1"))
 
 # PCR 0, an NV index, HMAC sessions, permanent entities, objects, and handles of no kind.
@@ -38,7 +38,7 @@ def plain(code, *handles, text=b""):
 
 
 def by_password(handle, session=ABSENT[0]):
-    """Returns a TPM2_PolicySecret with the empty password."""
+    """Returns a TPM2_PolicySecret that is authorized by the empty password."""
     text = number(handle, 4) + number(session, 4) + PASSWORD + NOTHING
     return frames.command(CC.PolicySecret, text, frames.SESSIONS)
 

@@ -12,8 +12,8 @@ from tests.common.vocabulary import counter, extended, FIFTH, FIRST, flipped, FO
 from tests.common.vocabulary import is_trial, number, NvAttribute, policy, RH_OWNER, RH_PLATFORM
 from tests.common.vocabulary import SECOND, SHA1, SHA256, sized, THIRD, Use, zeros
 
-# The names and numbers of the operations. COMPARE has the comparisons of those that do not test
-# bits.
+# Descriptions of the operations, by number. COMPARE has the functions for those that compare, and
+# do not test bits.
 NAMES = (
     *("equal", "not equal", "greater, signed", "greater", "less, signed", "less"),
     *("greater or equal, signed", "greater or equal", "less or equal, signed", "less or equal"),
@@ -27,7 +27,7 @@ tpm = PolicyTeller(__name__, __doc__)
 
 
 def after(session, old, index, operand, offset, operation):
-    """Returns the digest after the assertion, as the standard computes it."""
+    """Returns the digest after the assertion, as the standard defines it."""
     digest = hashlib.sha1 if session.algorithm == SHA1 else hashlib.sha256
     compared = digest(operand + number(offset, 2) + number(operation, 2)).digest()
     return digest(old + number(CC.PolicyNV, 4) + compared + tpm.names[index]).digest()
@@ -51,7 +51,7 @@ def adds(what, session, operand, offset=0, operation=EQ, index=FIRST, by=RH_OWNE
     tpm.digest_is("Its digest", session, wanted)
 
 
-# Contents of an index of four bytes, each with the operands with which it is compared.
+# Contents of an index of four bytes, each with operands that are compared with it.
 OPERANDS = {
     0x0000_0005: (5, 4, 6, 0, 0x7FFF_FFFF, 0x8000_0000, 0xFFFF_FFFF),
     0xFFFF_FFFE: (0xFFFF_FFFE, 0xFFFF_FFFD, 0xFFFF_FFFF, 0x8000_0000, 0x7FFF_FFFF, 0, 1),
@@ -65,7 +65,7 @@ def holds(operation, held, operand):
 
 
 def both(session, operation, true, false):
-    """Sends the operands for which a comparison is true, and those for which it is false."""
+    """Sends operands for which a comparison is true, and operands for which it is false."""
     case = f"Operation {operation:X}, {NAMES[operation]}: it holds of these operands"
     compares(case, session, operation, *true, index=SECOND)
     if false:

@@ -10,7 +10,9 @@ tpm = PolicyTeller(__name__, __doc__)
 
 
 def other(count):
-    """Returns digests with the size of the session's policyDigest. None of them is ever its value."""
+    """Returns digests with the size of the session's policyDigest, which is never equal to one of
+    them.
+    """
     return [digest(session.algorithm, b"branch %d" % it) for it in range(count)]
 
 
@@ -20,7 +22,7 @@ def joins(what, *branches):
 
 
 def again():
-    """Restarts the session, and returns its digest, which is zeros."""
+    """Restarts the session. Returns its digest, which is then zeros."""
     tpm.restarts(session)
     return zeros(session)
 

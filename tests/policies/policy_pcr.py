@@ -12,20 +12,21 @@ tpm = PolicyTeller(__name__, __doc__)
 
 
 def changed(what, banks=ZERO):
-    """Sends a command after a PCR has changed. A policy session refuses it, and a trial session
-    does not.
+    """Sends the command after a PCR has changed. A policy session must refuse it; a trial session
+    must not.
     """
     outcome = "SUCCESS" if is_trial(session) else "PCR_CHANGED"
     tpm(f"{what}: {outcome}").pcrs(session, banks)
 
 
 def values_digest(banks):
-    """Returns the hash of a selection's values, by bank, and by PCR number in each bank."""
+    """Returns the hash of the values of the selected PCRs, in the order of banks and PCR numbers.
+    """
     return tpm.history.pcrs.digest(session.algorithm, [(bank, sorted(it)) for bank, it in banks])
 
 
 def texts(words, *those, front=EMPTY):
-    """Sends these parameters. Their pcrDigest is empty unless another one is given."""
+    """Sends these parameters after a pcrDigest, which is `front`."""
     tpm.texts(words, CC.PolicyPCR, session, *(front + it for it in those))
 
 
@@ -46,7 +47,7 @@ for pcr in (0, 1, 7, 8, 16, 23):
     event(f"TPM2_PCR_Event into PCR {pcr}", pcr, b"event %d" % pcr)
 
 for session in tpm.each_session():
-    # Parameters that are refused. The digest is still zeros after them.
+    # These parameters must be refused. Afterwards the digest is still zeros.
     one, of_one = selection((SHA256, [0])), number(1, 4) + number(SHA256, 2)
     case = "pcrDigest that is cut: INSUFFICIENT/p1"
     texts(case, b"", b"\0", b"\0\x01", number(32, 2) + bytes(31), front=b"")

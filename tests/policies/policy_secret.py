@@ -17,7 +17,7 @@ def accepted(what, **parameters):
 
 
 def refused(words, *choices):
-    """Sends TPM2_PolicySecret with each of these choices. It must be refused."""
+    """Sends TPM2_PolicySecret with each of these sets of parameters. It must be refused."""
     tpm.refused(words, *(tpm.secret(session, **it) for it in choices))
 
 
@@ -27,7 +27,7 @@ def refused_but_in_trial(words, *choices):
 
 
 def not_looked_at(what, outcome, **others):
-    """Sends wrong values of a parameter. A trial session accepts them nevertheless."""
+    """Sends wrong values of a parameter, which must be refused, except in a trial session."""
     ((name, values),) = others.items()
     if not is_trial(session):
         refused(f"{what}: {outcome}", *({name: it} for it in values))

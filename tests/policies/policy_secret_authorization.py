@@ -6,7 +6,7 @@ needs no authorization.
 from tests.common.policy_teller import HIERARCHIES, PolicyTeller
 from tests.common.vocabulary import HASHES, RH_LOCKOUT, RH_OWNER, SHA1, SHA256, Use, wrong_in
 
-# The authorization value of TPM_RH_OWNER is "owner", and so on.
+# The authorization values: "owner" for TPM_RH_OWNER, and so on.
 VALUES = {it: name.rpartition("_")[2].lower().encode() for it, name in HIERARCHIES.items()}
 
 tpm = PolicyTeller(__name__, __doc__, tries=True)

@@ -26,12 +26,14 @@ def get_digest(handle):
 
 
 def random_by(handle):
-    """Returns a TPM2_GetRandom with a session of which the caller knows only the handle."""
+    """Returns a TPM2_GetRandom with a session whose nonce the caller does not know."""
     return tpm.random(1).but(entries=[Entry(handle, b"", 1, b"")])
 
 
 def tell(session, code, mask, cp_hash):
-    """Makes each kind of assertion after which a session accepts no other value of that kind."""
+    """Makes an assertion of each kind that a session accepts only once, or only with the same
+    value.
+    """
     said = tpm("TPM2_PolicyCommandCode, TPM2_PolicyLocality, TPM2_PolicyPCR: SUCCESS")
     said.says(
         tpm.command_code(session, code), tpm.locality(session, mask), tpm.pcrs(session, PCR_0)

@@ -11,7 +11,7 @@ tpm = Teller(__name__, __doc__)
 
 
 def commands(session):
-    """Yields a command for each kind of handle that needs authorization."""
+    """Yields commands for each kind of handle that needs authorization."""
     digests = frames.digests((frames.SHA1, bytes(20)))
     yield tpm.reset(session)
     yield tpm.prepare(CC.PCR_Extend, [0], digests, session)

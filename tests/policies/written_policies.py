@@ -19,8 +19,8 @@ OF_NO_COMMAND = b"\x11" * 32
 tpm = GroundsCaller(__name__, __doc__, tries=True)
 lost, asserts = tpm.lost, tpm.asserts
 
-# The policy of a disk: either PCRs 7 and 11 and the authorization value, or a recovery secret. Then
-# it requires TPM2_Unseal.
+# The policy of a disk. It requires either the right PCRs 7 and 11 and the authorization value, or a
+# recovery secret. In addition it requires that the command is TPM2_Unseal.
 VALUES = [digest(SHA256, bytes(32) + digest(SHA256, it)) for it in (SECURE_BOOT, KERNEL)]
 AFTER_PCRS = policy.after_pcr(SHA256, ZEROS, selection(*CHOSEN), digest(SHA256, b"".join(VALUES)))
 BY_SYSTEM = policy.after_auth_value(SHA256, AFTER_PCRS)
@@ -37,23 +37,24 @@ def recovery(session, of=RH_ENDORSEMENT, ref=REF):
 
 
 def ends(session):
-    """Returns the assertions at the end of both branches."""
+    """Returns the assertions with which both branches end."""
     return tpm.branches(session, *WAYS), tpm.command_code(session, CC.Unseal)
 
 
 def no_way(session, **demand):
-    """Checks that the session meets neither of the two branches."""
+    """Checks that the session satisfies neither branch."""
     tpm.says("TPM2_PolicyOR: VALUE/p1", ends(session)[0])
     asserts("TPM2_PolicyCommandCode", ends(session)[1])
     lost("TPM2_Unseal: POLICY_FAIL/s1", tpm.unsealing(disk, Use(session, **demand)))
 
 
-# The policy of an update. It requires locality 0, or 3 or 4, and a version that is in an index. Or
-# it requires the authorization value of that index.
+# The policy of an update. It requires either the authorization value of an index, or a version in
+# that index and locality 0, 3 or 4.
 
 
 def after_version(old=ZEROS):
-    """Returns the digest after the assertion that the index has at least the required version."""
+    """Returns the digest after the assertion that the index contains at least the required version.
+    """
     return policy.after_nv(SHA256, old, LEAST + number(0, 2) + number(AT_LEAST, 2), tpm.name(index))
 
 

@@ -2,7 +2,7 @@
 
     cases.py <CASES
 
-A line of CASES has a label and then the words, each after a tab. For each case the program
+A line of CASES contains a label and the arguments, separated by tabs. For each case the program
 prints the status, standard error, and the last line of standard output.
 """
 
@@ -17,12 +17,12 @@ from tpmsim.model import player
 
 
 def printed(script):
-    """Returns the output of a device in its present state for a script."""
+    """Returns the output of the Python device, as it is patched now, for a script."""
     return "".join(f"{it}\n" for _, it in player.played(script)[0]).encode()
 
 
 def audited(script, output, files=(), begin=None):
-    """Returns the auditor of a script's output, and the fault that it finds, if any."""
+    """Audits the output of a script. Returns the auditor, and the fault that it finds, if any."""
     auditor = Auditor(begin or start.new(), Log(output), files)
     try:
         auditor.read(script)

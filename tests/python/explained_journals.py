@@ -1,11 +1,11 @@
-"""Explains the journals of devices in folders that played the scripts of tests/ and examples/:
+"""Plays scripts of tests/ and examples/ on devices in folders, and explains their journals:
 
     explained_journals.py PROGRAM
 
-Each journal is explained in three ways: by itself, by the script that `tpmsim script` prints
-from it, and together with the output of `tpmsim run`. An accepted command must be explained as
-accepted. A refused command must be explained as refused, with its reason. The program prints the
-number of commands. The status is 1 if a command is explained otherwise.
+Each journal is explained in three ways: alone, as the script that `tpmsim script` prints from it,
+and together with the output of `tpmsim run`. An accepted command must be explained as accepted, and
+a refused command as refused, with a reason. The program prints the number of explained commands.
+The status is 1 if an explanation is wrong.
 """
 
 import pathlib
@@ -23,15 +23,15 @@ SHOWN = 8
 
 
 def answered_since(printed):
-    """Returns the lines that were printed since the last power cycle."""
+    """Returns the lines of the output after the last power cycle."""
     lines = printed.decode("ascii").splitlines()
     cycles = [at for at, line in enumerate(lines, 1) if line == "power"]
     return lines[cycles[-1] if cycles else 0 :]
 
 
 def wrong_lines(log, lines, responses):
-    """Returns the lines of commands whose explanation differs from their response, or was not
-    compared.
+    """Returns the lines of commands whose explanation differs from their response, or lacks a
+    response.
     """
     play = Play(answers="".join(f"{it}\n" for it in lines).encode() if lines else None)
     events = list(play.events(log))
@@ -45,8 +45,7 @@ def wrong_lines(log, lines, responses):
 
 
 def check(program, script, folder):
-    """Returns the number of explained commands of a script, and the lines of the wrong
-    explanations.
+    """Returns the number of explained commands of a script, and the lines with wrong explanations.
     """
     printed = ran(program, "run", "--trace", "--state", folder, str(script)).output
     lines = answered_since(printed)

@@ -1,10 +1,10 @@
-"""Interrupts the commands of devices at the other end of a connection:
+"""Interrupts commands while a device at the other end of a connection executes them:
 
     tools/python.sh tests/python/in_step.py PROGRAM
 
-Each command is interrupted at each line of Python that it executes. Another command is answered
-too late. Afterwards no command gets the response of another one: the connection is closed, and
-the caller gets DeviceEnded. The device ChildDevice runs PROGRAM.
+Each command is interrupted at each line of Python that it executes, and one is answered too late.
+Afterwards no command may get the response of another one: the connection is closed, and the caller
+gets DeviceEnded. The device ChildDevice runs PROGRAM.
 """
 
 import os
@@ -24,11 +24,11 @@ PACKAGE = str(pathlib.Path(tpmsim.device.__file__).parent)
 FIRST, SECOND, LATE = 8, 16, 24
 SECONDS, MOST_SECONDS, LEAST_LINES = 0.1, 60, 10
 
-# The first is called when LATE arrives. The second is set when LATE may be answered.
+# The function in `coming` is called when LATE arrives. LATE is answered when `is_over` is set.
 coming, is_over = [lambda: None], threading.Event()
 
-# The number of bytes after a request's number, on swtpm's control channel. On other channels there
-# are none.
+# The number of bytes after a request on swtpm's control channel, by its number. All other requests
+# have none.
 ARGUMENTS = {2: 4, 5: 1}
 SESSION_END, INITIALIZE = 20, number(0x100, 4)
 
@@ -39,8 +39,8 @@ def asking(count):
 
 
 def answer_to(command):
-    """Returns the response with the requested number of bytes. For LATE it waits until that may be
-    answered.
+    """Returns the response with the requested number of bytes. If the command is LATE, first waits
+    for `is_over`.
     """
     count = int.from_bytes(command[10:12], "big")
     if count == LATE:
@@ -53,7 +53,7 @@ def answer_to(command):
 
 class Handler(socketserver.StreamRequestHandler):
     def number(self):
-        """Reads a number. Ends the connection if the client has ended it."""
+        """Reads a number. Raises EOFError if the client has closed the connection."""
         text = self.rfile.read(4)
         if len(text) < 4:
             raise EOFError
@@ -64,7 +64,7 @@ class Handler(socketserver.StreamRequestHandler):
             while True:
                 self.wfile.write(self.answered())
         except (EOFError, OSError):
-            pass  # the client has ended
+            pass  # the client has closed the connection
 
 
 class Commands(Handler):
@@ -111,7 +111,7 @@ def serving(server):
 
 
 def simulated():
-    """Serves a simulated TPM on two consecutive ports, and returns the address of the first."""
+    """Serves a simulated TPM on two consecutive ports. Returns the address of the first port."""
     while True:
         commands = Tcp(("127.0.0.1", 0), Simulated)
         host, port = commands.server_address
@@ -125,8 +125,8 @@ def simulated():
 
 
 def interrupted(act, left):
-    """Calls `act`, and interrupts it after `left` lines of the package's devices. Returns whether
-    it executes that many lines.
+    """Calls `act`, and interrupts it at line number `left` that it executes in the package. Returns
+    whether it executes that many lines.
     """
 
     def trace(frame, event, _):
@@ -150,8 +150,8 @@ def interrupted(act, left):
 
 
 def told(device, size):
-    """Describes the response to a command of another size, after a command that did not end. A pipe
-    answers it at once. A device whose power has just come on answers it after INITIALIZE.
+    """Sends a command with another size after an interrupted command, and describes its response. A
+    pipe responds with the command itself. A device that was power-cycled responds with INITIALIZE.
     """
     try:
         response = device.execute(asking(size)).response
@@ -163,7 +163,7 @@ def told(device, size):
 
 
 def at_each_line(made, act):
-    """Returns the results after an interrupt at each line."""
+    """Returns the different results of interrupts, one at each line of `act`."""
     said, count = set(), 1
     while True:
         with made() as device:
@@ -176,7 +176,7 @@ def at_each_line(made, act):
 
 
 def late(made):
-    """Returns the results while the response is late, and after it has come."""
+    """Returns the results of a timeout, and of two commands after the late response has arrived."""
     is_over.clear()
     with made() as device:
         device.data.socket.settimeout(SECONDS)
@@ -190,7 +190,7 @@ def late(made):
 
 
 def alarmed(made):
-    """Does the same as `late`, with a signal handler that raises its own exception."""
+    """Does the same as `late`, but with an exception from a signal handler instead of a timeout."""
 
     def raise_fault(*_):
         raise LookupError("a test's time")
@@ -209,7 +209,7 @@ def alarmed(made):
 
 
 def moved(device):
-    """Executes a command from another locality. The locality is sent before the command."""
+    """Executes a command from another locality, which is sent to the device before the command."""
     device.locality = 3
     device.execute(asking(FIRST))
 

@@ -2,11 +2,11 @@
 
     sweep.py PROGRAM COUNT [SEED]
 
-The program audits each script of tests/ and examples/, and COUNT random ones; SEED is the seed of
-the first. Each random script is also judged from the image of its device at a power cycle, and
-again with altered lines. A script that ends with a bad line must be judged up to that line. The
-program names the logs that do not agree, and keeps their scripts. At the end it prints the counts.
-The status is 1 if a log does not agree.
+The program audits each script of tests/ and examples/, and COUNT random ones, of which the first
+has SEED. It audits each random script also from the image of its device at a power cycle, and with
+altered lines. If a script ends with a bad line, the audit must agree up to that line. The program
+names the logs whose audit is wrong, and keeps their scripts. At the end it prints the counts. The
+status is 1 if an audit is wrong.
 """
 
 import pathlib
@@ -34,8 +34,7 @@ def traced(program, path):
 
 
 def wanted_of(error):
-    """Returns the fault that the audit has to find, if the program reports a bad line on standard
-    error.
+    """Returns the fault that the audit must find, according to the standard error of the program.
     """
     line = error.removeprefix("tpmsim: script line ")
     words = f"script line {line} is not a line of a script; the log agrees up to it"
@@ -43,7 +42,7 @@ def wanted_of(error):
 
 
 def from_image(script, output):
-    """Returns the script from a power cycle on: the device's image at that point, the rest of the
+    """Returns a log that begins at a power cycle: the image of the device there, the rest of the
     script, and the rest of its output. Returns None if there is no power cycle.
     """
     lines = script.splitlines()
@@ -66,7 +65,7 @@ class Sweep:
         return f"{self.agree} agree, {self.differ} differ; {self.events} events"
 
     def judge(self, path, begin, script, output, wanted=None):
-        """Returns whether a log agrees, or has the expected fault."""
+        """Audits a log. Returns whether it agrees, or has the expected fault."""
         auditor, fault = audited(script, output, begin=begin)
         list(report(auditor))
         self.events += auditor.counts.events

@@ -1,12 +1,11 @@
-"""Breaks hashes of policies, each for one text. A session then gets the digest of a policy that it
-does not meet, and the device and its history accept the session. The audit has to report that.
-With the last hash the session meets the policy anyway.
+"""Replaces hashes in policies, each for one text. A session then gets the digest of a policy that
+it does not satisfy, and the device and its history accept the session. The audit must report this.
+In the last case the session satisfies the policy anyway.
 
     weak_hashes.py FOLDER
 
-The program prints the result of each policy, and how tools/audit.py ends on the files in FOLDER.
-The status is 1 if a use that does not meet its policy counts as meeting it, or the other way
-round.
+The program prints the result for each policy, and how tools/audit.py ends on the files in FOLDER.
+The status is 1 if the audit is wrong about whether a use satisfies its policy.
 """
 
 import pathlib
@@ -24,27 +23,27 @@ from tests.python import cases
 LOCALITY_0 = bytes.fromhex("0000016f01")
 ATTRIBUTES = nv.Attribute.POLICYREAD | nv.Attribute.POLICYWRITE
 
-# Digests of two branches of a policy, by SHA-1; and the end of the first, joined with the beginning
-# of the second.
+# SHA-1 digests of two branches of a policy. MIDDLE is the end of the first one and the beginning of
+# the second one.
 UNSEAL = policy.after_command_code(SHA1, bytes(20), CC.Unseal)
 VALUE = policy.after_auth_value(SHA1, bytes(20))
 MIDDLE = UNSEAL[10:] + VALUE[:10]
 
-# By SHA-256: the bytes of TPM2_PolicySecret before policyRef, for the owner and for the platform;
-# and the digest of a policy.
+# With SHA-256: the bytes that TPM2_PolicySecret hashes before policyRef, for the owner and for the
+# platform, and the digests of two policies.
 OWNER = bytes(32) + bytes.fromhex("0000015140000001")
 PLATFORM = bytes(32) + bytes.fromhex("000001514000000c")
 BY_OWNER = digest(SHA256, digest(SHA256, OWNER))
 WRITE = policy.after_command_code(SHA256, bytes(32), CC.NV_Write)
 
-# A policy with another value of PCR 16 than zeros.
+# A value of PCR 16 other than zeros, and a policy for zeros.
 OTHER_VALUE = b"\x11" * 32
 BY_PCR = policy.after_pcr(SHA256, bytes(32), selection((SHA256, [16])), digest(SHA256, bytes(32)))
 
 
 def script(algorithm, auth_policy, *assertions):
-    """Returns a script with an index that only its policy authorizes, and a use of the index after
-    assertions.
+    """Returns a script that defines an index which only its policy authorizes, makes assertions,
+    and writes the index.
     """
     area = nv.Public(0x0100_0001, algorithm, ATTRIBUTES, auth_policy, 8).text.hex()
     name = "sha1" if algorithm == SHA1 else "sha256"
@@ -58,15 +57,15 @@ def script(algorithm, auth_policy, *assertions):
 
 
 def by_either(first, second, *branches):
-    """Returns the same script with a policy of two branches. The session states the branches in
-    other pieces.
+    """Returns a script for a policy with two branches. The session's TPM2_PolicyOR lists `branches`
+    instead.
     """
     told = f"PolicyOR 03000000 {'+'.join(it.hex() for it in branches)}"
     return script(SHA1, policy.after_or(SHA1, [first, second]), "PolicyLocality 03000000 0x1", told)
 
 
-# A description; the texts whose hashes differ; the policy; a script; and whether the use meets the
-# policy.
+# The cases: a description, texts with their replaced hashes, the policy, a script, and whether its
+# session satisfies the policy.
 WEAK = (
     (
         "two texts have the same hash",
@@ -107,7 +106,7 @@ WEAK = (
 
 
 def weakly(other):
-    """Replaces the hashes of these texts whenever policies are hashed."""
+    """Replaces the hashes of these texts in all code for policies."""
     stack = ExitStack()
     weak = lambda algorithm, text: other.get(text) or digest(algorithm, text)
     for module in (policy, pcr_values, policy_texts, broken, written):
@@ -116,7 +115,7 @@ def weakly(other):
 
 
 def judged(lines, text):
-    """Judges the device's output for a script by a policy. Returns the auditor and the output."""
+    """Audits the device's output for a script with a policy. Returns the auditor and the output."""
     played = "\n".join(lines).encode()
     output = cases.printed(played)
     auditor, fault = cases.audited(played, output, [PolicyFile("policy", text.encode())])
@@ -125,7 +124,7 @@ def judged(lines, text):
 
 
 def ended(folder, lines, output, text):
-    """Returns how the audit of these files ends."""
+    """Writes these files, and returns how their audit ends."""
     files = [folder / it for it in ("script", "output", "policy")]
     for file, data in zip(files, ("\n".join(lines).encode(), output, text.encode())):
         file.write_bytes(data)

@@ -1,10 +1,9 @@
 """Wrong Python devices with one error each, and a script that shows the error. The audit compares
-the output of such a device with that same device, so that only the history can reveal the error.
+the output of a wrong device with that same device, so that only the history can reveal the error.
 
     wrong_devices.py
 
-The program prints the fault that the audit finds for each device. The status is 1 if it finds
-none for one of them.
+The program prints the fault that the audit finds for each device. The status is 1 if it misses one.
 """
 
 import functools
@@ -25,7 +24,7 @@ restore_pcrs, start_session = Model.restore_pcrs, Model.start_auth_session
 
 
 def unless(refused):
-    """Returns a check of a policy's use that ignores one refusal."""
+    """Returns a check of the use of a policy that never fails with this response code."""
 
     def checked(session, entity, use, place):
         try:
@@ -38,13 +37,13 @@ def unless(refused):
 
 
 def any_cp_hash(session, entity, use, place):
-    """Checks the use of a policy, but accepts any recorded cpHash."""
+    """Checks the use of a policy, but accepts any cpHash."""
     told = session.policy.cp_hash
     return check_use(session, entity, replace(use, cp_hash=told or use.cp_hash), place)
 
 
 def written_or_not(session, entity, use, place):
-    """Checks the use of a policy, but not whether an index is written."""
+    """Checks the use of a policy, but not whether an index must be written."""
     return check_use(session, entity, replace(use, written=session.policy.nv_written), place)
 
 
@@ -76,7 +75,7 @@ def counts_from_1(self, request):
 
 
 def keeps_a_digest(self, request):
-    """Starts a session, whose digest is that of a live session if there is one."""
+    """Starts a session with the policy digest of another session, if there is one."""
     was = next((it.policy.digest for it in self.sessions.values()), None)
     answer = start_session(self, request)
     session = self.sessions[int.from_bytes(answer.handle, "big")]
@@ -85,7 +84,7 @@ def keeps_a_digest(self, request):
 
 
 def in_rows(code, row):
-    """Returns the change of the device in which a command has another effect."""
+    """Returns a patch that gives a command another effect."""
     return mock.patch.dict(machine.ROWS, {code: row})
 
 
@@ -145,8 +144,8 @@ def script_of(name):
 
 
 def fault_of(name):
-    """Returns the fault that the audit finds for a device in its present state, with the script
-    `name`.
+    """Returns the fault that the audit finds for the Python device, as it is patched now, with a
+    script.
     """
     script = script_of(name)
     return audited(script, printed(script))[1]

@@ -1,11 +1,11 @@
-"""Wrong Python devices with one error each. Their logs are audited against that same device, with
-policies in words:
+"""Wrong Python devices with one error each. Their logs are audited with the same wrong device, and
+with policies in words:
 
     wrong_policies.py POLICIES
 
-POLICIES has a folder of policies for each script. For each device the program prints what the
-audit finds. Then it prints each use that does not meet its policy if only policies are judged.
-The status is 1 if one of the two finds nothing.
+POLICIES contains a folder of policies for each script. For each device the program prints what the
+audit finds. Then it prints each use that does not satisfy its policy, when only policies are
+audited. The status is 1 if either audit finds nothing.
 """
 
 import pathlib
@@ -28,7 +28,7 @@ LOST, WRITTEN = "lost_grounds", "written_policies"
 
 
 def or_of_any_digest(self, request):
-    """Executes TPM2_PolicyOR, but ignores the digest before it."""
+    """Executes TPM2_PolicyOR, but ignores the session's digest before it."""
     branches = request.parameters.next().sized_list(policy.LEAST_BRANCHES, policy.MOST_BRANCHES)
     session = self.sessions[request.handles[0]]
     session.policy.digest = policy.after_or(session.algorithm, branches)
@@ -61,7 +61,7 @@ WRONG = (
 
 
 def policies_alone():
-    """Turns off the judgement of grounds, and the comparison of the device with its history."""
+    """Turns off the audit of grounds, and the comparison of the device with its history."""
     stack = ExitStack()
     ground = Finding(True, "it is not judged")
     stack.enter_context(mock.patch.object(Grounds, "findings", lambda *_: [ground]))

@@ -27,13 +27,13 @@ HIERARCHIES = {
 
 tpm = GroundsCaller(__name__, __doc__)
 
-# The null hierarchy's authorization value is empty, and has no other use than this command.
+# The null hierarchy's authorization value is empty, and can authorize nothing but this command.
 at_null = partial(tpm.primary, RH_NULL, sealed(), data=SECRET)
 
 
 class Entity(NamedTuple):
-    """An entity whose authorization value authorizes a command: its handle, the command, and how an
-    entry authorizes it.
+    """An entity whose authorization value authorizes a command: its handle, the command, and a
+    function that prepares the command.
     """
 
     words: str
@@ -43,8 +43,8 @@ class Entity(NamedTuple):
 
 
 def with_policy(auth_policy):
-    """Makes a sealed object and an index that only this policy authorizes. Returns commands on
-    them.
+    """Creates a sealed object and defines an index that only this policy authorizes. Returns the
+    object and functions that prepare commands on both.
     """
     handle = tpm.sealed_object("An object and an index with this policy", auth_policy)
     index = tpm.index("", BY_POLICY, auth_policy)
@@ -56,9 +56,9 @@ def with_policy(auth_policy):
 
 
 def condition(words, auth_policy, told, *assertions, demand=None, locality=0):
-    """Checks the demands of a policy: the assertions for a session, the demand on the entry, and
-    the locality of the command. One assertion may depend on the command that the session then
-    authorizes.
+    """Checks that a session that satisfies a policy authorizes commands: it has made the
+    assertions, its entry meets the demand, and the locality is right. An assertion may be a
+    function of the command that the session then authorizes.
     """
     tpm.chapter(words)
     handle, commands = with_policy(auth_policy)
@@ -170,7 +170,7 @@ tpm.unseal("TPM2_Unseal by the policy", both, SECRET, session)
 tpm.unseal("And by the password", both, SECRET, PIN)
 tpm.flushed(both)
 
-# The order is that of docs/table/policies.md.
+# The policies are in the order of docs/table/policies.md.
 BRANCHES = AFTER_PCR_16, AFTER_AUTH_VALUE
 EITHER = policy.after_or(SHA256, BRANCHES)
 ONE_TO_THREE, THREE_OR_FOUR = 0b01110, 0b11000

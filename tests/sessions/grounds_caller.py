@@ -1,5 +1,5 @@
-"""A caller for grounds.py, lost_grounds.py and replays.py. It makes sealed objects and NV indices
-with the value "pin", and their policies.
+"""A caller for grounds.py, lost_grounds.py and replays.py. It creates sealed objects and NV indices
+with the authorization value "pin", and with policies.
 """
 
 from tpmsim.caller import area, HERE, sealed
@@ -12,7 +12,7 @@ OWNER, PIN, SECRET, DATA = b"owner", b"pin", b"secret", b"8 bytes."
 PCR_16 = [(SHA256, [16])]
 AT_LOCALITY_1 = 0b10
 
-# The initial policyDigest of a session, and its policyDigest after one assertion of each kind.
+# The initial policyDigest of a session, and its policyDigest after an assertion of each kind.
 ZEROS = bytes(32)
 AFTER_AUTH_VALUE = policy.after_auth_value(SHA256, ZEROS)
 AFTER_PCR_16 = policy.after_pcr(SHA256, ZEROS, frames.selection(*PCR_16), digest(SHA256, bytes(32)))
@@ -28,7 +28,9 @@ def after_secret(name, policy_ref=b""):
 
 
 def after_equal_data(name, old=ZEROS):
-    """Returns the digest after TPM2_PolicyNV of the index with this Name, which contains `DATA`."""
+    """Returns the digest after TPM2_PolicyNV that compares `DATA` with the index that has this
+    Name.
+    """
     compared = frames.policy_nv(DATA)[2:]  # the hashed bytes have no size
     return policy.after_nv(SHA256, old, compared, name)
 
@@ -43,12 +45,12 @@ class GroundsCaller(PolicyTeller):
     def sealed_object(
         self, what, auth_policy=b"", attributes=HERE, algorithm=SHA256, value=PIN, by=RH_PLATFORM
     ):
-        """Makes sealed data, and returns their handle. The platform's survive TPM2_Clear."""
+        """Creates sealed data, and returns its handle. Data of the platform survives TPM2_Clear."""
         template = sealed(algorithm, attributes, auth_policy=auth_policy)
         return self.create_primary(what, by, template, user_auth=value, data=SECRET)
 
     def index(self, what, attributes, auth_policy=b"", value=PIN):
-        """Defines an index of the owner, and returns its handle. The index is not written yet."""
+        """Defines an index for the owner, and returns its handle."""
         public = area(next(self.free_indices), attributes, auth_policy=auth_policy)
         return self.define(what, public, auth=value)
 
@@ -74,7 +76,7 @@ class GroundsCaller(PolicyTeller):
     # Methods that make assertions in a policy session.
 
     def asserts(self, what, *told):
-        """Makes the assertions in the given order."""
+        """Makes the assertions in this order."""
         self.says(f"{what}: SUCCESS", *told)
 
     def asserts_code(self, session, code=CC.Unseal):
@@ -90,7 +92,7 @@ class GroundsCaller(PolicyTeller):
     # Methods that send commands.
 
     def tries_are(self, what, tries):
-        """Checks the number of failed tries, by TPM2_GetCapability."""
+        """Checks the number of failed tries with TPM2_GetCapability."""
         asked = self.capability(PROPERTIES, LOCKOUT_COUNTER, 1)
         others_follow, given = b"\1", number(LOCKOUT_COUNTER, 4) + number(tries, 4)
         wanted = others_follow + number(PROPERTIES, 4) + number(1, 4) + given
@@ -104,5 +106,5 @@ class GroundsCaller(PolicyTeller):
             assert played.outcome.row.check == check, words
 
     def lost(self, words, *prepared):
-        """Sends commands that G9 must refuse. G9 checks the entries that authorize."""
+        """Sends commands that must be refused by G9, which checks the entries that authorize."""
         self.refused_by("G9", words, *prepared)

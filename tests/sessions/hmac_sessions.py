@@ -13,7 +13,7 @@ tpm = PolicyTeller(__name__, __doc__)
 
 
 def other_entry(words, name, *values):
-    """Sends the right command with other values of one part of its entry."""
+    """Sends the right command with other values in one part of its entry. It must be refused."""
     tpm.refused(words, *(right.but_entry(1, **{name: it}) for it in values))
 
 
@@ -32,7 +32,7 @@ for bind, words in (
         )
         session = tpm.start("TPM2_StartAuthSession", bind, algorithm)
         right = tpm.change_auth(RH_OWNER, AUTH, session)
-        # Changes one bit in each part of an authorized TPM2_HierarchyChangeAuth.
+        # Changes each part of the entry of an authorized TPM2_HierarchyChangeAuth.
         entry = right.entries[0]
         hmac, nonce = entry.hmac, entry.nonce
         case = "A wrong hmac: in its last byte, in its first, of half the length, and of no bytes"

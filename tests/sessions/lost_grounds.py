@@ -354,7 +354,7 @@ lost("The value is there in plain: AUTH_FAIL/s1", by_password())
 tpm.does("The value is in the key", by_value())
 demanding = handle
 
-# Right commands that are refused, because the failed tries of this script lock the device.
+# Right commands that are refused, because the failed tries of this script have caused a lockout.
 tpm.chapter("LOCKOUT. Who would compare the value of a protected entity is refused.")
 bound = tpm.start("A session bound to the object", openly)
 tpm.set_protection("maxTries is 1, and there were more", 1, 1000, 1)

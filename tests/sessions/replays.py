@@ -14,7 +14,7 @@ from tests.sessions.grounds_caller import AFTER_AUTH_VALUE, DATA, GroundsCaller,
 VALUE, LOCKOUT_AUTH, OTHER_DATA = b"a", b"lockout", b"to write"
 RECOVERY = 1_000_000  # milliseconds of recoveryTime and lockoutRecovery of a new device
 
-# Random bytes that the device gets more than once.
+# Random bytes that are used more than once.
 SEED, OTHER_SEED = b"\xa1", b"\xb2"
 
 tpm = GroundsCaller(__name__, __doc__)
@@ -28,8 +28,8 @@ def with_random(what, seed, prepared):
 
 
 class Start:
-    """A TPM2_StartAuthSession with random bytes from a seed. Its session can be started again, with
-    the same buffer or with another nonce.
+    """A TPM2_StartAuthSession with certain random bytes. Its session can be started again, with the
+    same buffer or with another nonce.
     """
 
     def __init__(self, what, bind=RH_NULL, kind=SE_HMAC):
@@ -48,18 +48,18 @@ class Start:
         self.again()
 
     def again(self):
-        """Starts the session again. Its state is then the same as at first."""
+        """Starts the session again. Its state must then be the same as after the first start."""
         what = "TPM2_StartAuthSession with the same bytes, and the same random bytes"
         assert self.sent(what, SEED, self.nonce) == self.at_first
         self.session.nonce_tpm = self.at_first.nonce_tpm
 
     def otherwise(self, what, seed=SEED, nonce=None):
-        """Starts another session in the same slot. The caller does not use it."""
+        """Starts another session in the same slot, which the caller does not use."""
         assert self.sent(what, seed, nonce or self.nonce).handle == self.session.handle
 
 
 def again(words, prepared, check="G9"):
-    """Sends a command again. This check must refuse it."""
+    """Sends a command again. It must be refused by this check."""
     tpm.refused_by(check, words, prepared)
 
 
@@ -70,7 +70,7 @@ def accepted(what, prepared):
 
 
 def replayed(what, prepared, refusal, check="G9"):
-    """Sends a command for the first time, and then again."""
+    """Sends a command twice. It must be accepted first, and then refused."""
     again(f"The same again: {refusal}", accepted(what, prepared), check)
     return prepared
 
@@ -84,7 +84,7 @@ said = tpm('An index with AUTHWRITE and AUTHREAD, whose value is "a"')
 assert FIRST == said.index(BY_VALUE, value=VALUE)
 tpm.does("It is written, so that its Name stays from here on", write(VALUE))
 
-# An unbound session, and one of its accepted commands.
+# An unbound session, and its accepted commands.
 tpm.chapter("A PROTECTED INDEX. It is no index with NO_DA, so each wrong entry is a try.")
 start = Start("TPM2_StartAuthSession of an HMAC session, bound to nothing")
 session = start.session

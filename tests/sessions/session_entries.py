@@ -19,7 +19,7 @@ def entry(session, attributes=STAYS, nonce=b"", hmac=b""):
 
 
 def with_entries(code, handles, parameters):
-    """Returns a function that makes the command with any entries, whatever their HMACs are."""
+    """Returns a function that makes the command with any entries, without computing HMACs."""
     prepared = tpm.prepare(code, handles, parameters)
     return lambda *entries: prepared.but(entries=list(entries))
 

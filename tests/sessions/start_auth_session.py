@@ -23,17 +23,17 @@ def start(**changes):
 
 
 def refused(words, *choices):
-    """Sends the command with each of these choices."""
+    """Sends the command with each of these sets of values. It must be refused."""
     tpm.raw(words, *(start(**it) for it in choices))
 
 
 def each(words, name, *values):
-    """Sends the command with each of these values of one choice."""
+    """Sends the command with each of these values of one field."""
     refused(words, *({name: it} for it in values))
 
 
 def start_text(**changes):
-    """Returns the parameters with these choices."""
+    """Returns the parameters of the command with these values."""
     return frames.start_auth_session(**{"nonce": NONCE, **changes})[1]
 
 
@@ -48,7 +48,7 @@ def texts(words, *those):
 
 
 def ciphers(words, *those, rest=number(SHA256, 2)):
-    """Sends the command with these bytes as the parameter symmetric. `rest` is authHash."""
+    """Sends the command with these bytes as its parameter symmetric. `rest` is authHash."""
     texts(words, *(sized(NONCE) + sized(b"") + b"\0" + it + rest for it in those))
 
 

@@ -1,14 +1,14 @@
-"""Writes three scripts of three callers of one device. Each caller does one thing. The first one
-measures into PCR 10 and reads it. The second one has data unsealed by a policy on PCR 10. The
-third one writes an NV index in an HMAC session, and sends one command again. The callers take
-turns, take turns in reverse order, or come one after another:
+"""Writes three scripts in which three callers use one device. The first caller measures into PCR 10
+and reads it. The second one has data unsealed with a policy on PCR 10. The third one writes an NV
+index in an HMAC session, and sends one command again. The callers take turns, take turns in reverse
+order, or come one after another:
 
     tests/sessions/callers_in_turn.tpm
     tests/sessions/callers_in_reverse_turn.tpm
     tests/sessions/callers_one_after_another.tpm
 
 The response to each command depends on the commands that were accepted before it. After each
-command the device is compared with the state that its history determines. The response to
+command, the device is compared with the state that its history determines. The response to
 TPM2_PCR_Read is compared too.
 """
 
@@ -30,7 +30,7 @@ ONCE_WRITTEN = Attribute.AUTHREAD | Attribute.AUTHWRITE
 
 
 class Stage:
-    """A script of several callers, and the history of its device."""
+    """A script of several callers, and the history of the device."""
 
     def __init__(self, name, head):
         self.script, self.history = Script(__file__, head, name), History()
@@ -72,7 +72,7 @@ def measuring(stage, caller):
 
 
 def unsealing(stage, caller):
-    """Unseals data by a policy on the value that PCR 10 has after one extend with zeros."""
+    """Unseals data with a policy on the value of PCR 10 after it was extended once with zeros."""
     parent = caller.create_primary("The second caller makes a storage key", RH_OWNER, storage_key())
     yield
     template = sealed(attributes=HERE | ObjectAttribute.NO_DA, auth_policy=AUTH_POLICY)
@@ -107,7 +107,9 @@ PLAYS = measuring, unsealing, replaying
 
 
 def interleaved(plays, is_in_turn):
-    """Has the callers send one command each, in turn; or has each caller continue to its end."""
+    """Yields after each command. Either each caller sends one command in turn, or each sends all
+    its commands before the next caller.
+    """
     if not is_in_turn:
         for play in plays:
             yield from play

@@ -2,8 +2,8 @@
 XORed with a mask of the same size, KDFa(authHash, sessionKey || authValue, "XOR", nonceNewer,
 nonceOlder, bits).
 
-Each mask is computed here only by hashlib and hmac, without sessions.py: parameters are masked by
-hand, and answers are compared byte for byte.
+Each mask is computed only with hashlib and hmac, without sessions.py. Parameters are masked here,
+and responses are compared byte for byte.
 """
 
 import hashlib
@@ -20,15 +20,16 @@ BOTH = DECRYPTS | ENCRYPT
 HASHES = {SHA1: hashlib.sha1, SHA256: hashlib.sha256}
 OWNER_AUTH = b"owner"
 
-# Sizes of a first buffer: none, one byte, the sizes of digests and one byte more, and the maximum.
+# Sizes of a first parameter: none, one byte, the sizes of digests and one byte more, and the
+# maximum.
 SIZES = 0, 1, 20, 21, 32, 33, 1024
 
 tpm = Teller(__name__, __doc__, tries=True)
 
 
 def mask(use, newer, older, size, auth_value):
-    """Computes the mask by SP 800-108 in counter mode, with HMAC. Each block is the HMAC of i,
-    "XOR", 0, both nonces, and the number of bits.
+    """Computes the mask, with HMAC in the counter mode of SP 800-108. Each block is the HMAC of its
+    number, "XOR", 0, both nonces, and the number of bits.
     """
     key, given, block = use.session.key + auth_value, b"", 0
     while len(given) < size:
@@ -44,26 +45,26 @@ def exclusive_or(left, right):
 
 
 def first_buffer(text):
-    """Returns the first buffer of parameters, without its size."""
+    """Returns the content of the first sized buffer in some parameters."""
     return text[2 : 2 + int.from_bytes(text[:2], "big")]
 
 
 def is_masked(prepared, plain, place=1, auth_value=b""):
-    """Checks that a command's first buffer is the plain bytes, masked with both nonces."""
+    """Checks that a command's first parameter is `plain`, masked with both nonces."""
     use = prepared.uses[place - 1]
     wanted = mask(use, use.nonce, use.session.nonce_tpm, len(plain), auth_value)
     assert first_buffer(prepared.parameters) == exclusive_or(plain, wanted)
 
 
 def masking(what, prepared, plain, place=1, auth_value=b""):
-    """Sends a command whose first buffer is masked. It must be accepted. Returns its response."""
+    """Sends a command with a masked first parameter. It must be accepted. Returns its response."""
     is_masked(prepared, plain, place, auth_value)
     return tpm.accepted(what, prepared)[1]
 
 
 def masked(what, prepared, plain, place=1, auth_value=b""):
-    """Checks the same for a response. Its mask depends on the device's new nonce and the caller's
-    nonce.
+    """Sends a command, and checks that the first parameter of its response is `plain`, masked with
+    the device's new nonce and the caller's nonce.
     """
     use = prepared.uses[place - 1]
     tpm.accepted(what, prepared)
@@ -74,15 +75,13 @@ def masked(what, prepared, plain, place=1, auth_value=b""):
 
 
 def drawn(count):
-    """Returns the first random bytes of TPM2_GetRandom, which come from the next seed."""
+    """Returns the random bytes that the next TPM2_GetRandom returns, from the next seed."""
     seed = hashlib.sha256(b"entropy %d" % (tpm.script.seeds + 1)).digest()[:SEED_BYTES]
     return (seed * RANDOM_BYTES)[:count]
 
 
 def both_ways(what, attributes, *more, to, back, auth_values):
-    """Sends TPM2_HMAC. Entry number `to` masks its data, and entry number `back` masks its
-    response.
-    """
+    """Sends TPM2_HMAC. Entry number `to` masks its data, and entry number `back` its response."""
     prepared = tpm.hmac(key, TEXT, SHA256, Use(session, attributes), *more)
     is_masked(prepared, TEXT, to, auth_values[0])
     masked(what, prepared, KNOWN, back, auth_values[1])

@@ -1,5 +1,5 @@
-"""A device of the program that replaces swtpm (caller.c). That program reads commands from lines
-and prints the responses. The device's states are files in its working folder.
+"""A device in the program of caller.c, which calls libtpms.so.0 instead of swtpm. The program reads
+commands as lines, and prints the responses. The device's states are files in its working folder.
 """
 
 import pathlib
@@ -15,7 +15,8 @@ class Answered(NamedTuple):
 
 
 class Called:
-    """A caller with a library, in a folder. Its environment has only these variables."""
+    """A running caller with a library, in a folder. Its environment contains only these variables.
+    """
 
     def __init__(
         self, caller: str, library: str, folder: str | pathlib.Path, **variables: str
@@ -41,7 +42,9 @@ class Called:
         self.process.stdin.flush()
 
     def told(self, line: str, last: str | tuple[str, ...]) -> list[str]:
-        """Returns the answer to a line, up to an answer line that begins with `last`."""
+        """Sends a line. Returns the lines of the answer, up to the first one that begins with
+        `last`.
+        """
         assert self.process.stdout
         self.say(line)
         said: list[str] = []
@@ -53,7 +56,7 @@ class Called:
         return said
 
     def number(self, line: str, name: str) -> int:
-        """Returns the number that a call returned."""
+        """Sends a line. Returns the result of the called function, which is a number."""
         return int(self.told(line, f"{name}: ")[-1].split(": ")[1].split(",")[-1])
 
     def done(self, line: str, name: str) -> None:
@@ -74,7 +77,7 @@ class Called:
         self.process.stdout.close()
 
     def resume(self) -> None:
-        """Saves the device, ends its process, and continues in another process."""
+        """Saves the device, ends its process, and continues the device in another process."""
         self.done("save volatile", "VolatileAll_Store")
         self.done("get permanent permanent", "GetState")
         self.end()

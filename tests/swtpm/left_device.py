@@ -1,6 +1,6 @@
-"""A device that is stopped with a bound and an unbound HMAC session, a policy session, objects,
-contexts of the completing layer, and a launch. Also the commands that it must accept when it
-continues.
+"""A device that is stopped while it has a bound and an unbound HMAC session, a policy session,
+objects, contexts of the completing layer, and a launch. Also the commands that it must accept when
+it continues.
 """
 
 from tests.swtpm.called import Called
@@ -15,7 +15,7 @@ BY_POLICY = Attribute.FIXED_TPM | Attribute.FIXED_PARENT | Attribute.NO_DA
 
 
 def succeeded(device: Called, buffer: bytes) -> bytes:
-    """Returns the bytes after the header of a response, which must be a success."""
+    """Executes a command, which must succeed. Returns the response without its header."""
     response = device.execute(buffer).response
     if any(response[6:10]):
         raise ValueError(f"{buffer.hex()} is answered {response.hex()}")
@@ -23,8 +23,9 @@ def succeeded(device: Called, buffer: bytes) -> bytes:
 
 
 class LeftDevice:
-    """A device with these entities. `loads` are the commands that load the contexts. An older
-    library saves no object, since its contexts of objects differ from those of a later one.
+    """A device with sessions, objects and contexts. `loads` are the commands that load the
+    contexts. With an older library no object is saved, because later libraries have other contexts
+    of objects.
     """
 
     def __init__(self, device: Called, is_older: bool = False) -> None:
@@ -61,7 +62,7 @@ class LeftDevice:
         self.tpm.send(self.writing(data))
 
     def buffers(self) -> list[bytes]:
-        """Returns the commands that must succeed now, in this order."""
+        """Returns the commands that must succeed next, in this order."""
         last = self.tpm.unsealing(self.data, self.judged), self.tpm.reset(self.free)
         writing, unsealing, resetting = (it.buffer() for it in (self.writing(b"goes on."), *last))
         return [writing, unsealing, *self.loads, resetting]

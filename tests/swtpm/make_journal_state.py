@@ -1,12 +1,12 @@
-"""Writes tests/swtpm/journal_state: the states of a running device, and the commands that the
-device must accept afterwards. A library left the states whose volatile state was its journal. It
-also left those of journal_of_objects, in which TPM2_ContextSave of an object was executed:
+"""Writes tests/swtpm/journal_state: the states of a running device, and the commands that it must
+accept afterwards. They come from an older library, whose volatile state is its journal. The same
+library made journal_of_objects, where the journal has a TPM2_ContextSave of an object:
 
     tools/python.sh tests/swtpm/make_journal_state.py CALLER LIBRARY SHIM
 
 CALLER is the program of caller.c, LIBRARY is such a libtpms.so.0, and SHIM is built from
-common/clock.c. Power came on when the clock was at 1,000 seconds. The last command came at 1,009
-seconds. The files are never written again.
+common/clock.c. The power comes on when the clock is at 1,000 seconds. The last command comes at
+1,009 seconds. The files must never be written again.
 """
 
 import pathlib

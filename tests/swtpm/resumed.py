@@ -1,5 +1,5 @@
-"""Stops a running device, and continues it in other processes. Each of its sessions is used before
-and after, objects stay, and contexts are loaded:
+"""Stops a running device, and continues it in other processes. Afterwards its sessions, objects and
+contexts must still be usable:
 
     resumed.py CALLER LIBRARY FOLDER
 """

@@ -1,13 +1,13 @@
-"""Suspends and resumes devices under swtpm at random, and compares them with devices that never
-are:
+"""Suspends and resumes devices at random, as swtpm does, and compares them with devices that are
+never suspended:
 
     tools/python.sh tests/swtpm/suspended.py CALLER LIBRARY SHIM FIRST LAST COUNT
 
-CALLER is the program of caller.c, LIBRARY is a libtpms.so.0, and SHIM is built from
-common/host.c. The scripts of the seeds FIRST to LAST have COUNT commands each. For half of them
-the Python device computes the response to each command, and the state text. The other half come
-from a caller with the completing layer; a device that is not suspended gives the expected
-responses. A device that is resumed continues in another process.
+CALLER is the program of caller.c, LIBRARY is a libtpms.so.0, and SHIM is built from common/host.c.
+The scripts of the seeds FIRST to LAST have COUNT commands each. For half of them the Python device
+computes the expected responses and state texts. The other half use the completing layer, and a
+device that is not suspended determines the expected responses. A device that is resumed continues
+in another process.
 """
 
 import pathlib
@@ -49,7 +49,7 @@ class Host:
 
 
 class Pair:
-    """The devices on which a script is played, in a folder."""
+    """The devices in a folder that play a script."""
 
     def __init__(self, words: list[str], folder: str, completes: bool, is_twin: bool) -> None:
         caller, library, shim = words
@@ -75,8 +75,8 @@ class Pair:
             device.say(f"loc {number}")
 
     def cycle_power(self) -> None:
-        """Cycles the power, and keeps the device's present permanent state. The stored state has an
-        older Clock.
+        """Power-cycles the devices. Each continues with its present permanent state, because the
+        stored one has an older Clock.
         """
         for device in self.devices:
             device.done("get permanent permanent", "GetState")
@@ -102,7 +102,8 @@ class Pair:
 
 
 def of_device(pair: Pair, chance: random.Random, count: int) -> Iterator[list[bytes]]:
-    """Yields each response with that of the Python device, and the state texts at each suspend."""
+    """Yields each response with that of the Python device, and the state texts at each suspension.
+    """
     writer, played = random_script.Writer(chance.randrange(2**32)), 0
     locality, seed, elapsed = 0, b"", 0
     for _ in range(count):

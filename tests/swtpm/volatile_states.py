@@ -5,7 +5,7 @@
     volatile_states.py bend FILE FOLDER
 
 `read` prints the content of a state. `time` prints whether its time is within the last few minutes.
-`bend` writes altered states into a folder, and prints the files' names.
+`bend` writes altered states to a folder, and prints the names of the files.
 """
 
 import hashlib
@@ -17,7 +17,8 @@ from typing import Iterator
 from tpmsim.model import image, state_text
 from tpmsim.standard import number
 
-# The sizes of the parts after the text: the time, whether there was a launch, and the digest.
+# The sizes of the time, of the whole tail, and of a digest. The tail follows the state text. It
+# consists of the time, the number of launches, and a digest.
 TIME_BYTES, TAIL_BYTES, DIGEST_BYTES = 8, 41, 32
 HEAD_BYTES = 10
 

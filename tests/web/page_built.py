@@ -1,5 +1,5 @@
-"""Checks dist/tpmsim.html without a browser: page_built.py PAGE CSS. It prints a line for each
-check. The status is 1 if a check fails.
+"""Checks dist/tpmsim.html without a browser: page_built.py PAGE CSS. Prints a line for each check.
+The status is 1 if a check fails.
 """
 
 import base64
@@ -99,7 +99,7 @@ def broken_links(facts):
             yield link
 
 
-# Contrast (WCAG 2.1, success criterion 1.4.3, level AA).
+# Contrast, according to WCAG 2.1, success criterion 1.4.3, level AA.
 
 TEXTS = {
     "ink": ("ground", "panel", "tint", "bad-tint", "byte", "byte-odd"),

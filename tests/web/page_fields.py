@@ -1,5 +1,5 @@
-"""Prints the commands of the scripts of tests/ and examples/ with their responses, as lines of
-JSON. Also prints the fields of both by tpmsim.explain. page_fields.mjs compares the page's
+"""Prints lines of JSON. Each contains a command of the scripts of tests/ and examples/, its
+response, and the fields of both according to tpmsim.explain. page_fields.mjs compares the page's
 fields with these.
 """
 

@@ -21,7 +21,7 @@ SECONDS = 120
 
 
 class Firefox:
-    """A browser that answers requests. They are JSON messages with their size before them."""
+    """A browser that answers requests, which are JSON messages after their size."""
 
     def __init__(self, port: int) -> None:
         self.stream = connected(port)
@@ -48,7 +48,7 @@ class Firefox:
         return value
 
     def value(self, script: str) -> Any:
-        """Returns the value of a script in the page. The value may be a promise."""
+        """Returns the value of a script that runs in the page, or the value of its promise."""
         words = "const done = arguments[arguments.length - 1]; Promise.resolve().then(async () => {"
         text = f"{words} {script} }}).then(done, (fault) => done(`fault: ${{fault}}`));"
         return self.asks("WebDriver:ExecuteAsyncScript", script=text, args=[])["value"]

@@ -1,6 +1,6 @@
 """Prints the scripts of tests/ and examples/ in which sessions encrypt, as lines of JSON. Each line
-has the decrypted first parameter of each command and response, by its line in the script, as the
-Python device decrypts it. page_plain.mjs compares the page's values with these.
+contains the decrypted first parameters of commands and responses, by their lines in the script, as
+the Python device decrypts them. page_plain.mjs compares the page's values with these.
 """
 
 import json
@@ -39,8 +39,8 @@ class Watched(Model):
 
 
 def plain_of(script):
-    """Returns the decrypted first parameters of commands and of responses, by their lines. The
-    first line has the number 0.
+    """Returns the decrypted first parameters of commands, and those of responses, by line number
+    from 0.
     """
     device, asked, answered = Watched(), {}, {}
     for step in steps_of(script):
