@@ -21,8 +21,9 @@ pub struct Completion {
 }
 
 impl Completion {
-    /// The layer after a start, before it has saved any context. If the number differs at each
-    /// start, like the host's clock, contexts of earlier starts are not loaded.
+    /// The state of the layer after a start, before it has saved any context. If each start has
+    /// another number, such as the time of the host's clock, contexts of earlier starts are not
+    /// loaded.
     pub fn of_start(start: u64) -> Completion
         ensures { result ≡ new_completion start }
     {
@@ -33,7 +34,7 @@ impl Completion {
         }
     }
 
-    /// The layer after a start with the number 0.
+    /// The state of the layer after a start with the number 0.
     pub fn new() -> Completion
         ensures { result ≡ new_completion 0 }
     {
