@@ -61,7 +61,8 @@ module _ (indices : ℕ → Bool) (objects : Public → Bool) where
   sets_alike : (r t : Record) → DifferInSecrets s r t → SetAlike r t
   sets_alike r t differ = ap (λ (x : Record). values_set x.fixed.hierarchies) differ
 
-  -- whether the answer after an effect is the context of an object that has a secret
+  -- whether the layer's answer after a command's effect is the context of an object that has a
+  -- secret
   abbrev is_saved : Seen → List ℕ → Bool
   is_saved x buffer = saves_secret s x.step.after x.layer buffer x.step.response
 

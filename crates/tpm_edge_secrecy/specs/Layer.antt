@@ -30,7 +30,7 @@ use Rattle.tpm_types_object.specs.declared.public.Public.{Public}
 
 -- ---- which contexts hold secrets
 
--- whether an object has a secret: its authorization value; or its sealed data or HMAC key
+-- whether an object has a secret authorization value, secret sealed data or a secret HMAC key
 abbrev pub has_secret : Secrecy → Object → Bool
 has_secret s o = s.object_values o.public || has_secret_data s o
 

@@ -1,5 +1,5 @@
 -- The frame of an image, and of any text that encodes a device: a head before the body, and a
--- digest after both. The formats are this device's own.
+-- digest after both. The formats are specific to this device.
 use Rattle.std.specs.Prelude.{ℕ, ◌+◌, ◌-◌, ◌==◌, nat_lt, not, List, [], ◌∷◌, ◌++◌, length, take, drop}
 use Rattle.std.specs.Prelude.{ok_or, Option, Result, Ok}
 use Rattle.std.specs.Int.{w16, w32, from_be_bytes, to_be_bytes}

@@ -1,4 +1,4 @@
--- The largest sizes of the parts of an image, in bytes, by the limits of the device.
+-- The largest sizes of the parts of an image, in bytes. They follow from the limits of the device.
 use Rattle.std.specs.Prelude.{ℕ, ◌+◌, ◌*◌}
 use Rattle.tpm_types.specs.Limits.{nv_index_limit, nv_space_limit, persistent_limit}
 

@@ -55,8 +55,8 @@ pub fn buffer_laws()
     ensures longer { LongerAreRefusedAlike }
 {}
 
-/// A damaged journal that is truncated at the damage can be executed to its end, and yields the
-/// same device. All answers before the damage match their entries.
+/// If a damaged journal is truncated at the damage, it can be executed to its end. The resulting
+/// device is the same, and all answers match their entries.
 #[inline(always)]
 #[tactic(auto, using(crate::proofs::Damage::front_is_followed))]
 pub fn damage_laws()

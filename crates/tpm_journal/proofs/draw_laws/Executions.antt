@@ -17,7 +17,8 @@ use Rattle.tpm_journal.specs.draw_laws.Bytes.{AgreeOnDrawn, replayed, zeros_behi
 use Rattle.tpm_journal.proofs.draw_laws.Fronts.{front_kept}
 use Rattle.tpm_journal.proofs.draw_laws.Steps.{AcceptedAlike, accepted_alike, drawn_alike, fronts, nonces_alike, where_alike, with_other}
 
--- a success that stays within the limits (`IsModest`) also does so with other random bytes
+-- a success that stays within the limits (`IsModest`) also stays within them with other random
+-- bytes
 modest_alike : (a b : Result Accepted RefusedCommand) (random other : List ℕ) → length other ≡ length random → AcceptedAlike random other a b
     → take (drawn_by_command random a 0) other ≡ take (drawn_by_command random a 0) random
     → (x : Accepted) × (a ≡ Ok x) × IsModest random x → (x : Accepted) × (b ≡ Ok x) × IsModest other x

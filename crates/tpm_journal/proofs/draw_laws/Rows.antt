@@ -1,5 +1,5 @@
--- Five rows read random bytes. Each of them reads only the first bytes, and reports their number as
--- drawn. The other rows read none.
+-- Five rows read random bytes. Each of them reports as drawn how many of the first bytes it reads,
+-- and reads no others. The other rows read none.
 use Rattle.std.proofs.Common.{◌≡◌, ◌+◌, ℕ, List, None, Some, take, slice_set, Result, Ok, Err, refl, ap, arith}
 use Rattle.std.specs.Prelude.{min}
 use Rattle.std.specs.Int.{w16}
@@ -75,7 +75,7 @@ use Rattle.tpm_actions_device.specs.StartAuthSession.{start_auth_session_row}
 use Rattle.tpm_actions_device.specs.Startup.{startup_row}
 use Rattle.tpm_actions_object.specs.Unseal.{unseal_row}
 
--- a result that does not depend on random bytes is the same with any others
+-- a result that does not depend on random bytes is the same with all random bytes
 acts_same : (random other : List ℕ) (acts : Result Success Refused) → ActsAlike random other acts acts
 acts_same random other (Ok s) = λ same. refl
 acts_same random other (Err e) = refl
