@@ -89,7 +89,7 @@ by_stands : (r : Record) (c : Completion) (buffer response : List ℕ) (was_told
 by_stands r c buffer response was_told (Ok command) gap none = command_stands r c command response was_told gap none
 by_stands r c buffer response was_told (Err e) gap none = probe_stands c buffer response gap
 
--- no object is loaded unless the device refused the command with COMMAND_CODE
+-- no object is loaded if the response is not one of the refusals in `is_gap`
 none_asked : (r : Record) (buffer response : List ℕ) → is_gap response ≡ false → context_asked r buffer response ≡ None
 unfolding context_asked
 none_asked r buffer response gap =

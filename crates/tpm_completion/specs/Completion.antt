@@ -16,7 +16,7 @@ new_completion start =
 abbrev pub session_context : Completion → ℕ → ℕ
 session_context c place = get_or c.sessions place 0
 
--- the number of the context of the session in a slot, or 0 if the device has no session there
+-- the context number of the session in a slot, or 0 if the device has no session there
 unfoldable pub session_kept : Record → Completion → ℕ → ℕ
 session_kept r c place = if is_some (at_place r.sessions place) then session_context c place else 0
 

@@ -1,5 +1,5 @@
--- How the completing layer handles one event: which events the device executes, what the client
--- gets, and the layer's new state.
+-- How the completing layer handles one event: what the device executes, what the client gets, and
+-- the layer's new state.
 use Rattle.std.specs.Prelude.{◌≡◌, ℕ, ◌==◌, Bool, true, false, List, Option, Some, None, Result, Ok, Err}
 use Rattle.tpm_machine.specs.Follows.{After, Follows}
 use Rattle.tpm_machine.specs.Drawn.{drawn_by}

@@ -102,7 +102,7 @@ values_set h =
     + attribute_if (is_set h.lockout_auth) 4
 
 -- TPMA_PERMANENT: the attributes of `values_set`, disableClear, inLockout and tpmGeneratedEPS (the
--- device draws its seeds like all its random bytes)
+-- device draws its seeds from its random bytes)
 abbrev pub permanent_attributes : Fixed → ℕ
 permanent_attributes f =
     values_set f.hierarchies + attribute_if f.disable_clear 0x100

@@ -39,7 +39,7 @@ next_number c = if nat_lt c.count (2 ^ 64 - 1) then Some (c.count + 1) else None
 abbrev pub counted : Completion → (number : ℕ) → Completion
 counted c number = record c { count = number }
 
--- the reply with a refusal; the layer's state is unchanged
+-- the reply that refuses the command with this code; the layer's state is unchanged
 abbrev pub refused : Completion → ℕ → Reply
 refused c code = record { response = refusal code; after = c }
 
@@ -54,8 +54,8 @@ binding_of r c = record {
   restart_count = r.fixed.restart_count;
 }
 
--- the reply with the context of an object, whose sequence is the next number, or TOO_MANY_CONTEXTS
--- (12E) if no number is left. The object stays loaded.
+-- the reply with an object's context, whose sequence is the next number; TOO_MANY_CONTEXTS (12E) if
+-- no number is left. The object stays loaded.
 abbrev pub object_numbered : Record → Completion → Object → Option ℕ → Reply
 object_numbered r c object (Some number) = record {
   response = success (object_context_text r.fixed.hierarchies (binding_of r c) number object);

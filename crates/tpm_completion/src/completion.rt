@@ -41,7 +41,7 @@ impl Completion {
         Completion::of_start(0)
     }
 
-    /// The number of the context of the session in a slot, or 0 if the session is loaded.
+    /// The context number of the session in a slot, or 0 if the session is loaded.
     pub(crate) fn session(&self, place: usize) -> u64
         ensures { result ≡ session_context self.now place }
     {
@@ -52,8 +52,8 @@ impl Completion {
         }
     }
 
-    /// The number of the context of the session in a slot, or 0 if the device no longer has a
-    /// session there.
+    /// The context number of the session in a slot, or 0 if the device no longer has a session
+    /// there.
     #[tactic(auto, unfolding(crate::specs::Completion::session_kept))]
     fn session_kept<K: Keep>(&self, keep: &K, place: usize) -> u64
         requires { place < session_limit }

@@ -10,8 +10,8 @@ pub fn device_first()
     ensures { DeviceFirst }
 {}
 
-/// If a device follows a history, it then follows that history extended by all executions for an
-/// event, with or without the layer.
+/// If a device follows a history, after an event it follows that history extended by all executions
+/// for the event, with or without the layer.
 pub fn runs_follow()
     ensures { RunsFollow }
 {}

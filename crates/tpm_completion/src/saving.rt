@@ -47,7 +47,7 @@ impl Completion {
         }
     }
 
-    /// Answers with the context of a session, which has this number.
+    /// Answers with the context that has this number, of the session with this handle.
     fn give_context(&self, handle: Handle, context: u64, text: &mut Response)
         ensures { record { response = text.new.items; after = self.now }
             ≡ context_given self.now handle context }

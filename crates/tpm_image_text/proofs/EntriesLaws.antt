@@ -31,7 +31,7 @@ module _ {X : Type 0} (at : List ℕ → Result ((ℕ × X) × List ℕ) Malform
       refused_if (not (nat_le low first.0.0)) malformed >>= λ in_order.
       entries_from count (first.0.0 + 1) first.1 >>= before first.0
 
-  -- testing that all entries ascend is the same as testing the first one and then the others
+  -- testing whether all keys ascend is the same as testing the first key and then the others
   one_passes : (in_order : Bool) (e : ℕ × X) (others : Result (Entries X × List ℕ) Malformed) (low : ℕ) → nat_le low e.0 ≡ in_order → (others >>= before e >>= passed_from low) ≡ (refused_if (not in_order) malformed >>= λ first. others >>= passed_from (e.0 + 1) >>= before e)
   one_passes true e (Err fault) low is = refl
   one_passes false e (Err fault) low is = refl

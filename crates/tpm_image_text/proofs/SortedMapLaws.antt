@@ -1,5 +1,4 @@
--- Entries in an image: the consequences of the test for ascending keys, and the properties of each
--- entry.
+-- Entries in an image: what follows if their keys ascend, and the properties of each entry.
 use Rattle.std.proofs.Common.{◌≡◌, ℕ, ◌+◌, ◌<◌, Bool, true, false, [], ◌∷◌, refl, arith}
 use Rattle.std.specs.Prelude.{◌&&◌, nat_le}
 use Rattle.std.specs.List.{AllByRecursion}

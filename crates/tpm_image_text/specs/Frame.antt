@@ -58,7 +58,7 @@ number_of text = from_be_bytes w16 (take 2 (drop 4 text))
 abbrev pub length_of : List ℕ → ℕ
 length_of text = from_be_bytes w32 (take 4 (drop 6 text))
 
--- the part of a text before the digest, and the digest
+-- the part of a text before the digest; below, the digest
 abbrev pub before_digest : List ℕ → List ℕ
 before_digest text = take (length text - digest_bytes) text
 

@@ -12,7 +12,7 @@ abbrev pub state_size : ℕ
 state_size = 1269
 
 -- the largest sizes of an object, of a persistent object with its handle, and of all persistent
--- objects preceded by their number
+-- objects preceded by their count
 abbrev pub object_fields_size : ℕ
 object_fields_size = 326
 
@@ -23,7 +23,7 @@ abbrev pub objects_size : ℕ
 objects_size = 2 + persistent_limit * object_size
 
 -- the largest sizes of an NV index without its data, of all indices with their data, and of all
--- indices preceded by their number
+-- indices preceded by their count
 abbrev pub index_size : ℕ
 index_size = 84
 

@@ -35,9 +35,9 @@ pub struct Followed {
 /// The result of processing the beginning of a text.
 #[derive(Clone, Copy)]
 pub(crate) enum Deed<'a> {
-    /// An entry of `size` bytes of text was executed, and the answer matches it.
+    /// An entry of `size` bytes of text was executed, and the answer matches the recorded one.
     Executed { entry: Entry<'a>, size: usize },
-    /// An entry of `size` bytes of text was executed, and the answer differs from it.
+    /// An entry of `size` bytes of text was executed, but the answer differs from the recorded one.
     Otherwise { entry: Entry<'a>, size: usize },
     /// The text is torn: it is shorter than an entry, not counting zeros at its end.
     Torn,

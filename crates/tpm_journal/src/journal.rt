@@ -36,7 +36,7 @@ use tpm_state_text::{Layer, StateBody, write_state};
 use tpm_step::{Event, Outcome};
 use tpm_types::Locality;
 
-/// The state of a journal in addition to its device.
+/// The state of a journal, apart from its device.
 #[derive(Clone, Copy, PartialEq, Eq)]
 pub struct Journal {
     /// The checksum of the marks of the head and all entries.

@@ -70,7 +70,7 @@ same_entry sum e f x y is other same =
 -- ---- entries
 
 -- If a text consists of entries and a torn end, any other parsing of the text finds the same
--- entries, or only the first ones of them.
+-- entries, or only the first of them.
 pub others_are_more : (sum : ℕ) (entries others : List PlainEntry) (rest left : List ℕ) → AllByRecursion IsEntry entries → AllByRecursion IsEntry others
     → entries_text sum entries ++ rest ≡ entries_text sum others ++ left → IsTorn (sum_after_all sum entries) rest
     → (more : List PlainEntry) × AllByRecursion IsEntry more × (entries ≡ others ++ more) × (left ≡ entries_text (sum_after_all sum others) more ++ rest)

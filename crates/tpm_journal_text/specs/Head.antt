@@ -1,5 +1,5 @@
--- The head of a journal: the host's clock, and the device at that time. The device is either its
--- image when power came on, or its whole state as a state text.
+-- The head of a journal: the host's clock, and the device at that time, either as its image when
+-- power came on, or as a state text with its whole state.
 use Rattle.std.specs.Prelude.{◌≡◌, ℕ, ◌+◌, ◌*◌, ◌≤◌, ◌<◌, ◌^◌, List, [], ◌∷◌, ◌++◌, codes, length, take}
 use Rattle.std.specs.Int.{w32, w64, to_be_bytes}
 use Rattle.hex.specs.Hex.{encode_lower}

@@ -35,8 +35,8 @@ pub fn snapshot_into<K: Keep>(
     tpm_state_text::snapshot_into(machine.keep(), layer, buffer)
 }
 
-/// Restores the machine of a state text into a machine just manufactured with all-zero random
-/// bytes, without moving it. Returns the completing layer, or the first fault of the text. On
+/// Replaces a machine just manufactured with all-zero random bytes by the machine that a state text
+/// encodes, without moving it. Returns the completing layer, or the first fault of the text. On
 /// error, the machine is unspecified.
 #[tactic(auto, using(crate::proofs::Restoring::new_again, crate::proofs::Restoring::has_follows))]
 pub fn restore_new<K: Keep>(
@@ -58,7 +58,7 @@ pub fn restore_new<K: Keep>(
     fill(machine, text)
 }
 
-/// Restores the machine that a state text encodes into a new machine. The contract does not mention
+/// Replaces a new machine by the machine that a state text encodes. The contract does not mention
 /// the device that wrote the text.
 fn fill<K: Keep>(machine: &mut Machine<K>, text: &[u8]) -> Result<Option<Layer>, RestoreFault>
     requires { state_of K.record_of machine.old ≡ manufactured (replicate 256 0) }

@@ -33,9 +33,9 @@ fn read_version<K: Keep>(
     }
 }
 
-/// Restores the device of a state text into a device just manufactured with all-zero random bytes,
-/// without moving it. Returns the completing layer, or the first fault of the text. On error, the
-/// device's state is unspecified.
+/// Replaces a device just manufactured with all-zero random bytes by the device that a state text
+/// encodes, without moving it. Returns the completing layer, or the first fault of the text. On
+/// error, the device's state is unspecified.
 pub fn restore_new<K: Keep>(keep: &mut K, text: &[u8]) -> Result<Option<Layer>, RestoreFault>
     requires { K.record_of keep.old ≡ manufactured (replicate 256 0) }
     ensures { RestoresNew K.can_refuse (state_of_text text.now) (K.record_of keep.new) result }

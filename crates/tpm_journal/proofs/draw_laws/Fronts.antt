@@ -10,7 +10,7 @@ take_twice (suc d) zero xs le = absurd (let never : ⊥ = omega (arith, le) in n
 take_twice (suc d) (suc n) [] le = refl
 take_twice (suc d) (suc n) (x ∷ xs) le = ap (λ l. x ∷ l) (take_twice d n xs (omega (arith, le)))
 
--- the prefix of a list that is at least as long as the list is the whole list
+-- a prefix that is at least as long as the list is the whole list
 take_whole : {X : Type 0} (n : ℕ) (xs : List X) → length xs ≤ n → take n xs ≡ xs
 take_whole zero [] le = refl
 take_whole zero (x ∷ xs) le = absurd (let never : ⊥ = omega (arith, le) in never)

@@ -91,8 +91,8 @@ answer_alike : (c : Whole) (grants : List (Option Grant)) (a : Written) (effect 
 unfolding answer_to
 answer_alike c grants a effect random other same = rw same refl
 
--- Facts about a success with other random bytes that agree on all bytes drawn: those of the row,
--- then those of the nonces.
+-- Facts about an accepted command with other random bytes, which agree on all bytes that its row
+-- and then its nonces draw.
 module _ (a : Accepted) (random other : List ℕ) (as_long : length other ≡ length random) where
   abbrev drawn : ℕ
   drawn = bytes_drawn random a.success.after a.command.entries (row_drawn a)
