@@ -1,5 +1,5 @@
--- The context of a session can be loaded only once, and only after the start of the layer at which
--- it was saved.
+-- The context of a session can be loaded only once, and only if it was saved since the last start
+-- of the layer.
 use Rattle.std.proofs.Common.{◌≡◌, ◌≢◌, ℕ, zero, suc, ◌<◌, ◌^◌, ◌==◌, ◌&&◌, Bool, true, false, List, length, take, drop, get_or, Result, Ok, Err, refl, sym, ap, subst, ◌∙◌, inl, inr, arith}
 use Rattle.std.specs.Prelude.{is_some, not, slice_set, if◌then◌else◌}
 use Rattle.std.specs.Int.{w32, w64, from_be_bytes, to_be_bytes}

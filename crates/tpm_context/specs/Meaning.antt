@@ -79,8 +79,7 @@ abbrev pub OpensAgain : Type 0
 OpensAgain =
     (c : Making) → IsMaking c → opened c.hierarchies c.binding (context_of c) ≡ Ok c.object
 
--- Two contexts with the same integrity value were made from the same values, or the HMAC has a
--- collision.
+-- Two contexts with the same integrity value are the same (`AreSame`), or the HMAC has a collision.
 abbrev pub IntegrityMeans : Type 0
 IntegrityMeans =
     (c d : Making) → IsMaking c → IsMaking d

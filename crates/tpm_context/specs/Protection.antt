@@ -30,7 +30,7 @@ cipher_bytes proof start head =
     kdfa_of Sha256 proof context_label (to_be_bytes w64 head.sequence)
     (context_party start head) 32
 
--- the encryption key: the first 128 bits; the next definition is the IV: the remaining bits
+-- the encryption key, which is the first 128 bits; below, the IV, which is the rest
 abbrev pub cipher_key : List ℕ → List ℕ
 cipher_key bytes = take 16 bytes
 

@@ -116,7 +116,8 @@ fn open_parts(
     object_in(head, plain.as_slice())
 }
 
-/// Returns the object of a context, if the context was made with the same proof and binding.
+/// Returns the object of a context, if the context was made with these hierarchies and this
+/// binding.
 #[tactic(auto, unfolding(crate::specs::Context::opened))]
 pub fn open(
     hierarchies: &Hierarchies,

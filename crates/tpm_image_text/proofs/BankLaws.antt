@@ -13,8 +13,7 @@ pub behind_none : {A E : Type 0} (read : Result (List A × List ℕ) E) → behi
 behind_none (Ok x) = refl
 behind_none (Err e) = refl
 
--- moving an element that was just read to those read before it does not change the result of the
--- whole loop
+-- reading one more element of a list does not change the result of the whole loop
 pub one_more_read : {A E : Type 0} (at : List ℕ → Result (A × List ℕ) E) (front : List A) (m n : ℕ) (x : A) (text rest : List ℕ) → m ≡ suc n → at text ≡ Ok (x, rest) → behind (front ++ x ∷ []) (many_at at n rest) ≡ behind front (many_at at m text)
 one_more_read {A} {E} at front m n x text rest e is =
     moved front x (many_at at n rest)

@@ -56,7 +56,7 @@ pub fn buffer_laws()
 {}
 
 /// If a damaged journal is truncated at the damage, it can be executed to its end. The resulting
-/// device is the same, and all answers match their entries.
+/// device is that of the damaged journal, and all answers match their entries.
 #[inline(always)]
 #[tactic(auto, using(crate::proofs::Damage::front_is_followed))]
 pub fn damage_laws()
