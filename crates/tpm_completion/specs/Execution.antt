@@ -45,8 +45,9 @@ answered seen reply = record {
   drawn = seen.drawn;
 }
 
--- The device alone executes an event. If the device follows a history, it then follows that history
--- extended by this event. The layer only forgets the contexts of sessions that no longer exist.
+-- The device alone executes an event. If the device follows a history, after the event it follows
+-- that history extended by the event. The layer only forgets the contexts of sessions that no
+-- longer exist.
 pub record Passes (can : Bool) (c : Completion) (old : Record) (event : PlainEvent) (seen : Seen)
     : Type 0
   where

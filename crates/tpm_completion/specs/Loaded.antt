@@ -33,9 +33,9 @@ LoadsWhatWasSaved =
     → number < 2 ^ 64 → IsObject object → StaysValid r later c d object
     → object_opened later d (saved_context r c number object) ≡ Ok object
 
--- Unless the HMAC has a collision, a context that can be loaded was made with the same proof, start
--- and count of TPM Resets (for an object with stClear, also the same count of TPM Restarts), and
--- loading it yields the object from which it was made.
+-- Unless the HMAC has a collision, a context can be loaded only with the proof, start and count of
+-- TPM Resets with which it was made (for an object with stClear, also the count of TPM Restarts),
+-- and loading it yields the object from which it was made.
 abbrev pub LoadsOnlyWhatWasMade : Type 0
 LoadsOnlyWhatWasMade =
     (c : Making) (r : Record) (layer : Completion) (object : Object)

@@ -63,7 +63,7 @@ object_numbered r c object (Some number) = record {
 }
 object_numbered r c object None = refused c 0x12e
 
--- the reply to TPM2_ContextSave of an object: REFERENCE_H0 (910) if there is no such object
+-- the reply to TPM2_ContextSave of an object: REFERENCE_H0 (910) if the object does not exist
 abbrev pub object_saved : Record → Completion → Option Object → Reply
 object_saved r c (Some object) = object_numbered r c object (next_number c)
 object_saved r c None = refused c 0x910

@@ -18,8 +18,8 @@ pub fn runs_follow()
 
 /// Loading the context of an object yields the object that was saved, as long as the start of the
 /// layer, the proof of the object's hierarchy and the counts to which the object is bound have not
-/// changed. A context that can be loaded was made with the same start, proof and counts, unless the
-/// HMAC has a collision.
+/// changed. Unless the HMAC has a collision, a context can be loaded only with the start, proof and
+/// counts with which it was made.
 pub fn loading_laws()
     ensures again { LoadsWhatWasSaved }
     ensures only { LoadsOnlyWhatWasMade }

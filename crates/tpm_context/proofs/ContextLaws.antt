@@ -158,8 +158,8 @@ integrity_means c d is js e = by (alike (key_of c) (covered_text c.binding c) (k
 
 -- ---- a context that opens
 
--- if a context is decrypted with the same proof and start number, the object in it is the one from
--- which it was made
+-- if a context is decrypted with the proof and start number with which it was made, it yields the
+-- object from which it was made
 opened_object : (proof other : List ℕ) (m n sequence : ℕ) (o object : Object) → IsObject o → proof ≡ other → m ≡ n
     → object_in (head_of sequence o) (decrypted other n (head_of sequence o) (encrypted proof m (head_of sequence o) (object_fields_text o))) ≡ Ok object
     → o ≡ object

@@ -1,5 +1,5 @@
--- What follows if a context opens: unless the HMAC has a collision, the context was made with the
--- same proof and the same binding.
+-- Unless the HMAC has a collision, a context opens only with the proof and the binding with which
+-- it was made.
 use Rattle.std.specs.Prelude.{◌≡◌, ◌⊎◌, ◌<◌, ◌^◌, ℕ, List, Ok}
 use Rattle.tpm_mac.specs.Hmac.{hmac_of}
 use Rattle.tpm_mac.specs.declared.algorithm.HashAlg.TheVariants.{Sha256}

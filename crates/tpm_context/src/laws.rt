@@ -12,8 +12,8 @@ pub fn context_laws()
     ensures integrity { IntegrityMeans }
 {}
 
-/// Unless the HMAC has a collision, a context that opens was made with the same proof, start number
-/// and counts. In particular, a context with another start number or another resetCount opens only
+/// Unless the HMAC has a collision, a context opens only with the proof, start number and counts
+/// with which it was made. Therefore, it opens with another start number or another resetCount only
 /// if the HMAC has a collision. A proof only: it has no effect at run time.
 #[inline(always)]
 #[tactic(auto, using(crate::proofs::ContextLaws::opens_only_as_made, crate::proofs::ContextLaws::refuses_another_binding))]

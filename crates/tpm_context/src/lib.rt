@@ -8,8 +8,8 @@
 //! proof of the object's hierarchy and to the device's count of TPM Resets ([`Binding`]). [`seal`]
 //! makes a context, and [`open`] reads it. No call allocates memory.
 //!
-//! Opening a context returns the object from which it was made. Unless the HMAC has a collision,
-//! whatever opens was made with the same proof and the same binding ([`laws`]).
+//! Opening a context returns the object from which it was made. Unless the HMAC has a collision, a
+//! context opens only with the proof and the binding with which it was made ([`laws`]).
 
 mod binding;
 mod fault;

@@ -1,5 +1,5 @@
--- The contexts of objects on two devices that differ only in secrets: an object without secrets has
--- the same context, and a context contains the same object.
+-- The contexts of objects on two devices that differ only in secrets: on both, an object without
+-- secrets has the same context, and a context contains the same object.
 use Rattle.std.proofs.Common.{ap, refl, sym, ◌∙◌}
 use Rattle.std.specs.Prelude.{Bool, Err, List, None, Ok, Result, false, if◌then◌else◌, true, ℕ, ◌&&◌, ◌||◌, ◌≡◌}
 use Rattle.tpm_bytes.specs.Reading.{◌>>=◌}

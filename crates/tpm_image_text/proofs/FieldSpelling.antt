@@ -165,7 +165,7 @@ number_in_spelled w limit wide = record {
   again = λ n rest small. number_or_again w limit wide malformed n rest small;
 }
 
--- a decoder that reads a number and returns the value for which the number stands is exact
+-- a decoder that reads a number and returns the value that the number represents is exact
 pub names_spelled : {A E : Type 0} (w : Width) (limit : ℕ) → IsWide w limit → (number_of : A → ℕ) (named : ℕ → Option A) (cut unknown : E) → ((n : ℕ) (x : A) → named n ≡ Some x → n ≡ number_of x) → ((x : A) → named (number_of x) ≡ Some x) → ((x : A) → number_of x < limit) → Spelled (λ x. to_be_bytes w (number_of x)) (λ x. Unit {0}) (λ text. or_fault (number_at w text) cut >>= λ number. ok_or (named number.0) unknown >>= λ one. Ok (one, number.1))
 names_spelled {A} {E} w limit wide number_of named cut unknown is found small = record {
   taken = λ bytes x fits e.

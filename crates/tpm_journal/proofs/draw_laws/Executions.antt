@@ -1,5 +1,4 @@
--- A command is executed in the same way with other random bytes that agree on the bytes that it
--- draws.
+-- A command is executed in the same way if the random bytes that it does not draw are replaced.
 use Rattle.std.proofs.Common.{◌≡◌, ◌≤◌, ◌-◌, ◌∙◌, ℕ, Bool, false, List, length, take, Result, Ok, Err, refl, sym, ap, subst, arith}
 use Rattle.std.specs.Prelude.{replicate}
 use Rattle.std.proofs.lemmas.List.{length-append, length-replicate, length-take-le}
