@@ -1,4 +1,5 @@
--- The start of a journal: the device in its head, and the journal's additional state.
+-- The start of a journal: the device in its head, and the state of the journal apart from the
+-- device.
 use Rattle.std.specs.Prelude.{◌≡◌, ℕ, List, ◌++◌, length, Result, Ok, Err}
 use Rattle.tpm_image_text.specs.Image.{image_of}
 use Rattle.tpm_image_text.specs.NonVolatile.{NonVolatile, powered_on}
