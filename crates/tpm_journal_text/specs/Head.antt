@@ -50,7 +50,7 @@ pub record HasHead (kind : HeadKind) (clock : ℕ) (content : List ℕ) : Type 0
   pub small : length content ≤ content_limit kind
   pub are_bytes : AreBytes content
 
--- The text begins with a head of this kind, clock and content, with this size and this checksum.
+-- The text begins with a head that has this kind, clock, content, size and checksum.
 pub record IsHeadOf (text : List ℕ) (head : Head) : Type 0 where
   pub has : HasHead head.kind head.clock head.content.now
   pub whole : head.size ≤ length text

@@ -34,8 +34,8 @@ are_localities localities = nat_le localities 0x1f
 unfoldable pub localities_in : List ℕ → Result (ℕ × List ℕ) Malformed
 localities_in text = passing are_localities (number_in w8) text
 
--- the text of a policy: its digest; the update counter, the command, the cpHash and the written
--- state, each if an assertion recorded it; the localities; and the demand
+-- the text of a policy: its digest; the update counter, command, cpHash and written state, if
+-- assertions recorded them; the localities; and the demand
 unfoldable pub policy_text : Policy → List ℕ
 policy_text p =
     sized_text p.digest
