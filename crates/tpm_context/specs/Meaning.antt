@@ -30,8 +30,8 @@ pub record Making : Type 0 where
 abbrev pub context_of : Making → List ℕ
 context_of c = context_text c.hierarchies c.binding c.sequence c.object
 
--- the HMAC key for the integrity value of a context; the next definition is the text that the
--- integrity value covers
+-- the HMAC key for the integrity value of a context; below, the text that the integrity value
+-- covers
 abbrev pub key_of : Making → List ℕ
 key_of c = proof_of c.hierarchies c.object.hierarchy
 

@@ -37,7 +37,7 @@ cipher_key bytes = take 16 bytes
 abbrev pub cipher_iv : List ℕ → List ℕ
 cipher_iv bytes = drop 16 bytes
 
--- a text encrypted for a context; the next definition is a text decrypted from a context
+-- a text encrypted for a context; below, a text decrypted from a context
 abbrev pub encrypted : (proof : List ℕ) → (start : ℕ) → ContextHead → (plain : List ℕ) → List ℕ
 encrypted proof start head plain =
     let bytes : List ℕ = cipher_bytes proof start head in
