@@ -36,12 +36,12 @@ and_right true b e = e
 either : {X : Type 0} (a b : Bool) (x y z : X) → a ≡ false → b ≡ false → (if a then x else (if b then y else z)) ≡ z
 either a b x y z e f = if_false a x (if b then y else z) e ∙ if_false b y z f
 
--- the layer has no list of handles whose highest byte is neither 02 nor 03
+-- the layer lists no handles whose most significant byte is neither 02 nor 03
 no_handles : (r : Record) (c : Completion) (asked : Asked) (kind : ℕ) → ((kind == 0x02) || (kind == 0x03)) ≡ false → handles_told r c asked kind ≡ None
 no_handles r c asked kind none =
     either (kind == 0x02) (kind == 0x03) _ _ None (or_left (kind == 0x02) (kind == 0x03) none) (or_right (kind == 0x02) (kind == 0x03) none)
 
--- if the tests of the capability find no list of the layer, the result is `None`
+-- if no test of the capability selects a list of the layer, the result is `None`
 none_by : {X : Type 0} (handles commands properties kinds : Bool) (of_handles of_commands of_properties : Option X) → (commands || (properties || (handles && kinds))) ≡ false → (kinds ≡ false → of_handles ≡ None) → (if handles then of_handles else (if commands then of_commands else (if properties then of_properties else None))) ≡ None
 none_by true false false kinds h c p none of = of none
 none_by false false false kinds h c p none of = refl
@@ -63,7 +63,7 @@ asked_stands : (r : Record) (c : Completion) (response : List ℕ) (was_told : B
 asked_stands r c response was_told (Ok asked) refused none = ap (listed c response) (told_none r c asked was_told response refused none)
 asked_stands r c response was_told (Err e) refused none = refl
 
--- if the tests do not allow an answer of the layer, the reply is the device's
+-- if no test lets the layer answer, the reply is the device's response
 chosen : (started unserved capability was_told list : Bool) (stand of_served of_capability : Reply) → unserved ≡ false → was_told && (capability && list) ≡ false → (was_told && list ≡ false → of_capability ≡ stand) → (if not started then stand else (if unserved then of_served else (if capability then of_capability else stand))) ≡ stand
 chosen false unserved capability was_told list s v p served none of = refl
 chosen true false false was_told list s v p served none of = refl
@@ -89,7 +89,7 @@ by_stands : (r : Record) (c : Completion) (buffer response : List ℕ) (was_told
 by_stands r c buffer response was_told (Ok command) gap none = command_stands r c command response was_told gap none
 by_stands r c buffer response was_told (Err e) gap none = probe_stands c buffer response gap
 
--- no object is loaded unless the device refused the command with COMMAND_CODE
+-- no object is loaded if the response is not one of the refusals in `is_gap`
 none_asked : (r : Record) (buffer response : List ℕ) → is_gap response ≡ false → context_asked r buffer response ≡ None
 unfolding context_asked
 none_asked r buffer response gap =

@@ -1,5 +1,5 @@
--- The device's executions for one event lead from its record before the event to its record after
--- it.
+-- The device's executions for one event begin with its record before the event and end with its
+-- record after the event.
 use Rattle.std.proofs.Common.{◌≡◌, ℕ, Bool, true, false, List, Option, Some, None, Result, Ok, Err, refl, ap}
 use Rattle.tpm_machine.specs.Executions.{Leads}
 use Rattle.tpm_machine.proofs.Following.{stretch_follows}

@@ -4,7 +4,8 @@ use Rattle.std.specs.Prelude.{ℕ, Bool, List, []}
 use Rattle.std.specs.Str.{bytes_eq}
 use Rattle.tpm_step.specs.Answer.{framed}
 
--- the response of a success, with these bytes after its header; below, the refusal with a code
+-- the response that reports success, with these bytes after its header; below, the response that
+-- reports an error code
 abbrev pub success : List ℕ → List ℕ
 success body = framed 0x8001 0 body
 

@@ -31,8 +31,8 @@ asked_at text = do
   Ok (record { capability = capability.0; property = property.0; count = count.0 })
 
 -- ---- algorithms
--- an algorithm's attributes: symmetric is 2, hash 4, object 8, signing 100, encrypting 200, and
--- method 400
+-- the algorithms with their attributes (TPMA_ALGORITHM): symmetric is 2, hash 4, object 8, signing
+-- 100, encrypting 200, and method 400
 
 abbrev pub algorithm_elements : List Element
 algorithm_elements =
@@ -49,8 +49,8 @@ algorithm_elements =
 
 -- ---- commands, with their attributes: ContextSave has a handle, and ContextLoad answers one
 
--- the layer's own commands that precede a command of the device: IncrementalSelfTest; StirRandom;
--- ContextLoad and ContextSave; GetTestResult and Hash; TestParms
+-- the layer's own commands that are listed just before a command of the device:
+-- IncrementalSelfTest; StirRandom; ContextLoad and ContextSave; GetTestResult and Hash; TestParms
 abbrev pub own_before : CommandCode → List Element
 own_before command.SelfTest = element 0x142 0x142 ∷ []
 own_before command.PolicyNv = element 0x146 0x146 ∷ []
@@ -59,7 +59,7 @@ own_before command.PcrRead = element 0x17c 0x17c ∷ element 0x17d 0x17d ∷ []
 own_before command.PolicyPassword = element 0x18a 0x18a ∷ []
 own_before _ = []
 
--- the elements for a command: the layer's own commands that precede it, and the command
+-- the elements for a command: the layer's own commands that are listed before it, and the command
 unfoldable pub commands_by : CommandCode → List Element
 commands_by code = own_before code ++ command_element code ∷ []
 
@@ -68,7 +68,8 @@ command_elements = flat_map commands_by all_codes
 
 -- ---- the answer
 
--- the layer's list of the handles whose highest byte is `kind`, if it differs from the device's
+-- the layer's list of the handles whose most significant byte is `kind`: loaded sessions for 02,
+-- saved sessions for 03, otherwise none
 abbrev pub handles_told : Record → Completion → Asked → (kind : ℕ) → Option (List ℕ)
 handles_told r c asked kind =
     if kind == 0x02 then
@@ -77,7 +78,7 @@ handles_told r c asked kind =
     Some (listing form.Value 1 (asked.property % 2 ^ 24) asked.count (sessions_shown r c true))
     else None)
 
--- the layer's list for a capability that the device answered, if it has one
+-- the layer's list for a capability that the device answered, if the layer has one
 abbrev pub told_of : Record → Completion → Asked → Option (List ℕ)
 told_of r c asked =
     if asked.capability == 1 then handles_told r c asked (asked.property / 2 ^ 24)
@@ -92,7 +93,7 @@ told_of r c asked =
 abbrev pub is_empty : (capability : ℕ) → Bool
 is_empty capability = (capability == 3) || ((capability == 4) || (capability == 8))
 
--- the layer's list for a capability that the device refused, if it has one
+-- the layer's list for a capability that the device refused, if the layer has one
 abbrev pub refused_of : Asked → Option (List ℕ)
 refused_of asked =
     if asked.capability == 0 then
@@ -103,8 +104,8 @@ refused_of asked =
     Some (listing form.Value asked.capability asked.property asked.count [])
     else None))
 
--- the layer's answer to TPM2_GetCapability, without its header, if it has one: the device answered
--- the capability, or refused it with VALUE for parameter 1
+-- the layer's answer to TPM2_GetCapability, without its header, if the layer has one. It replaces
+-- the device's answer, or its refusal with VALUE for parameter 1
 unfoldable pub capability_told : Record → Completion → Asked → (was_told : Bool) → List ℕ
     → Option (List ℕ)
 capability_told r c asked was_told response =

@@ -14,7 +14,7 @@ pub record Command : Type 0 where
 abbrev pub command_of : PlainCommand → Command
 command_of c = record { code = c.code; parameters = c.parameters.now }
 
--- the command in a buffer with the tag TPM_ST_NO_SESSIONS and the size that its header states
+-- the command in a buffer whose tag is TPM_ST_NO_SESSIONS and whose size is the size in its header
 unfoldable pub plain_command : List ℕ → Result Command Short
 plain_command buffer = do
   tag ← number_at w16 buffer

@@ -1,5 +1,5 @@
--- The effect of one event, with or without the completing layer, as a function of the layer, the
--- record and the event, if no allocation fails.
+-- If no allocation fails, the effect of one event is a function of the layer, the record and the
+-- event. This file defines it, with and without the completing layer.
 use Rattle.std.specs.Prelude.{ℕ, Bool, true, false, List, Option, Some, None, Result, Ok, Err}
 use Rattle.tpm_machine.specs.Drawn.{drawn_by}
 use Rattle.tpm_object.specs.declared.object.Object.{Object}

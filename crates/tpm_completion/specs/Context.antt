@@ -1,4 +1,4 @@
--- The context of a session: a token that names its slot in the device, where the session stays. TPM
+-- The context of a session: a token that names the slot where the session stays on the device. TPM
 -- 2.0 Library, Part 2, section 14 (TPMS_CONTEXT: sequence, savedHandle, hierarchy, contextBlob),
 -- and Part 1, section 30 (context management).
 use Rattle.std.specs.Prelude.{ℕ, not, Bool, false, List, [], ◌∷◌, ◌++◌, Result, Ok, Err}

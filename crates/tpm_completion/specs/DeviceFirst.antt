@@ -19,8 +19,8 @@ is_gap response =
     is_refusal 0x143 response
     || (is_refusal 0x1c4 response || bytes_eq response (framed 0xc4 0x1e []))
 
--- whether the layer has a list for what TPM2_GetCapability asks for: commands, properties, and
--- loaded or saved sessions
+-- whether TPM2_GetCapability asks for something that the layer lists: commands, properties, loaded
+-- sessions or saved sessions
 abbrev pub has_list : Asked → Bool
 has_list asked =
     (asked.capability == 2)
@@ -28,7 +28,7 @@ has_list asked =
     || ((asked.capability == 1)
     && ((asked.property / 2 ^ 24 == 0x02) || (asked.property / 2 ^ 24 == 0x03))))
 
--- whether a command is TPM2_GetCapability, and the layer has a list for what it asks for
+-- whether a command is TPM2_GetCapability, and asks for something that the layer lists
 abbrev pub asks_parameters : Result Asked Short → Bool
 asks_parameters (Ok asked) = has_list asked
 asks_parameters (Err e) = false
@@ -42,8 +42,8 @@ abbrev pub asks_list : (buffer : List ℕ) → Bool
 asks_list buffer = asks_command (plain_command buffer)
 
 -- The client gets the device's response, byte for byte, no object is loaded, and the layer's state
--- is unchanged. There are two exceptions: the refusals of `is_gap`, and a success of
--- TPM2_GetCapability for which the layer has a list.
+-- is unchanged. There are two exceptions: the device refused the command as in `is_gap`, or it
+-- answered a TPM2_GetCapability that asks for something that the layer lists.
 abbrev pub DeviceFirst : Type 0
 DeviceFirst =
     (r : Record) (c : Completion) (buffer response : List ℕ) (was_told : Bool)

@@ -1,5 +1,5 @@
--- How the completing layer handles one event: which events the device executes, what the client
--- gets, and the layer's new state.
+-- How the completing layer handles one event: what the device executes, what the client gets, and
+-- the layer's new state.
 use Rattle.std.specs.Prelude.{◌≡◌, ℕ, ◌==◌, Bool, true, false, List, Option, Some, None, Result, Ok, Err}
 use Rattle.tpm_machine.specs.Follows.{After, Follows}
 use Rattle.tpm_machine.specs.Drawn.{drawn_by}
@@ -21,8 +21,8 @@ use Rattle.tpm_completion.specs.Reply.{reply}
 use Rattle.tpm_completion.specs.Saving.{Reply, refused}
 use Rattle.tpm_completion.specs.declared.completion.Completion.{Completion}
 
--- the effect of an event: the response, the device's row and its record; the layer's new state; and
--- how many random bytes the device's last event drew
+-- the effect of an event: the response, and the device's row and new record; the layer's new state;
+-- and how many random bytes the device's last event drew
 pub record Seen : Type 0 where
   pub step : Stepped
   pub layer : Completion
@@ -37,7 +37,7 @@ seen_of record_of machine layer outcome = record {
   drawn = latest_drawn machine;
 }
 
--- the same effect, but the client gets the layer's response
+-- this effect, except that the client gets the layer's response
 abbrev pub answered : Seen → Reply → Seen
 answered seen reply = record {
   step = record seen.step { response = reply.response };
@@ -45,8 +45,9 @@ answered seen reply = record {
   drawn = seen.drawn;
 }
 
--- The device alone executes an event. If the device follows a history, it then follows that history
--- extended by this event. The layer only forgets the contexts of sessions that no longer exist.
+-- The device alone executes an event. If the device follows a history, after the event it follows
+-- that history extended by the event. The layer only forgets the contexts of sessions that no
+-- longer exist.
 pub record Passes (can : Bool) (c : Completion) (old : Record) (event : PlainEvent) (seen : Seen)
     : Type 0
   where
@@ -96,8 +97,8 @@ PlacesIf can false first object seen =
     × (seen ≡ placed_behind first placing)
 PlacesIf can true first object seen = (can ≡ true) × (seen ≡ unplaced_behind first)
 
--- The device refused the command. Then the object of the command's context is placed, or the
--- context is refused.
+-- After the device refused a TPM2_ContextLoad, the object in the context is placed, or the context
+-- is refused.
 abbrev pub Loads : (can : Bool) → Seen → Result Object ContextFault → Seen → Type 0
 Loads can first (Ok object) seen = (refused : Bool) × PlacesIf can refused first object seen
 Loads can first (Err fault) seen = seen ≡ unopened_behind first fault

@@ -32,7 +32,7 @@ hierarchy_at text = do
 
 -- ---- the ticket
 
--- whether the data begin with TPM_GENERATED_VALUE, like a structure that a TPM signs about itself
+-- whether the data begin with TPM_GENERATED_VALUE, like an attestation structure of a TPM
 abbrev pub is_generated : (message : List ℕ) → Bool
 is_generated message = starts_with nat_eq message (0xff ∷ 0x54 ∷ 0x43 ∷ 0x47 ∷ [])
 
@@ -46,7 +46,8 @@ abbrev pub hash_check_tag : List ℕ
 hash_check_tag = to_be_bytes w16 0x8024
 
 -- the digest of the ticket: empty for TPM_RH_NULL, and otherwise an HMAC of the tag and the digest
--- of the data, whose key is the hierarchy's proof. SHA-256 is this device's own choice.
+-- of the data, whose key is the hierarchy's proof. The standard does not fix the HMAC's hash; this
+-- device uses SHA-256.
 abbrev pub ticket_digest : HierarchyHandle → (proof digest : List ℕ) → List ℕ
 ticket_digest kind.Null proof digest = []
 ticket_digest _ proof digest = hmac_of Sha256 proof (hash_check_tag ++ digest)

@@ -12,9 +12,9 @@ use Rattle.tpm_completion.specs.declared.listing.Form.TheVariants as form
 abbrev pub element : (number told : ℕ) → Element
 element number told = record { number = number; told = told }
 
--- the text of an element: a handle or a command's attributes; a property and its value; an
--- algorithm and its attributes; a property of PCRs, and three octets that select the PCRs with this
--- property
+-- the text of an element in each form: Value, a handle or a command's attributes; Property, a
+-- property and its value; Algorithm, an algorithm and its attributes; Selection, a property of
+-- PCRs, and three octets that select the PCRs with this property
 abbrev pub told_text : Form → Element → List ℕ
 told_text form.Value e = to_be_bytes w32 e.told
 told_text form.Property e = to_be_bytes w32 e.number ++ to_be_bytes w32 e.told

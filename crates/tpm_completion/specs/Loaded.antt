@@ -16,9 +16,9 @@ abbrev pub saved_context : Record → Completion → (number : ℕ) → Object �
 saved_context r c number object =
     object_context_text r.fixed.hierarchies (binding_of r c) number object
 
--- The context of an object, saved on one record, is still valid on another: the object's hierarchy
--- has the same proof, the layer the same start, and the device the same count of TPM Resets. If the
--- object has stClear, the count of TPM Restarts is the same too.
+-- The context of an object, saved when the record was `r`, can still be loaded when it is `later`:
+-- the object's hierarchy has the same proof, the layer the same start, and the device the same
+-- count of TPM Resets. If the object has stClear, the count of TPM Restarts is the same too.
 pub record StaysValid (r later : Record) (c d : Completion) (object : Object) : Type 0 where
   pub proof : proof_of later.fixed.hierarchies object.hierarchy
       ≡ proof_of r.fixed.hierarchies object.hierarchy
@@ -26,16 +26,16 @@ pub record StaysValid (r later : Record) (c d : Completion) (object : Object) : 
   pub reset_count : later.fixed.reset_count ≡ r.fixed.reset_count
   pub restart_count : restart_of (binding_of later d) object ≡ restart_of (binding_of r c) object
 
--- Loading a valid context yields the object that was saved.
+-- Loading a context that is still valid yields the object that was saved.
 abbrev pub LoadsWhatWasSaved : Type 0
 LoadsWhatWasSaved =
     (r later : Record) (c d : Completion) (number : ℕ) (object : Object)
     → number < 2 ^ 64 → IsObject object → StaysValid r later c d object
     → object_opened later d (saved_context r c number object) ≡ Ok object
 
--- A context that can be loaded was made with the same proof, start and count of TPM Resets, and for
--- an object with stClear the same count of TPM Restarts; or the HMAC has a collision. Loading it
--- yields the object from which it was made.
+-- Unless the HMAC has a collision, a context can be loaded only with the proof, start and count of
+-- TPM Resets with which it was made (for an object with stClear, also the count of TPM Restarts),
+-- and loading it yields the object from which it was made.
 abbrev pub LoadsOnlyWhatWasMade : Type 0
 LoadsOnlyWhatWasMade =
     (c : Making) (r : Record) (layer : Completion) (object : Object)

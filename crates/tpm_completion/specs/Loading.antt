@@ -12,7 +12,7 @@ use Rattle.tpm_completion.specs.Context.{names_session}
 use Rattle.tpm_completion.specs.Saving.{Reply, binding_of, handle_given, refused}
 use Rattle.tpm_completion.specs.declared.completion.Completion.{Completion}
 
--- the context in a TPM2_ContextLoad (161), unless it names a session
+-- the context that a TPM2_ContextLoad (161) is to load, unless it is that of a session
 abbrev pub object_context_in : Result Command Short → Option (List ℕ)
 object_context_in (Ok command) =
     if (command.code == 0x161) && not (names_session command.parameters) then
@@ -20,8 +20,8 @@ object_context_in (Ok command) =
     else None
 object_context_in (Err e) = None
 
--- the context in a TPM2_ContextLoad of an object, if the device is started and refused the command
--- with COMMAND_CODE (143)
+-- the context of an object that a TPM2_ContextLoad is to load, if the device is started and refused
+-- the command with COMMAND_CODE (143)
 unfoldable pub context_asked : Record → (buffer response : List ℕ) → Option (List ℕ)
 context_asked r buffer response =
     if r.fixed.started && is_refusal 0x143 response then object_context_in (plain_command buffer)
@@ -31,7 +31,8 @@ context_asked r buffer response =
 abbrev pub object_opened : Record → Completion → (context : List ℕ) → Result Object ContextFault
 object_opened r c context = opened r.fixed.hierarchies (binding_of r c) context
 
--- the reply after an object was placed: its handle, or OBJECT_MEMORY (902) if no slot was free
+-- the reply after placing an object: the object's handle, or OBJECT_MEMORY (902) if no slot was
+-- free
 abbrev pub placed_reply : Completion → Option Handle → Reply
 placed_reply c (Some handle) = handle_given c handle
 placed_reply c None = refused c 0x902

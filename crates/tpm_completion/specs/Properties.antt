@@ -27,7 +27,7 @@ use Rattle.tpm_completion.specs.declared.completion.Completion.{Completion}
 abbrev pub own_count : ℕ
 own_count = 7
 
--- the number of all commands; all of them are commands of the TPM 2.0 Library
+-- the number of all commands; the TPM 2.0 Library defines all of them
 abbrev pub command_count : ℕ
 command_count = length all_codes + own_count
 
@@ -102,7 +102,7 @@ values_set h =
     + attribute_if (is_set h.lockout_auth) 4
 
 -- TPMA_PERMANENT: the attributes of `values_set`, disableClear, inLockout and tpmGeneratedEPS (the
--- device draws its seeds like all its random bytes)
+-- device draws its seeds from its random bytes)
 abbrev pub permanent_attributes : Fixed → ℕ
 permanent_attributes f =
     values_set f.hierarchies + attribute_if f.disable_clear 0x100
@@ -110,8 +110,8 @@ permanent_attributes f =
     + 0x400
 
 -- TPMA_STARTUP_CLEAR: phEnable, shEnable, ehEnable and phEnableNV, since no command disables a
--- hierarchy; and orderly, if it is known that a TPM2_Shutdown preceded the last TPM2_Startup, which
--- then was a TPM Restart or a TPM Resume
+-- hierarchy; and orderly, if restartCount is not 0: the last TPM2_Startup was then a TPM Restart or
+-- a TPM Resume, so that a TPM2_Shutdown preceded it
 abbrev pub startup_attributes : Fixed → ℕ
 startup_attributes f = 0xf + attribute_if (not (f.restart_count == 0)) 0x8000_0000
 
@@ -153,8 +153,8 @@ count_elements r c =
     ∷ element 0x20a (counter_count r.nv)  -- NV_COUNTERS
     ∷ []
 
--- the properties about what the device does not have (a set of algorithms, curves, a wait after a
--- change of NV memory, an audit of commands), and the parameters of lockout
+-- the properties of features that the device does not have (a set of algorithms, curves, a wait
+-- after a change of NV memory, an audit of commands), which are 0, and the parameters of lockout
 abbrev pub lockout_elements : LockoutState → List Element
 lockout_elements lockout =
     element 0x20c 0  -- ALGORITHM_SET

@@ -28,7 +28,8 @@ use Rattle.tpm_completion.specs.declared.completion.Completion.{Completion}
 abbrev pub stands : Completion → List ℕ → Reply
 stands c response = record { response = response; after = c }
 
--- whether these are valid parameters of TPM2_StirRandom: at most 128 bytes, which are not used
+-- whether the parameters of TPM2_StirRandom are valid: a buffer of at most 128 bytes, which are
+-- ignored, and nothing after it
 abbrev pub is_stirred : Result (List ℕ × List ℕ) SizedFault → Bool
 is_stirred (Ok bytes) = length bytes.1 == 0
 is_stirred (Err e) = false
@@ -86,9 +87,9 @@ capability_asked r c response was_told (Ok asked) =
     listed c response (capability_told r c asked was_told response)
 capability_asked r c response was_told (Err e) = stands c response
 
--- the answer to a command without sessions. Before TPM2_Startup, it is always the device's.
--- Afterwards, the layer also answers its own commands, which the device refuses with COMMAND_CODE
--- (143), and TPM2_GetCapability.
+-- the answer to a command without sessions. Before TPM2_Startup, it is always the device's
+-- response. Afterwards, the layer also answers its own commands, which the device refuses with
+-- COMMAND_CODE (143), and TPM2_GetCapability.
 unfoldable pub command_reply : Record → Completion → Command → (response : List ℕ)
     → (was_told : Bool) → Reply
 command_reply r c command response was_told =
@@ -98,8 +99,9 @@ command_reply r c command response was_told =
     capability_asked r c response was_told (asked_at command.parameters)
     else stands c response))
 
--- the answer to a command of TPM 1.2 (tag 00C1) that the device refused with BAD_TAG (1E) and tag
--- 00C4: VALUE (84) with tag 8001, from which firmware learns that there is no TPM 1.2
+-- the answer to a TPM 1.2 command (tag 00C1). If the device refused it with BAD_TAG (1E) and tag
+-- 00C4, the layer answers VALUE (84) with tag 8001, from which firmware learns that there is no TPM
+-- 1.2
 unfoldable pub probed : Completion → (buffer response : List ℕ) → Reply
 probed c buffer response =
     if (tag_of buffer == 0xc1) && bytes_eq response (framed 0xc4 0x1e []) then

@@ -1,4 +1,4 @@
--- The device's executions for one event: the event, and with the layer also the placing of the
+-- The device's executions for one event: the event itself and, with the layer, the placing of the
 -- object whose context a command loads.
 use Rattle.std.specs.Prelude.{ℕ, Bool, true, false, List, [], ◌∷◌, Option, Some, None, Result, Ok, Err}
 use Rattle.tpm_machine.specs.Executions.{Execution}
@@ -57,8 +57,8 @@ abbrev pub run_of : (can completes : Bool) (c : Completion) (old : Record) (even
 run_of can false c old event seen passes = executed old event seen.step ∷ []
 run_of can true c old event seen completes = run_with can c old event seen completes
 
--- If a device follows a history, it then follows that history extended by all executions for an
--- event.
+-- If a device follows a history, after an event it follows that history extended by all executions
+-- for the event.
 abbrev pub RunsFollow : Type 0
 RunsFollow =
     (can completes : Bool) (c : Completion) (old : Record) (event : PlainEvent) (seen : Seen)

@@ -27,18 +27,19 @@ pub record Reply : Type 0 where
 abbrev pub place_named : Handle → ℕ
 place_named handle = place_of handle.number
 
--- the layer after the context number of the session in a slot was set
+-- the layer's state after the context number of the session in a slot was set
 abbrev pub with_session : Completion → ℕ → (context : ℕ) → Completion
 with_session c place context = record c { sessions = slice_set c.sessions place context }
 
--- the number of the next context, if one is left; below, the layer after that context
+-- the number for the next context, if one is left; below, the layer's state after a context with
+-- this number
 abbrev pub next_number : Completion → Option ℕ
 next_number c = if nat_lt c.count (2 ^ 64 - 1) then Some (c.count + 1) else None
 
 abbrev pub counted : Completion → (number : ℕ) → Completion
 counted c number = record c { count = number }
 
--- the reply with a refusal; the layer's state is unchanged
+-- the reply that refuses the command with this code; the layer's state is unchanged
 abbrev pub refused : Completion → ℕ → Reply
 refused c code = record { response = refusal code; after = c }
 
@@ -53,8 +54,8 @@ binding_of r c = record {
   restart_count = r.fixed.restart_count;
 }
 
--- the reply with the context of an object, whose sequence is the next number, or TOO_MANY_CONTEXTS
--- (12E) if no number is left. The object stays loaded.
+-- the reply with an object's context, whose sequence is the next number; TOO_MANY_CONTEXTS (12E) if
+-- no number is left. The object stays loaded.
 abbrev pub object_numbered : Record → Completion → Object → Option ℕ → Reply
 object_numbered r c object (Some number) = record {
   response = success (object_context_text r.fixed.hierarchies (binding_of r c) number object);
@@ -62,7 +63,7 @@ object_numbered r c object (Some number) = record {
 }
 object_numbered r c object None = refused c 0x12e
 
--- the reply to TPM2_ContextSave of an object: REFERENCE_H0 (910) if there is no such object
+-- the reply to TPM2_ContextSave of an object: REFERENCE_H0 (910) if the object does not exist
 abbrev pub object_saved : Record → Completion → Option Object → Reply
 object_saved r c (Some object) = object_numbered r c object (next_number c)
 object_saved r c None = refused c 0x910
@@ -82,16 +83,16 @@ session_numbered c handle (Some number) =
     context_given (with_session (counted c number) (place_named handle) number) handle number
 session_numbered c handle None = refused c 0x12e
 
--- the reply to TPM2_ContextSave of a session: REFERENCE_H0 (910) if the handle names no session;
--- the handle of a saved session names nothing
+-- the reply to TPM2_ContextSave of a session: REFERENCE_H0 (910) if the handle does not name a
+-- loaded session
 abbrev pub session_saved : Record → Completion → Handle → (context : ℕ) → Reply
 session_saved r c handle context =
     if is_some (session_at r.sessions handle) && (context == 0) then
     session_numbered c handle (next_number c)
     else refused c 0x910
 
--- the reply to TPM2_ContextSave of a handle: VALUE for handle 1 (184) if it is neither the handle
--- of an object nor of a session
+-- the reply to TPM2_ContextSave of a handle: VALUE for handle 1 (184) if it is neither a transient
+-- object's nor a session's
 unfoldable pub saved : Record → Completion → Handle → Reply
 saved r c handle =
     if is_transient handle then object_saved r c (object_at r.objects handle)
@@ -106,7 +107,7 @@ abbrev pub handle_given : Completion → Handle → Reply
 handle_given c handle =
     record { response = success (to_be_bytes w32 handle.number); after = c }
 
--- the reply that loads the session of a context, which works only once
+-- the reply to loading a session from its context, which succeeds only once for each context
 abbrev pub session_loaded : Record → Completion → Token → Reply
 session_loaded r c token =
     if is_some (session_at r.sessions token.handle)
@@ -115,9 +116,10 @@ session_loaded r c token =
     handle_given (with_session c (place_named token.handle) 0) token.handle
     else refused c 0x1cb
 
--- the reply to TPM2_ContextLoad of a context that names a session. INTEGRITY for parameter 1 (1DF):
--- the context was not made since the start of this layer. HANDLE for parameter 1 (1CB): the session
--- no longer exists, or another session has its slot, or the session was loaded since.
+-- the reply to TPM2_ContextLoad of a context that names a session. INTEGRITY for parameter 1 (1DF)
+-- means that the context was not made since the start of this layer. HANDLE for parameter 1 (1CB)
+-- means that the session no longer exists, that another session has its slot, or that the session
+-- was loaded since.
 abbrev pub loaded_by : Record → Completion → Result Token Short → Reply
 loaded_by r c (Ok token) = session_loaded r c token
 loaded_by r c (Err e) = refused c 0x1df

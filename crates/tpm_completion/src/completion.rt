@@ -21,8 +21,9 @@ pub struct Completion {
 }
 
 impl Completion {
-    /// The layer after a start, before it has saved any context. If the number differs at each
-    /// start, like the host's clock, contexts of earlier starts are not loaded.
+    /// The state of the layer after a start, before it has saved any context. If each start has
+    /// another number, such as the time of the host's clock, contexts of earlier starts are not
+    /// loaded.
     pub fn of_start(start: u64) -> Completion
         ensures { result ≡ new_completion start }
     {
@@ -33,14 +34,14 @@ impl Completion {
         }
     }
 
-    /// The layer after a start with the number 0.
+    /// The state of the layer after a start with the number 0.
     pub fn new() -> Completion
         ensures { result ≡ new_completion 0 }
     {
         Completion::of_start(0)
     }
 
-    /// The number of the context of the session in a slot, or 0 if the session is loaded.
+    /// The context number of the session in a slot, or 0 if the session is loaded.
     pub(crate) fn session(&self, place: usize) -> u64
         ensures { result ≡ session_context self.now place }
     {
@@ -51,8 +52,8 @@ impl Completion {
         }
     }
 
-    /// The number of the context of the session in a slot, or 0 if the device no longer has a
-    /// session there.
+    /// The context number of the session in a slot, or 0 if the device no longer has a session
+    /// there.
     #[tactic(auto, unfolding(crate::specs::Completion::session_kept))]
     fn session_kept<K: Keep>(&self, keep: &K, place: usize) -> u64
         requires { place < session_limit }

@@ -1,4 +1,4 @@
-//! The context of a session: a token that names its slot in the device.
+//! The context of a session: a token that names the session's slot in the device.
 
 ghost use Rattle.std.specs.Prelude.{◌≡◌, length};
 ghost use Rattle.tpm_completion.specs.Context.{context_text, mark, names_session, saved_handle_at, token_at, token_text};

@@ -16,7 +16,7 @@ use tpm_types::{
 /// The tag of the ticket: TPM_ST_HASHCHECK.
 const HASH_CHECK_TAG: u16 = 0x8024;
 
-/// The first bytes of what a TPM signs about itself: TPM_GENERATED_VALUE.
+/// The first bytes of a TPM's attestation structures: TPM_GENERATED_VALUE.
 const GENERATED: [u8; 4] = [0xff, 0x54, 0x43, 0x47];
 
 /// Parses the handle of a hierarchy: INSUFFICIENT if it is truncated, VALUE if it names no
@@ -36,7 +36,7 @@ fn read_hierarchy(text: &mut Cursor) -> Result<HierarchyHandle, Rc>
     Ok(hierarchy)
 }
 
-/// Whether the data begin like a structure that a TPM signs about itself.
+/// Whether the data begin like an attestation structure of a TPM.
 fn is_generated(message: &[u8]) -> bool
     ensures { result ≡ is_generated message.now }
 {

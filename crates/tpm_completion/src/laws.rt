@@ -10,16 +10,16 @@ pub fn device_first()
     ensures { DeviceFirst }
 {}
 
-/// If a device follows a history, it then follows that history extended by all executions for an
-/// event, with or without the layer.
+/// If a device follows a history, after an event it follows that history extended by all executions
+/// for the event, with or without the layer.
 pub fn runs_follow()
     ensures { RunsFollow }
 {}
 
 /// Loading the context of an object yields the object that was saved, as long as the start of the
 /// layer, the proof of the object's hierarchy and the counts to which the object is bound have not
-/// changed. A context that can be loaded was made with the same start, proof and counts, unless the
-/// HMAC has a collision.
+/// changed. Unless the HMAC has a collision, a context can be loaded only with the start, proof and
+/// counts with which it was made.
 pub fn loading_laws()
     ensures again { LoadsWhatWasSaved }
     ensures only { LoadsOnlyWhatWasMade }

@@ -1,5 +1,5 @@
-//! Encodes the list in an answer to TPM2_GetCapability: the elements from a number on, at most as
-//! many as the client asks for.
+//! Encodes the list in an answer to TPM2_GetCapability: the elements whose number is at least the
+//! requested one, and at most as many as the client asks for.
 
 ghost use Rattle.std.specs.Prelude.{◌≡◌, ◌≤◌, ◌<◌, ◌+◌, ◌*◌, ◌^◌, ◌++◌, List, [], ◌∷◌, length, take};
 ghost use Rattle.std.specs.Int.{w32, to_le_bytes};
@@ -37,7 +37,7 @@ pub fn element(number: u32, told: u32) -> Element
     Element { number, told }
 }
 
-/// The three octets of a selection of PCRs.
+/// The three octets that select PCRs.
 fn octets(select: u32) -> [u8; 3]
     ensures { result ≡ take 3 (to_le_bytes w32 select) }
 {

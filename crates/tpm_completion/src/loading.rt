@@ -13,7 +13,7 @@ use tpm_context::{ContextFault, open};
 use tpm_object::Object;
 use tpm_record::Keep;
 
-/// The context in a TPM2_ContextLoad without sessions, unless it names a session.
+/// The context that a TPM2_ContextLoad without sessions is to load, unless it is that of a session.
 fn object_context_in(buffer: &[u8]) -> Option<&[u8]>
     ensures { option_map (λ context. context.now) result
         ≡ object_context_in (plain_command buffer.now) }
@@ -28,8 +28,8 @@ fn object_context_in(buffer: &[u8]) -> Option<&[u8]>
     }
 }
 
-/// The context in a TPM2_ContextLoad of an object, if the device is started and refused the command
-/// with COMMAND_CODE.
+/// The context of an object that a TPM2_ContextLoad is to load, if the device is started and
+/// refused the command with COMMAND_CODE.
 #[tactic(auto, unfolding(crate::specs::Loading::context_asked))]
 pub fn context_asked<'a, K: Keep>(keep: &K, buffer: &'a [u8], response: &[u8]) -> Option<&'a [u8]>
     ensures { option_map (λ context. context.now) result

@@ -14,7 +14,7 @@ use tpm_types_object::public::ObjectType;
 /// The maximum number of algorithms in a list: MAX_ALG_LIST_SIZE.
 const ALGORITHM_LIMIT: u32 = 64;
 
-/// The maximum size of an answer without its header, for the tests and TPM2_Hash: a digest and a
+/// The maximum size of an answer to TPM2_Hash or a test command, without its header: a digest and a
 /// ticket.
 const BODY_LIMIT: usize = 74;
 

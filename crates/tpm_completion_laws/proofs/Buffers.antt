@@ -37,7 +37,8 @@ use Rattle.tpm_completion.specs.declared.completion.Completion.{Completion}
 
 -- ---- the device
 
--- If a header is correct except that its code is unknown, the fault is that of the code.
+-- If a command header is correct except for an unknown command code, its fault is the one for the
+-- code.
 lacked_by : (outside other_size : Bool) (named : Option Tag) (known : Option CommandCode) (tag : Tag) (rest : List ℕ) → outside ≡ false → named ≡ Some tag → other_size ≡ false → known ≡ None → (refused_if outside fault.Length >>= λ length_fits. ok_or named fault.Tag >>= λ tag. refused_if other_size fault.Size >>= λ size_is_length. ok_or known fault.Code >>= λ code. Ok (record { tag = tag; code = code }, rest)) ≡ (let done : Result (Header × List ℕ) HeaderFault = Err fault.Code in done)
 lacked_by outside other_size named known tag rest e0 e1 e2 e3 = rw (e0, e1, e2, e3) refl
 

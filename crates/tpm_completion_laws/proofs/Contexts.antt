@@ -1,4 +1,5 @@
--- The context of a session can be loaded only once, and only if it is from the layer's own start.
+-- The context of a session can be loaded only once, and only if it was saved since the last start
+-- of the layer.
 use Rattle.std.proofs.Common.{◌≡◌, ◌≢◌, ℕ, zero, suc, ◌<◌, ◌^◌, ◌==◌, ◌&&◌, Bool, true, false, List, length, take, drop, get_or, Result, Ok, Err, refl, sym, ap, subst, ◌∙◌, inl, inr, arith}
 use Rattle.std.specs.Prelude.{is_some, not, slice_set, if◌then◌else◌}
 use Rattle.std.specs.Int.{w32, w64, from_be_bytes, to_be_bytes}
@@ -62,7 +63,7 @@ token_once : (r later : Record) (c : Completion) (token : Token) → session_loa
     → session_loaded later (session_loaded r c token).after token ≡ refused (session_loaded r c token).after 0x1cb
 token_once r later c token accepted = session_once _ later c token accepted
 
--- a reply of the layer does not change its start number
+-- no reply of the layer changes the start number of the layer
 starts_if : (loads : Bool) (c : Completion) (token : Token) → (loaded_if loads c token).after.start ≡ c.start
 starts_if true c token = refl
 starts_if false c token = refl

@@ -66,15 +66,15 @@ PropertiesAscend =
 abbrev pub pcrs_with : (ℕ → Bool) → ℕ
 pcrs_with test = sum_by (λ pcr. if test pcr then 2 ^ pcr else 0) (numbers_below 24)
 
--- the properties of a locality: which PCRs may be extended from it, and which reset
+-- the properties of a locality: which PCRs can be extended from it, and which can be reset
 abbrev pub of_locality : (locality : ℕ) → List Element
 of_locality locality =
     element (2 * locality + 1) (pcrs_with (λ pcr. may_extend (use_of pcr) locality))
     ∷ element (2 * locality + 2) (pcrs_with (λ pcr. may_reset (use_of pcr) locality))
     ∷ []
 
--- The listed properties of PCRs match the device: PCRs 0 to 15 are saved, and the localities are
--- those that may extend or reset each PCR.
+-- The listed properties of PCRs match the device: PCRs 0 to 15 are saved, and each PCR is listed
+-- for the localities from which it can be extended or reset.
 abbrev pub PcrPropertiesHold : Type 0
 PcrPropertiesHold =
     pcr_property_elements
@@ -83,9 +83,9 @@ PcrPropertiesHold =
 
 -- ---- counts
 
--- Loaded and saved sessions together are all sessions. What exists and what is available add up to
--- the limit: HR_LOADED and HR_LOADED_AVAIL, HR_ACTIVE and HR_ACTIVE_AVAIL, and the transient
--- objects and HR_TRANSIENT_AVAIL.
+-- Loaded and saved sessions together are all sessions. The number of what exists and the number of
+-- what is available add up to the limit: HR_LOADED and HR_LOADED_AVAIL, HR_ACTIVE and
+-- HR_ACTIVE_AVAIL, and the transient objects and HR_TRANSIENT_AVAIL.
 pub record AddsUp (r : Record) (c : Completion) : Type 0 where
   pub all : active_count r c ≡ length (session_elements r)
   pub loaded : session_count r c false + (session_limit - session_count r c false) ≡ session_limit

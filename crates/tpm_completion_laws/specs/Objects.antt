@@ -24,8 +24,8 @@ use Rattle.tpm_completion.specs.Loaded.{StaysValid, saved_context}
 use Rattle.tpm_completion.specs.Saving.{counted}
 use Rattle.tpm_completion.specs.declared.completion.Completion.{Completion}
 
--- the buffer of TPM2_ContextSave (162) of a handle; below, of TPM2_ContextLoad (161) of a context;
--- both without sessions
+-- the buffer of a TPM2_ContextSave (162) of a handle, without sessions; below, of a
+-- TPM2_ContextLoad (161) of a context
 abbrev pub save_buffer : Handle → List ℕ
 save_buffer handle = framed 0x8001 0x162 (to_be_bytes w32 handle.number)
 
@@ -40,7 +40,8 @@ effect_of c r buffer locality elapsed random =
 
 -- ---- saving
 
--- An object was saved in a context with the next number, and the device's record is unchanged.
+-- An object was saved in a context with the layer's next number, and the device's record is
+-- unchanged.
 pub record IsSaved (r : Record) (c : Completion) (object : Object) (seen : Seen) : Type 0 where
   pub response : seen.step.response ≡ success (saved_context r c (c.count + 1) object)
   pub device : seen.step.after ≡ r
@@ -77,7 +78,7 @@ IsLoaded r object (Some handle) seen = IsPlaced r object handle seen
 IsLoaded r object None seen = IsFull r seen
 
 -- TPM2_ContextLoad of a valid context loads the same object, with its public area, its sensitive
--- area and its Name, and with a free handle. If all slots are occupied, it is refused with
+-- area and its Name, and with a free handle. If all slots are occupied, the command is refused with
 -- OBJECT_MEMORY (902).
 abbrev pub LoadsObjects : Type 0
 LoadsObjects =
@@ -90,8 +91,8 @@ LoadsObjects =
 
 -- ---- what ends the validity of a context
 
--- Every command, even TPM2_FlushContext of the object itself, leaves each context valid, with or
--- without the layer, unless the device executes a TPM2_Startup or a TPM2_Clear.
+-- Except for TPM2_Startup and TPM2_Clear, every command leaves each context valid, with or without
+-- the layer. This includes a TPM2_FlushContext of the object itself.
 abbrev pub StaysValidThrough : Type 0
 StaysValidThrough =
     (completes : Bool) (r : Record) (c : Completion) (object : Object) (buffer : List ℕ)

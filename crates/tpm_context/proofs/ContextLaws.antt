@@ -1,5 +1,5 @@
--- A context that was made opens as its object. A context that opens was made with the same proof,
--- start and counts, or the HMAC has a collision.
+-- Opening a context returns the object from which it was made. Unless the HMAC has a collision, a
+-- context opens only with the proof, the start number and the counts with which it was made.
 use Rattle.std.proofs.Common.{◌≡◌, ◌⊎◌, ℕ, ◌^◌, ◌<◌, Bool, true, false, List, [], ◌++◌, length, take, drop, Ok, refl, sym, ap, ◌∙◌, arith, inl, inr}
 use Rattle.std.specs.Int.{Width, w32, w64, from_be_bytes, to_be_bytes}
 use Rattle.std.specs.Str.{bytes_eq}
@@ -34,8 +34,8 @@ opens_again c is = context_opens c.hierarchies c.binding c.sequence c.object is.
 
 -- ---- the fields of a text
 
--- if two texts are equal and their first parts have the same size, their first parts are equal, and
--- so are their rests
+-- if two concatenations are equal and their first parts have the same size, the first parts are
+-- equal, and so are the remaining parts
 parted : (a b c d : List ℕ) → length a ≡ length b → a ++ c ≡ b ++ d → (a ≡ b) × (c ≡ d)
 parted a b c d size e = (
   sym (take_at a c (length a) refl) ∙ ap (take (length a)) e ∙ take_at b d (length a) (sym size),
@@ -49,7 +49,7 @@ restart_small : (b : Binding) (one : SavedHandle) → IsBinding b → restart_bo
 restart_small b saved.Ordinary is = omega arith
 restart_small b saved.StClear is = is.restart_count
 
--- The fields that precede the encrypted object are the same.
+-- Two contexts agree in all fields that their integrity values cover before the encrypted object.
 record SameBound (a b : Binding) (h k : ContextHead) : Type 0 where
   start : a.start ≡ b.start
   reset_count : a.reset_count ≡ b.reset_count
@@ -93,7 +93,7 @@ same_bytes proof other m n h k key start sequence one =
     ∙ ap (λ (s : ℕ). cipher_bytes other n (record h { sequence = s })) sequence
     ∙ ap (λ (s : SavedHandle). cipher_bytes other n (record h { sequence = k.sequence; saved = s })) one
 
--- if two texts have the same ciphertext, with the same key and IV, they are equal
+-- if two texts have the same ciphertext with the same key and IV, the texts are equal
 same_plain : (proof other : List ℕ) (m n : ℕ) (h k : ContextHead) (plain text : List ℕ) → cipher_bytes proof m h ≡ cipher_bytes other n k
     → encrypted proof m h plain ≡ encrypted other n k text → plain ≡ text
 same_plain proof other m n h k plain text bytes e =
@@ -132,7 +132,7 @@ same_making c d is js key text =
       object = same_object c.object d.object is.object js.object plain;
     }
 
--- Two keys and texts with the same HMAC are equal, or the HMAC has a collision.
+-- The keys and the texts are equal, or their HMACs collide.
 abbrev Alike : (key text other_key other_text : List ℕ) → Type 0
 Alike key text other_key other_text =
     ((key ≡ other_key) × (text ≡ other_text)) ⊎ Collides key text other_key other_text
@@ -158,7 +158,8 @@ integrity_means c d is js e = by (alike (key_of c) (covered_text c.binding c) (k
 
 -- ---- a context that opens
 
--- the object that opens is that of the context
+-- if a context is decrypted with the proof and start number with which it was made, it yields the
+-- object from which it was made
 opened_object : (proof other : List ℕ) (m n sequence : ℕ) (o object : Object) → IsObject o → proof ≡ other → m ≡ n
     → object_in (head_of sequence o) (decrypted other n (head_of sequence o) (encrypted proof m (head_of sequence o) (object_fields_text o))) ≡ Ok object
     → o ≡ object
@@ -173,7 +174,8 @@ opened_object proof other m n sequence o object is key start e =
     ∙ e
     )
 
--- what follows for a reader with these hierarchies and this binding if the context opens
+-- The integrity value of a context is correct for these hierarchies and this binding, and its
+-- ciphertext decrypts to this object.
 abbrev Finds : Making → Hierarchies → Binding → Object → Type 0
 Finds c h b object =
     let head = head_of c.sequence c.object in

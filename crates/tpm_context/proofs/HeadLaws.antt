@@ -1,4 +1,5 @@
--- The head of a context: decoding returns a head exactly if the bytes begin with its text.
+-- The head of a context: decoding returns a head exactly if the bytes begin with the text of this
+-- head.
 use Rattle.std.proofs.Common.{◌≡◌, ℕ, ◌^◌, ◌<◌, Bool, true, false, cond, Some, None, refl, sym, ap, ◌∙◌, arith}
 use Rattle.std.specs.Prelude.{◌==◌}
 use Rattle.std.specs.Int.{w32, w64, to_be_bytes}
@@ -104,7 +105,7 @@ is_of_own sequence o =
     let number = saved_number (saved_of o.public) in
     rw ((Decides-eqb owner owner).1 refl, (Decides-eqb number number).1 refl) refl
 
--- an object that matches a head has this head
+-- if an object matches a head, the head of the object's context is this head
 pub is_of_head : (h : ContextHead) (o : Object) → is_of h o ≡ true → head_of h.sequence o ≡ h
 is_of_head h o is = by (owner_number o.hierarchy == owner_number h.hierarchy) refl is
   where

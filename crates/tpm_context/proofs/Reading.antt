@@ -1,4 +1,5 @@
--- Reading a context: a context that was made can be read, and each context that is read was made.
+-- Reading a context: every context that was made can be read, and bytes that can be read are such a
+-- context.
 use Rattle.std.proofs.Common.{◌≡◌, ℕ, ◌^◌, ◌<◌, ◌≤◌, Bool, List, [], ◌∷◌, ◌++◌, length, Result, Ok, Err, refl, sym, ap, subst, ◌∙◌, append-nil, length-append, arith}
 use Rattle.std.specs.Prelude.{◌==◌, not, IfOk}
 use Rattle.std.specs.Str.{bytes_eq}
@@ -72,11 +73,12 @@ none_left : (bytes : List ℕ) → length bytes ≡ 0 → bytes ≡ []
 none_left [] e = refl
 none_left (byte ∷ bytes) e = absurd (omega arith)
 
--- a sized buffer that was read without a fault is the same if its faults are replaced
+-- if a sized buffer is read without a fault, the result is the same after the reader's faults are
+-- replaced
 sized_read : (limit : ℕ) (bytes : List ℕ) (x : List ℕ × List ℕ) → sized_at limit bytes ≡ Ok x → or_fault (sized_at limit bytes) fault.Size ≡ Ok x
 sized_read limit bytes x e = ap (λ (r : Result (List ℕ × List ℕ) SizedFault). or_fault r fault.Size) e
 
--- if a blob was read, the text consists of this blob as a sized buffer
+-- if a contextBlob was read from a text, the text consists of this blob in a sized buffer
 pub blob_found : (text blob : List ℕ) → AreBytes text → blob_in text ≡ Ok blob → (text ≡ sized_text blob) × (length blob ≤ blob_size) × AreBytes blob
 unfolding blob_in
 blob_found text blob fits e =
@@ -132,7 +134,8 @@ object_found head plain o fits e =
 
 -- ---- the whole context
 
--- reading a context that was made with another binding returns its parts
+-- reading a context splits it into the parts from which it was made, even if the reader has another
+-- binding
 pub opened_is : (h : Hierarchies) (a b : Binding) (proof : List ℕ) (head : ContextHead) (cipher : List ℕ)
     → head.sequence < 2 ^ 64 → length cipher ≤ object_fields_size
     → opened h b (sealed_text proof a head cipher) ≡ opened_parts (proof_of h head.hierarchy) b head (integrity_of proof a head cipher) cipher
@@ -146,14 +149,16 @@ opened_is h a b proof head cipher counted small =
     ∙ ap (λ (r : Result (List ℕ) ContextFault). r >>= λ l. parts_in l >>= λ p. opened_parts (proof_of h head.hierarchy) b head p.0 p.1) (blob_again blob fits)
     ∙ ap (λ (r : Result (List ℕ × List ℕ) ContextFault). r >>= λ p. opened_parts (proof_of h head.hierarchy) b head p.0 p.1) (parts_again integrity cipher whole)
 
--- if the integrity value is correct, the parts open as the object
+-- with the correct integrity value, opening the parts of a context has the same result as
+-- decrypting its object
 pub parts_open : (proof : List ℕ) (b : Binding) (head : ContextHead) (cipher : List ℕ) → opened_parts proof b head (integrity_of proof b head cipher) cipher ≡ object_in head (decrypted proof b.start head cipher)
 unfolding opened_parts
 parts_open proof b head cipher =
     let value : List ℕ = integrity_of proof b head cipher in
     ap (λ (right : Bool). refused_if (not right) fault.Integrity >>= λ passed. object_in head (decrypted proof b.start head cipher)) ((bytes_eq-Decides value value).1 refl)
 
--- if the parts open, the integrity value is correct
+-- if the parts of a context open, its integrity value is correct, and its ciphertext decrypts to
+-- the object
 pub parts_right : (proof : List ℕ) (b : Binding) (head : ContextHead) (integrity cipher : List ℕ) (o : Object)
     → opened_parts proof b head integrity cipher ≡ Ok o
     → (integrity ≡ integrity_of proof b head cipher) × (object_in head (decrypted proof b.start head cipher) ≡ Ok o)
@@ -175,7 +180,7 @@ context_opens h b sequence o counted is =
     ∙ ap (object_in head) (decrypted_again proof b.start head (object_fields_text o))
     ∙ object_again sequence o is
 
--- bytes that open are the context of their object
+-- if bytes open as an object, they are a context of this object
 pub context_found : (h : Hierarchies) (b : Binding) (bytes text blob integrity cipher : List ℕ) (head : ContextHead) (o : Object)
     → AreBytes bytes → head_at bytes ≡ Ok (head, text) → blob_in text ≡ Ok blob → parts_in blob ≡ Ok (integrity, cipher)
     → AreBytes (decrypted (proof_of h head.hierarchy) b.start head cipher)
@@ -203,7 +208,7 @@ context_found h b bytes text blob integrity cipher head o fits first second thir
 
 -- ---- what the code finds
 
--- if a decrypted text equals a list of bytes, it is a list of bytes
+-- a text that equals a list of bytes is itself a list of bytes
 pub if_plain : (r : Result Object ContextFault) (found plain : List ℕ) → AreBytes found → found ≡ plain → IfOk r (λ object. AreBytes plain)
 if_plain (Ok o) found plain are same = subst AreBytes same are
 if_plain (Err e) found plain are same = tt

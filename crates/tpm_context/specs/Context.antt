@@ -1,5 +1,5 @@
--- The context of an object: how it is written and read. TPM 2.0 Library, Part 1, section 30, Part
--- 2, section 14 (TPMS_CONTEXT), and Part 3, sections 28.2 and 28.3.
+-- The context of an object: how it is written and read. See TPM 2.0 Library, Part 1, section 30,
+-- Part 2, section 14 (TPMS_CONTEXT), and Part 3, sections 28.2 and 28.3.
 use Rattle.std.specs.Prelude.{ℕ, ◌+◌, ◌==◌, not, List, ◌++◌, length, Result, Ok, Err}
 use Rattle.std.specs.Str.{bytes_eq}
 use Rattle.tpm_bytes.specs.Reading.{◌>>=◌, or_fault, refused_if, sized_at}
@@ -48,7 +48,7 @@ object_cipher h start sequence object =
     encrypted (proof_of h object.hierarchy) start (head_of sequence object)
     (object_fields_text object)
 
--- the context of an object, with this sequence
+-- the context of an object, with this sequence number
 unfoldable pub context_text : Hierarchies → Binding → (sequence : ℕ) → Object → List ℕ
 context_text h b sequence object =
     sealed_text (proof_of h object.hierarchy) b (head_of sequence object)
@@ -56,8 +56,8 @@ context_text h b sequence object =
 
 -- ---- reading a context
 
--- the fault of a contextBlob: SIZE if it is longer than that of any object, otherwise INSUFFICIENT
--- if it is truncated
+-- the fault if a contextBlob cannot be read: SIZE if it is longer than the longest contextBlob,
+-- INSUFFICIENT if it is truncated
 abbrev pub blob_fault : SizedFault → ContextFault
 blob_fault sized.TooLong = fault.Size
 blob_fault sized.Short = fault.Truncated
@@ -66,23 +66,24 @@ abbrev pub or_blob_fault : {X : Type 0} → Result X SizedFault → Result X Con
 or_blob_fault (Ok x) = Ok x
 or_blob_fault (Err e) = Err (blob_fault e)
 
--- the contextBlob in the bytes after the head; SIZE if bytes follow it
+-- the contextBlob in the bytes after the head; the fault is SIZE if other bytes follow the
+-- contextBlob
 unfoldable pub blob_in : List ℕ → Result (List ℕ) ContextFault
 blob_in text = do
   blob ← or_blob_fault (sized_at blob_size text)
   ended ← refused_if (not (length blob.1 == 0)) fault.Size
   Ok blob.0
 
--- the integrity value and the encrypted object in a contextBlob; SIZE if the integrity value is
--- truncated, or does not have the size of a SHA-256 digest
+-- the integrity value and the encrypted object in a contextBlob; the fault is SIZE if the integrity
+-- value is truncated, or does not have the size of a SHA-256 digest
 unfoldable pub parts_in : List ℕ → Result (List ℕ × List ℕ) ContextFault
 parts_in blob = do
   parts ← or_fault (sized_at 32 blob) fault.Size
   whole ← refused_if (not (length parts.0 == 32)) fault.Size
   Ok parts
 
--- the object in a decrypted text, which must end with it; its hierarchy and its stClear must be
--- those of the head
+-- the object that a decrypted text encodes. No bytes may follow the object, and its hierarchy and
+-- its stClear must be those of the head
 unfoldable pub object_in : ContextHead → (plain : List ℕ) → Result Object ContextFault
 object_in head plain = do
   object ← or_fault (object_fields_in plain) fault.Integrity
@@ -99,9 +100,10 @@ opened_parts proof b head integrity cipher = do
       fault.Integrity
   object_in head (decrypted proof b.start head cipher)
 
--- the object of a context. The faults, in the order of the checks: those of the head, which is read
--- field by field; those of the contextBlob; bytes after it; an integrity value of the wrong size; a
--- wrong integrity value; and an object that cannot be decoded or does not match the head
+-- the object of a context. The faults, in the order of the checks, are: those of the head, which is
+-- read field by field; those of the contextBlob; bytes after the contextBlob; an integrity value of
+-- the wrong size; a wrong integrity value; and an object that cannot be decoded or does not match
+-- the head
 unfoldable pub opened : Hierarchies → Binding → List ℕ → Result Object ContextFault
 opened h b bytes = do
   head ← head_at bytes

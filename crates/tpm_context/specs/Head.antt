@@ -23,8 +23,8 @@ use Rattle.tpm_context.specs.declared.head.SavedHandle.TheVariants as saved
 
 -- ---- faults
 
--- the code of each fault: INSUFFICIENT (1DA), SIZE (1D5), HANDLE (1CB), VALUE (1C4) or INTEGRITY
--- (1DF), each for parameter 1
+-- the response code of each fault: INSUFFICIENT (1DA), SIZE (1D5), HANDLE (1CB), VALUE (1C4) or
+-- INTEGRITY (1DF), each for parameter 1
 abbrev pub fault_code : ContextFault → ResponseCode
 fault_code fault.Truncated = code.Insufficient
 fault_code fault.Size = code.Size
@@ -37,12 +37,12 @@ fault_rc f = at (place.Parameter 1) (plain (fault_code f))
 
 -- ---- savedHandle
 
--- the savedHandle of an object (Part 2, section 14.5, table TPMI_DH_SAVED)
+-- the number of an object's savedHandle (Part 2, section 14.5, table TPMI_DH_SAVED)
 abbrev pub saved_number : SavedHandle → ℕ
 saved_number saved.Ordinary = 0x8000_0000
 saved_number saved.StClear = 0x8000_0002
 
--- the kind of object that a savedHandle names
+-- the savedHandle with this number, if it is that of an object
 abbrev pub saved_named : ℕ → Option SavedHandle
 saved_named number =
     if number == 0x8000_0000 then Some saved.Ordinary
@@ -63,7 +63,7 @@ head_of sequence object = record {
   hierarchy = object.hierarchy;
 }
 
--- the text of a head: sequence, savedHandle and hierarchy
+-- the text of a head: the sequence number, the savedHandle and the hierarchy
 abbrev pub head_text : ContextHead → List ℕ
 head_text h =
     to_be_bytes w64 h.sequence ++ to_be_bytes w32 (saved_number h.saved)
@@ -94,7 +94,7 @@ head_at text = do
     hierarchy.1,
   )
 
--- whether an object has this hierarchy and savedHandle
+-- whether an object has the hierarchy and the savedHandle of this head
 abbrev pub is_of : ContextHead → Object → Bool
 is_of h object =
     if (hierarchy_handle object.hierarchy).number == (hierarchy_handle h.hierarchy).number then

@@ -1,5 +1,5 @@
--- What follows if a context opens: it was made with the same proof and the same binding, or the
--- HMAC has a collision.
+-- Unless the HMAC has a collision, a context opens only with the proof and the binding with which
+-- it was made.
 use Rattle.std.specs.Prelude.{◌≡◌, ◌⊎◌, ◌<◌, ◌^◌, ℕ, List, Ok}
 use Rattle.tpm_mac.specs.Hmac.{hmac_of}
 use Rattle.tpm_mac.specs.declared.algorithm.HashAlg.TheVariants.{Sha256}
@@ -11,7 +11,7 @@ use Rattle.tpm_context.specs.Head.{head_of, saved_of}
 use Rattle.tpm_context.specs.Protection.{protected_text, restart_bound}
 use Rattle.tpm_context.specs.declared.binding.Binding.{Binding}
 
--- Bytes are the context of this object, with some sequence.
+-- The bytes are a context of this object, with some sequence number.
 pub record IsContext (h : Hierarchies) (b : Binding) (bytes : List ℕ) (object : Object) : Type 0
   where
     pub sequence : ℕ
@@ -30,7 +30,8 @@ pub record Making : Type 0 where
 abbrev pub context_of : Making → List ℕ
 context_of c = context_text c.hierarchies c.binding c.sequence c.object
 
--- the key of its integrity value; then, the text that this value covers
+-- the HMAC key for the integrity value of a context; below, the text that the integrity value
+-- covers
 abbrev pub key_of : Making → List ℕ
 key_of c = proof_of c.hierarchies c.object.hierarchy
 
@@ -39,7 +40,7 @@ covered_text b c =
     protected_text b (head_of c.sequence c.object)
     (object_cipher c.hierarchies c.binding.start c.sequence c.object)
 
--- the restartCount to which an object is bound
+-- the restartCount to which the context of an object is bound
 abbrev pub restart_of : Binding → Object → ℕ
 restart_of b object = restart_bound b (saved_of object.public)
 
@@ -49,15 +50,15 @@ pub record IsBinding (b : Binding) : Type 0 where
   pub reset_count : b.reset_count < 2 ^ 32
   pub restart_count : b.restart_count < 2 ^ 32
 
--- A context can be made: every number fits its integer type, and the object is one that a device
--- can have.
+-- A context can be made from these values: every number fits its integer type, and the object is
+-- one that a device can have.
 pub record IsMaking (c : Making) : Type 0 where
   pub binding : IsBinding c.binding
   pub sequence : c.sequence < 2 ^ 64
   pub object : IsObject c.object
 
--- Two contexts have the same object and sequence, and were made with the same proof, start and
--- counts.
+-- Two contexts have the same object and sequence number, and were made with the same proof, start
+-- number and counts.
 pub record AreSame (c d : Making) : Type 0 where
   pub key : key_of c ≡ key_of d
   pub start : c.binding.start ≡ d.binding.start
@@ -73,12 +74,12 @@ pub record Collides (key text other_key other_text : List ℕ) : Type 0 where
 
 -- ---- the laws
 
--- A context opens as its object.
+-- Opening a context returns the object from which it was made.
 abbrev pub OpensAgain : Type 0
 OpensAgain =
     (c : Making) → IsMaking c → opened c.hierarchies c.binding (context_of c) ≡ Ok c.object
 
--- Two contexts with the same integrity value are the same, or the HMAC has a collision.
+-- Two contexts with the same integrity value are the same (`AreSame`), or the HMAC has a collision.
 abbrev pub IntegrityMeans : Type 0
 IntegrityMeans =
     (c d : Making) → IsMaking c → IsMaking d
@@ -87,27 +88,30 @@ IntegrityMeans =
     → AreSame c d
     ⊎ Collides (key_of c) (covered_text c.binding c) (key_of d) (covered_text d.binding d)
 
--- the values of a context, with these hierarchies, this binding and this object instead
+-- the values from which a context was made, except for its hierarchies, binding and object, which
+-- are replaced by these
 abbrev pub made_with : Hierarchies → Binding → Object → Making → Making
 made_with h b object c =
     record { hierarchies = h; binding = b; sequence = c.sequence; object = object }
 
--- The HMAC has a collision between a context and a reader with these hierarchies and this binding.
+-- The integrity value of a context equals the one that a reader with these hierarchies and this
+-- binding computes, although the key or the covered text differs.
 abbrev pub CollidesFor : Hierarchies → Binding → Making → Type 0
 CollidesFor h b c =
     Collides (key_of c) (covered_text c.binding c)
     (proof_of h c.object.hierarchy) (covered_text b c)
 
--- If a context opens with some hierarchies and some binding, it was made with the same proof, start
--- and counts, and opens as its object; or the HMAC has a collision.
+-- Unless the HMAC has a collision, a context that opens with some hierarchies and some binding was
+-- made with the same proof, start number and counts, and opens as the object from which it was
+-- made.
 abbrev pub OpensOnlyAsMade : Type 0
 OpensOnlyAsMade =
     (c : Making) (h : Hierarchies) (b : Binding) (object : Object)
     → IsMaking c → IsBinding b → opened h b (context_of c) ≡ Ok object
     → AreSame c (made_with h b object c) ⊎ CollidesFor h b c
 
--- A context with another start, or with another count of TPM Resets, opens only if the HMAC has a
--- collision.
+-- A context that was made with another start number or another count of TPM Resets opens only if
+-- the HMAC has a collision.
 abbrev pub RefusesAnotherBinding : Type 0
 RefusesAnotherBinding =
     (c : Making) (h : Hierarchies) (b : Binding) (object : Object)

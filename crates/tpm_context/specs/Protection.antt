@@ -16,27 +16,28 @@ use Rattle.tpm_context.specs.declared.head.SavedHandle.TheVariants as saved
 abbrev pub context_label : List ℕ
 context_label = 0x43 ∷ 0x4f ∷ 0x4e ∷ 0x54 ∷ 0x45 ∷ 0x58 ∷ 0x54 ∷ []
 
--- KDFa's contextV: the savedHandle, then the start of the layer. The standard has the savedHandle
--- alone. This device adds the start, since each start counts its contexts from 1 again
+-- KDFa's contextV: the savedHandle, then the start number of the layer. The standard has only the
+-- savedHandle. This device adds the start number, because the layer counts contexts from 1 again at
+-- each start
 abbrev pub context_party : (start : ℕ) → ContextHead → List ℕ
 context_party start head =
     to_be_bytes w32 (saved_number head.saved) ++ to_be_bytes w64 start
 
--- the key and the IV of a context, one after the other: KDFa(SHA-256, the proof of the hierarchy,
--- "CONTEXT", sequence, savedHandle and start, 256 bits)
+-- the key and the IV with which a context is encrypted, one after the other: KDFa(SHA-256, the
+-- proof of the hierarchy, "CONTEXT", sequence, savedHandle and start, 256 bits)
 unfoldable pub cipher_bytes : (proof : List ℕ) → (start : ℕ) → ContextHead → List ℕ
 cipher_bytes proof start head =
     kdfa_of Sha256 proof context_label (to_be_bytes w64 head.sequence)
     (context_party start head) 32
 
--- the key, which is the first 128 bits; and the IV, the remaining bits
+-- the encryption key, which is the first 128 bits; below, the IV, which is the rest
 abbrev pub cipher_key : List ℕ → List ℕ
 cipher_key bytes = take 16 bytes
 
 abbrev pub cipher_iv : List ℕ → List ℕ
 cipher_iv bytes = drop 16 bytes
 
--- a text encrypted for a context, and decrypted from it
+-- a text encrypted for a context; below, a text decrypted from a context
 abbrev pub encrypted : (proof : List ℕ) → (start : ℕ) → ContextHead → (plain : List ℕ) → List ℕ
 encrypted proof start head plain =
     let bytes : List ℕ = cipher_bytes proof start head in
@@ -47,15 +48,15 @@ decrypted proof start head cipher =
     let bytes : List ℕ = cipher_bytes proof start head in
     cfb_decrypt_of (cipher_key bytes) (cipher_iv bytes) cipher
 
--- the restartCount to which a context is bound: an object with stClear does not outlive a TPM
--- Restart. For an object without stClear it is 0
+-- the restartCount to which a context is bound: the device's if the object has stClear, since this
+-- object does not outlive a TPM Restart; otherwise 0
 abbrev pub restart_bound : Binding → SavedHandle → ℕ
 restart_bound b saved.Ordinary = 0
 restart_bound b saved.StClear = b.restart_count
 
--- the fields that precede the encrypted object in the text of the integrity value. Part 1, section
--- 30.3, requires resetCount, restartCount for an object with stClear, sequence and savedHandle.
--- This device adds the start of the layer, and a 0 as restartCount for an object without stClear,
+-- the fields that the integrity value covers before the encrypted object. Part 1, section 30.3,
+-- requires resetCount, restartCount for an object with stClear, sequence and savedHandle. This
+-- device adds the start number of the layer, and a 0 as restartCount for an object without stClear,
 -- so that two contexts with different fields have different texts
 abbrev pub bound_text : Binding → ContextHead → List ℕ
 bound_text b head =
@@ -67,7 +68,7 @@ bound_text b head =
 abbrev pub protected_text : Binding → ContextHead → (cipher : List ℕ) → List ℕ
 protected_text b head cipher = bound_text b head ++ cipher
 
--- the integrity value: HMAC(SHA-256, the proof of the hierarchy, the text)
+-- the integrity value: HMAC(SHA-256, the proof of the hierarchy, the covered text)
 unfoldable pub integrity_of : (proof : List ℕ)
     → Binding → ContextHead → (cipher : List ℕ) → List ℕ
 integrity_of proof b head cipher = hmac_of Sha256 proof (protected_text b head cipher)

@@ -13,10 +13,10 @@ pub enum ContextFault {
     Truncated,
     /// The savedHandle is not that of an object: TPM_RC_HANDLE.
     SavedHandle,
-    /// The number of the hierarchy is not that of a hierarchy: TPM_RC_VALUE.
+    /// The hierarchy is not the handle of a hierarchy: TPM_RC_VALUE.
     Hierarchy,
-    /// The contextBlob or its integrity value has the wrong size, or bytes are left over:
-    /// TPM_RC_SIZE.
+    /// The contextBlob or its integrity value has the wrong size, or more bytes follow the
+    /// contextBlob: TPM_RC_SIZE.
     Size,
     /// The integrity value is wrong, or the object does not match the context: TPM_RC_INTEGRITY.
     Integrity,
@@ -35,7 +35,7 @@ impl ContextFault {
         }
     }
 
-    /// The response code, for parameter 1 of TPM2_ContextLoad.
+    /// The response code of this fault, for parameter 1 of TPM2_ContextLoad.
     pub fn rc(self) -> Rc
         ensures { result ≡ fault_rc self }
     {

@@ -1,10 +1,10 @@
-//! What holds for every context.
+//! Laws about every context.
 
 ghost use Rattle.tpm_context.specs.Meaning.{IntegrityMeans, OpensAgain, OpensOnlyAsMade, RefusesAnotherBinding};
 
-/// A context opens as its object. If two contexts have the same integrity value, they have the same
-/// object and sequence, and were made with the same proof, start and counts; otherwise the HMAC has
-/// a collision. A proof only: it has no effect at run time.
+/// Opening a context returns the object from which it was made. Unless the HMAC has a collision,
+/// two contexts with the same integrity value have the same object and sequence number, and were
+/// made with the same proof, start number and counts. A proof only: it has no effect at run time.
 #[inline(always)]
 #[tactic(auto, using(crate::proofs::ContextLaws::opens_again, crate::proofs::ContextLaws::integrity_means))]
 pub fn context_laws()
@@ -12,9 +12,9 @@ pub fn context_laws()
     ensures integrity { IntegrityMeans }
 {}
 
-/// A context that opens was made with the same proof, start and counts, or the HMAC has a
-/// collision. Therefore a context with another start or another resetCount opens only if the HMAC
-/// has a collision. A proof only: it has no effect at run time.
+/// Unless the HMAC has a collision, a context opens only with the proof, start number and counts
+/// with which it was made. Therefore, it opens with another start number or another resetCount only
+/// if the HMAC has a collision. A proof only: it has no effect at run time.
 #[inline(always)]
 #[tactic(auto, using(crate::proofs::ContextLaws::opens_only_as_made, crate::proofs::ContextLaws::refuses_another_binding))]
 pub fn binding_laws()

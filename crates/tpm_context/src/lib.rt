@@ -4,12 +4,12 @@
 //! returns it, and TPM2_ContextLoad loads the object from it. The completing layer answers both
 //! commands with this crate.
 //!
-//! A context holds the whole object, encrypted, and an integrity value, which binds it to the proof
-//! of the object's hierarchy and to the device's count of TPM Resets ([`Binding`]). [`seal`] makes
-//! a context, and [`open`] reads it. No call allocates memory.
+//! A context contains the whole object, encrypted, and an integrity value, which binds it to the
+//! proof of the object's hierarchy and to the device's count of TPM Resets ([`Binding`]). [`seal`]
+//! makes a context, and [`open`] reads it. No call allocates memory.
 //!
-//! A context that was made opens as its object. Whatever opens was made with the same proof and
-//! the same binding, or the HMAC has a collision ([`laws`]).
+//! Opening a context returns the object from which it was made. Unless the HMAC has a collision, a
+//! context opens only with the proof and the binding with which it was made ([`laws`]).
 
 mod binding;
 mod fault;

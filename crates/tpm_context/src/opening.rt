@@ -116,7 +116,7 @@ fn open_parts(
     object_in(head, plain.as_slice())
 }
 
-/// Returns the object of a context, if the device made the context with these hierarchies and this
+/// Returns the object of a context, if the context was made with these hierarchies and this
 /// binding.
 #[tactic(auto, unfolding(crate::specs::Context::opened))]
 pub fn open(
@@ -125,7 +125,7 @@ pub fn open(
     bytes: &[u8],
 ) -> Result<Object, ContextFault>
     ensures value { result ≡ opened hierarchies.now binding bytes.now }
-    // Bytes that open are the context of their object, with the sequence that they contain.
+    // If the bytes open as an object, they are a context of this object, with some sequence number.
     ensures made { IfOk result (λ object. IsContext hierarchies.now binding bytes.now object) }
 {
     let mut text = Cursor::new(bytes);

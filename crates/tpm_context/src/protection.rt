@@ -34,7 +34,7 @@ fn cipher_from(bytes: &[u8; 32]) -> ContextCipher
     }
 }
 
-/// Returns KDFa's contextV of a context.
+/// Returns KDFa's argument contextV for a context.
 fn context_party(start: u64, head: ContextHead) -> Sink<12>
     ensures { result ≡ context_party start head }
 {
@@ -89,7 +89,7 @@ fn restart_bound(binding: Binding, saved: SavedHandle) -> u32
     }
 }
 
-/// Returns the fields that precede the encrypted object in the text of the integrity value.
+/// Returns the fields that the integrity value covers before the encrypted object.
 fn bound_text(binding: Binding, head: ContextHead) -> Sink<28>
     ensures { result ≡ bound_text binding head }
 {

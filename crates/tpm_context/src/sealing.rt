@@ -44,9 +44,9 @@ fn write_object(object: &Object, text: &mut Sink<OBJECT_SIZE>)
     text.append_sized(sensitive.text().as_slice());
 }
 
-/// Writes the context of an object. No two contexts of one start of the layer may have the same
-/// sequence, since they would be encrypted with the same key and IV. Contexts of different starts
-/// have different keys.
+/// Writes the context of an object. After one start of the layer, no two contexts may have the same
+/// sequence number, since they would be encrypted with the same key and IV. Contexts of different
+/// starts have different keys.
 #[tactic(auto, unfolding(crate::specs::Context::context_text))]
 pub fn seal(
     hierarchies: &Hierarchies,

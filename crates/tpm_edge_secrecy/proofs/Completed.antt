@@ -61,7 +61,8 @@ module _ (indices : ℕ → Bool) (objects : Public → Bool) where
   sets_alike : (r t : Record) → DifferInSecrets s r t → SetAlike r t
   sets_alike r t differ = ap (λ (x : Record). values_set x.fixed.hierarchies) differ
 
-  -- whether the answer after an effect is the context of an object that has a secret
+  -- whether the layer's answer after a command's effect is the context of an object that has a
+  -- secret
   abbrev is_saved : Seen → List ℕ → Bool
   is_saved x buffer = saves_secret s x.step.after x.layer buffer x.step.response
 
@@ -132,7 +133,7 @@ module _ (indices : ℕ → Bool) (objects : Public → Bool) where
 
   -- ---- an event
 
-  -- a command is the same on both devices
+  -- an event that equals a command except for secrets is that command
   same_command : (buffer : List ℕ) (locality elapsed : ℕ) (random : List ℕ) (also : PlainEvent) → EventsAlike s (Given buffer locality elapsed random) also → Given buffer locality elapsed random ≡ also
   same_command buffer locality elapsed random (Given others from later bytes) same = same
   same_command buffer locality elapsed random Cycled same = absurd cc

@@ -1,5 +1,5 @@
--- The contexts of objects on two devices that differ only in secrets: an object without secrets has
--- the same context, and a context contains the same object.
+-- The contexts of objects on two devices that differ only in secrets: on both, an object without
+-- secrets has the same context, and a context contains the same object.
 use Rattle.std.proofs.Common.{ap, refl, sym, ◌∙◌}
 use Rattle.std.specs.Prelude.{Bool, Err, List, None, Ok, Result, false, if◌then◌else◌, true, ℕ, ◌&&◌, ◌||◌, ◌≡◌}
 use Rattle.tpm_bytes.specs.Reading.{◌>>=◌}
@@ -56,7 +56,7 @@ module _ (s : Secrecy) (one other : Record) (differ : DifferInSecrets s one othe
   binding_alike : (c : Completion) → binding_of one c ≡ binding_of other c
   binding_alike c = ap (λ (r : Record). binding_of r c) differ
 
-  -- an object has the same context on both devices
+  -- an object has the same context on two devices that differ only in secrets
   pub context_alike : (c : Completion) (number : ℕ) (o : Object) → context_text one.fixed.hierarchies (binding_of one c) number o ≡ context_text other.fixed.hierarchies (binding_of other c) number o
   unfolding context_text
   context_alike c number o =

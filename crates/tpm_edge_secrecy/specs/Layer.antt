@@ -30,7 +30,7 @@ use Rattle.tpm_types_object.specs.declared.public.Public.{Public}
 
 -- ---- which contexts hold secrets
 
--- whether an object has a secret: its authorization value; or its sealed data or HMAC key
+-- whether an object has a secret authorization value, secret sealed data or a secret HMAC key
 abbrev pub has_secret : Secrecy → Object → Bool
 has_secret s o = s.object_values o.public || has_secret_data s o
 
@@ -165,8 +165,8 @@ NoneReadsWith s c r (e ∷ es) =
     let x : Seen = completed e.0 c r e.1 in
     (is_reading s r e.1 ≡ false) × NoneReadsWith s x.layer x.step.after es
 
--- Two lists contain the same events, and the layer completes the same ones. But objects that the
--- events place may differ in secrets.
+-- Two lists contain the same events, except that the objects that they place may differ in secrets.
+-- The layer completes the same events of both.
 abbrev pub CompletionsAlike : Secrecy → Completions → Completions → Type 0
 CompletionsAlike s [] [] = Unit {0}
 CompletionsAlike s (e ∷ es) (f ∷ fs) =

@@ -21,10 +21,11 @@ journal_history text opened new is history =
     (run_of_all false is.reads.start.journal is.reads.start.device
     is.reads.replays.repeats.performances opened.journal new is.reads.replays.repeats.leads)
 
--- A text was opened as a journal, and the device in its head follows a history: the device of an
--- image after a power cycle, or of a state text. Whatever was executed on the opened device since,
--- an execution reveals nothing about sealed data, or is recorded as an accepted command that reads
--- them. That command met the object's policy, if the object has no userWithAuth (`ReadsSealed`).
+-- A text was opened as a journal, and the device in its head follows a history. (For an image, this
+-- is the device after a power cycle.) After any executions on the opened device, the next execution
+-- reveals nothing about sealed data, or is recorded as an accepted command that reads such data
+-- (`ReadsSealed`). Unless the hash is broken, a policy session of that command satisfied the
+-- object's policy, if the object has no userWithAuth and its authPolicy is the digest of a policy.
 -- The history begins with that of the head's device.
 abbrev pub OpenedDataNeedPolicy : Type 0
 OpenedDataNeedPolicy =

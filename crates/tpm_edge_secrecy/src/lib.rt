@@ -33,10 +33,10 @@ pub fn layer_laws()
 {}
 
 /// A device was opened from a journal. Each execution on it reveals nothing about data that objects
-/// seal, or is an accepted command that reads such data. If the object has no userWithAuth, that
-/// command satisfied the object's policy, or the hash is broken. The history consists of the
-/// history of the device in the journal's head, what the journal's entries executed, and what was
-/// executed since.
+/// seal, or is an accepted command that reads such data. Unless the hash is broken, that command
+/// satisfied the object's policy, if the object has no userWithAuth and its authPolicy is the
+/// digest of a policy. The history consists of the history of the device in the journal's head,
+/// what the journal's entries executed, and what was executed since.
 #[inline(always)]
 pub fn opened_laws()
     ensures { OpenedDataNeedPolicy }

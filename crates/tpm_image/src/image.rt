@@ -67,7 +67,7 @@ pub fn open<K: Keep>(alloc: Global, text: &[u8]) -> Result<Machine<K>, ImageFaul
     ensures found { IfOk result (λ machine. (version : Version) × (kept : NonVolatile)
         × IsNonVolatile kept × IsImage version kept text.now
         × (state_of K.record_of machine ≡ powered_on kept)) }
-    // The image of a device, in either version, can be opened.
+    // Opening the image of a device, in either version, succeeds unless an allocation fails.
     ensures only { (version : Version) (r : Record) → IsRecord r
         → IsImage version (kept_of r) text.now
         → OpensAgain (state_of K.record_of) (K.empty_can_refuse || K.can_refuse) r result }
@@ -102,8 +102,8 @@ fn open_device<K: Keep>(alloc: Global, text: &[u8]) -> Result<Machine<K>, ImageF
 }
 
 /// Opens a device from its image, in either version, in a machine just manufactured with all-zero
-/// random bytes, which never runs out of memory. The device is the same as with [`open`], and is
-/// not moved. On error, the machine is unspecified.
+/// random bytes. The machine must never run out of memory. The device is the same as with [`open`],
+/// and is not moved. On error, the machine is unspecified.
 pub fn open_into<K: Keep>(machine: &mut Machine<K>, text: &[u8]) -> Result<(), ImageFault>
     requires new { state_of K.record_of machine.old ≡ manufactured (replicate 256 0) }
     requires never_refused { K.can_refuse ≡ false }

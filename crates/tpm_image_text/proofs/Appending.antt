@@ -10,7 +10,7 @@ module _ {X : Type 0} where
   all_below low key [] up below = tt
   all_below low key (e ∷ es) up below = (omega (arith, up, below.0), all_below low key es up below.1)
 
-  -- a key at or above the bound of all keys is free
+  -- if all keys are below a bound, no entry has a key at or above that bound
   pub free_above : (es : Entries X) (low key : ℕ) → low ≤ key → AllBelow low es → at_key es key ≡ None
   free_above [] low key up below = refl
   free_above (e ∷ es) low key up below =

@@ -1,4 +1,4 @@
--- Lemmas about reading the values of a bank one after another.
+-- Lemmas about reading the values of a PCR bank one after another.
 use Rattle.std.proofs.Common.{◌≡◌, ℕ, suc, ◌+◌, ◌-◌, ◌<◌, List, [], ◌∷◌, ◌++◌, length, take, slice_set, Result, Ok, Err, refl, sym, ap, ◌∙◌, arith}
 use Rattle.std.proofs.lemmas.List.{append-nil, take_all, take_more_set}
 use Rattle.tpm_bytes.specs.Many.{many_at}
@@ -8,7 +8,7 @@ use Rattle.tpm_image_text.specs.Body.{bank_in}
 use Rattle.tpm_image_text.specs.Fields.{bytes_in}
 use Rattle.tpm_image_text.specs.declared.fault.Malformed.{Malformed}
 
--- before the first value is read, the result of the whole loop is that of reading all values
+-- prepending an empty list to the elements that were read changes nothing
 pub behind_none : {A E : Type 0} (read : Result (List A × List ℕ) E) → behind [] read ≡ read
 behind_none (Ok x) = refl
 behind_none (Err e) = refl
@@ -45,7 +45,7 @@ bank_done size place values text whole long =
     ap (λ (n : ℕ). behind (take place values) (many_at (bytes_in size) n text)) left
     ∙ ap (λ (l : List (List ℕ)). Ok (l, text)) (append-nil (take place values) ∙ take_all place values (omega (arith, whole, long)))
 
--- if a value of a bank is truncated, the result of the whole loop is its fault
+-- if a value of a bank is truncated, the whole loop fails with the fault of reading that value
 pub bank_cut : (size place : ℕ) (values : List (List ℕ)) (fault : Malformed) (text : List ℕ) → place < 16 → bytes_in size text ≡ Err fault → values_left size place values text ≡ Err fault
 unfolding values_left
 bank_cut size place values fault text below is = none_more (bytes_in size) (take place values) (16 - place) (16 - (place + 1)) fault text (omega (arith, below)) is

@@ -1,5 +1,5 @@
 -- The body of an image: decoding returns a non-volatile state exactly if the bytes begin with its
--- encoding. Also, the largest size of a body.
+-- encoding. The file also proves the largest size of a body.
 use Rattle.tpm_image_text.specs.Sizes.{body_size}
 use Rattle.std.proofs.Common.{◌≡◌, ℕ, ◌^◌, ◌<◌, ◌≤◌, List, ◌++◌, length, Ok, refl, arith, length-append}
 use Rattle.tpm_containers.specs.SortedMap.{Entries}

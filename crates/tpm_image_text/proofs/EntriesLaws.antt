@@ -14,7 +14,8 @@ use Rattle.tpm_image_text.specs.declared.fault.FillFault.{FillFault}
 use Rattle.tpm_image_text.specs.declared.fault.FillFault.TheVariants as unfilled
 use Rattle.tpm_image_text.specs.declared.fault.Malformed.{Malformed}
 
--- prepends an entry to the entries that were read; and checks that keys ascend from `low` on
+-- prepends an entry to the entries that were read; below, checks that their keys ascend from `low`
+-- on
 abbrev pub before : {X : Type 0} → ℕ × X → Entries X × List ℕ → Result (Entries X × List ℕ) Malformed
 before e o = Ok (e ∷ o.0, o.1)
 
@@ -30,7 +31,7 @@ module _ {X : Type 0} (at : List ℕ → Result ((ℕ × X) × List ℕ) Malform
       refused_if (not (nat_le low first.0.0)) malformed >>= λ in_order.
       entries_from count (first.0.0 + 1) first.1 >>= before first.0
 
-  -- testing that all entries ascend is the same as testing the first one and then the others
+  -- testing whether all keys ascend is the same as testing the first key and then the others
   one_passes : (in_order : Bool) (e : ℕ × X) (others : Result (Entries X × List ℕ) Malformed) (low : ℕ) → nat_le low e.0 ≡ in_order → (others >>= before e >>= passed_from low) ≡ (refused_if (not in_order) malformed >>= λ first. others >>= passed_from (e.0 + 1) >>= before e)
   one_passes true e (Err fault) low is = refl
   one_passes false e (Err fault) low is = refl
@@ -78,7 +79,7 @@ module _ {X : Type 0} (at : List ℕ → Result ((ℕ × X) × List ℕ) Malform
       let none : count - place ≡ 0 = omega (arith, whole) in
       rw none (ap (λ (l : Entries X). let done : Result (Entries X × List ℕ) Malformed = Ok (l, text) in done) (append-nil so_far))
 
-  -- if an entry is malformed, or its key is too low, the result of the whole loop is malformed
+  -- if an entry is malformed, or its key is too low, the result of the whole loop is Malformed
   pub entries_cut : (count place low : ℕ) (so_far : Entries X) (text : List ℕ) → place < count → IfOk (at text) (λ x. x.0.0 < low) → entries_left count place low so_far text ≡ Err malformed
   unfolding entries_left entries_from
   entries_cut count place low so_far text below misfits = by (at text) refl misfits

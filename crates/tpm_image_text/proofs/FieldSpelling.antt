@@ -39,7 +39,7 @@ same_reading same law = record {
   again = λ x rest is. same _ ∙ law.again x rest is;
 }
 
--- an exact decoder that runs only if an earlier test passes is exact
+-- an exact decoder is still exact if it runs only after a test has passed
 pub behind_test : {A E : Type 0} {text : A → List ℕ} {Is Are : A → Type 0} {at : List ℕ → Result (A × List ℕ) E} (refuses : Bool) (fault : E) → ((x : A) → refuses ≡ false → Is x → Are x) → ((x : A) → Are x → (refuses ≡ false) × Is x) → Spelled text Is at → Spelled text Are (λ bytes. refused_if refuses fault >>= λ passed. at bytes)
 behind_test {A} {E} {text} {Is} {Are} {at} refuses fault to from law = record {
   taken = λ bytes x fits e.
@@ -53,8 +53,8 @@ pub not_false : (b : Bool) → not b ≡ false → b ≡ true
 not_false true e = refl
 not_false false e = absurd cc
 
--- if a decoder is exact, it is still exact after it also tests the decoded value and returns a
--- value made from it
+-- an exact decoder is still exact if it also tests the decoded value and returns a value made from
+-- that value
 pub tested : {A B E : Type 0} {text : A → List ℕ} {Is : A → Type 0} {at : List ℕ → Result (A × List ℕ) E} (test : A → Bool) (refusal : E) (made : A → B) (given : B → A) → ((x : A) → given (made x) ≡ x) → ((y : B) → made (given y) ≡ y) → Spelled text Is at → Spelled (λ y. text (given y)) (λ y. Is (given y) × (test (given y) ≡ true)) (λ bytes. at bytes >>= λ x. refused_if (not (test x.0)) refusal >>= λ passed. Ok (made x.0, x.1))
 tested {A} {B} {E} {text} {Is} {at} test refusal made given same whole law = record {
   taken = λ bytes y fits e.
@@ -71,8 +71,8 @@ tested {A} {B} {E} {text} {Is} {at} test refusal made given same whole law = rec
 pub passing_spelled : {A : Type 0} {text : A → List ℕ} {Is : A → Type 0} {at : List ℕ → Result (A × List ℕ) Malformed} (test : A → Bool) → Spelled text Is at → Spelled text (λ x. Is x × (test x ≡ true)) (passing test at)
 passing_spelled test law = tested test malformed (λ x. x) (λ x. x) (λ _. refl) (λ _. refl) law
 
--- if a decoder is exact, it is still exact after it returns a value made from the decoded one; each
--- of the two values must determine the other
+-- an exact decoder is still exact if it returns a value made from the decoded one, provided that
+-- each of the two values determines the other
 pub made_of : {A B E : Type 0} {text : A → List ℕ} {Is : A → Type 0} {at : List ℕ → Result (A × List ℕ) E} (made : A → B) (given : B → A) {Are : B → Type 0} → ((x : A) → Is x → (given (made x) ≡ x) × Are (made x)) → ((y : B) → Are y → (made (given y) ≡ y) × Is (given y)) → Spelled text Is at → Spelled (λ y. text (given y)) Are (λ bytes. at bytes >>= λ x. Ok (made x.0, x.1))
 made_of {A} {B} {E} {text} {Is} {at} made given {Are} to from law = record {
   taken = λ bytes y fits e.
@@ -88,7 +88,7 @@ made_of {A} {B} {E} {text} {Is} {at} made given {Are} to from law = record {
 -- ---- decoding a whole text
 
 module _ {A : Type 0} {text : A → List ℕ} {Is : A → Type 0} {at : List ℕ → Result (A × List ℕ) Malformed} (law : Spelled text Is at) where
-  -- if nothing of a text is left, the whole text was decoded
+  -- if no bytes of a text are left over, the decoder consumed the whole text
   all_taken : (bytes front left : List ℕ) → bytes ≡ front ++ left → (length left == 0) ≡ true → bytes ≡ front
   all_taken bytes front [] parts none = parts ∙ append-nil front
   all_taken bytes front (byte ∷ left) parts none = absurd (omega (arith, eqb-true _ _ none))
@@ -107,7 +107,7 @@ module _ {A : Type 0} {text : A → List ℕ} {Is : A → Type 0} {at : List ℕ
 
 -- ---- a decoder chosen by a test
 
--- if there is only one possible value, the decoder that returns it and takes no bytes is exact
+-- if there is only one possible value, the decoder that returns it and consumes no bytes is exact
 pub only : {A E : Type 0} {text : A → List ℕ} {Is : A → Type 0} (one : A) → text one ≡ [] → Is one → ((x : A) → Is x → x ≡ one) → Spelled {E = E} text Is (λ bytes. Ok (one, bytes))
 only {A} {E} {text} {Is} one empty is same = record {
   taken = λ bytes x fits e. subst (λ (y : A × List ℕ). Takes bytes (text y.0) y.1 × Is y.0) (ok_is {E = E} (one, bytes) x e) (record { parts = rw empty refl; rest_fits = fits }, is);
@@ -165,7 +165,7 @@ number_in_spelled w limit wide = record {
   again = λ n rest small. number_or_again w limit wide malformed n rest small;
 }
 
--- a decoder of numbers that stand for values is exact
+-- a decoder that reads a number and returns the value that the number represents is exact
 pub names_spelled : {A E : Type 0} (w : Width) (limit : ℕ) → IsWide w limit → (number_of : A → ℕ) (named : ℕ → Option A) (cut unknown : E) → ((n : ℕ) (x : A) → named n ≡ Some x → n ≡ number_of x) → ((x : A) → named (number_of x) ≡ Some x) → ((x : A) → number_of x < limit) → Spelled (λ x. to_be_bytes w (number_of x)) (λ x. Unit {0}) (λ text. or_fault (number_at w text) cut >>= λ number. ok_or (named number.0) unknown >>= λ one. Ok (one, number.1))
 names_spelled {A} {E} w limit wide number_of named cut unknown is found small = record {
   taken = λ bytes x fits e.

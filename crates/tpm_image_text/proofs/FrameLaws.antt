@@ -56,7 +56,7 @@ module _ {V E : Type 0} (format : Format V E) where
       let digest = (bytes_eq-Decides (hash_of Sha256 (before_digest text)) (digest_of text)).1 is.digest in
       rw (long, word, is.number, whole, digest) refl
 
-  -- if the decoder returns no fault, all five tests passed
+  -- if decoding a frame succeeds, all five tests passed
   none_refuses : (short word : Bool) (version : Option V) (whole digest : Bool) (body : List ℕ) (said : V × List ℕ) → (refused_if short format.short >>= λ a. refused_if (not word) format.magic >>= λ b. ok_or version format.version >>= λ v. refused_if (not whole) format.whole >>= λ c. refused_if (not digest) format.digest >>= λ d. let done : Result (V × List ℕ) E = Ok (v, body) in done) ≡ Ok said → (v : V) × (short ≡ false) × (word ≡ true) × (version ≡ Some v) × (whole ≡ true) × (digest ≡ true) × ((v, body) ≡ said)
   none_refuses false true (Some v) true true body said e = (v, refl, refl, refl, refl, refl, ok_is {E = E} (v, body) said e)
   none_refuses true word version whole digest body said e = absurd cc

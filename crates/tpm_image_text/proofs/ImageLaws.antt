@@ -54,7 +54,7 @@ image_small version kept is = omega (arith, length-image_text version kept, body
 
 -- ---- a prefix of an image
 
--- a prefix that is too short for a head and a digest is refused with Short
+-- a prefix that is too short to contain a head and a digest is refused with Short
 pub front_short : (text : List ℕ) (n : ℕ) → n < head_bytes + digest_bytes → image_of (take n text) ≡ Err fault.Short
 front_short text n few = ap kept_by (cut_short image_format (take n text) (omega (arith, few, length-take n text)))
 

@@ -106,7 +106,7 @@ index_spelled = made_of keyed (λ e. e.1) to from (passing_spelled is_index fiel
 
 -- ---- all NV indices
 
--- The properties of the NV indices in an image of this version.
+-- An image of this version can store these NV indices.
 pub record AreStored (version : Version) (indices : Entries NvIndex) : Type 0 where
   pub ascends : Ascends indices
   pub few : length indices ≤ index_limit version

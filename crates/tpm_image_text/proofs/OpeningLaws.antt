@@ -1,4 +1,4 @@
--- Lemmas about how the frame and the body of a text determine the result of opening an image.
+-- Lemmas about opening an image: how the frame and the body of the text determine the result.
 use Rattle.std.proofs.Common.{◌≡◌, ℕ, Bool, true, false, List, length, Option, Some, None, Result, Ok, Err, refl}
 use Rattle.std.specs.Prelude.{◌==◌, is_ok, nat_lt, not, ok_or, take}
 use Rattle.std.specs.Str.{bytes_eq}

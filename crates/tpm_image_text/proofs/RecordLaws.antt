@@ -65,7 +65,7 @@ module _ {M : Type 0} (record_of : M → Record) (can : Bool) (text : List ℕ) 
       (t.0, opens.0, t.1, t.2, opens.2)
   opened_found (Err f) fits opens = tt
 
-  -- the image of a record opens
+  -- opening the image of a record yields the record after a power cycle, unless an allocation fails
   pub opened_only : (version : Version) (r : Record) (result : Result M ImageFault) → IsRecord r → IsImage version (kept_of r) text → Opens record_of can text result → OpensAgain record_of can r result
   opened_only version r result is image opens = by result opens
     where

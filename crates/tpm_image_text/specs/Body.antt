@@ -1,5 +1,5 @@
 -- The body of an image: the state that a device keeps without power, part by part. The layout is
--- this device's own; its objects and indices are encoded as the standard's structures (TPM 2.0
+-- specific to this device; objects and indices are encoded as the standard's structures (TPM 2.0
 -- Library, Part 2, sections 12.2.4, TPMT_PUBLIC, 12.3.2.4, TPMT_SENSITIVE, and 13.6,
 -- TPM2B_NV_PUBLIC).
 use Rattle.tpm_types.specs.Limits.{nv_data_limit, persistent_limit}
@@ -48,7 +48,7 @@ unfoldable pub limits_text : Version → List ℕ
 limits_text One = []
 limits_text Two = to_be_bytes w16 (index_limit Two) ++ to_be_bytes w32 (space_limit Two)
 
--- whether these limits are those of the version
+-- whether these limits are the version's limits
 abbrev pub are_limits_of : Version → (indices space : ℕ) → Bool
 are_limits_of version indices space =
     indices == index_limit version && space == space_limit version
@@ -258,8 +258,8 @@ abbrev pub ascend_from : {X : Type 0} → ℕ → Entries X → Bool
 ascend_from low [] = true
 ascend_from low (e ∷ es) = nat_le low e.0 && ascend_from (e.0 + 1) es
 
--- the text of the persistent objects, in ascending order of handle; reading checks the limit on
--- their number
+-- the text of the persistent objects, in ascending order of handle; only reading checks the limit
+-- on their number
 unfoldable pub objects_text : Entries Object → List ℕ
 objects_text objects = counted_text object_text objects
 
@@ -300,15 +300,15 @@ index_in text = do
   index ← passing is_index fields_of_index_in text
   Ok ((index.0.public.nv_index.number, index.0), index.1)
 
--- the total data size of these NV indices, written or not; and whether it is within a limit
+-- the total data size of these NV indices, written or not; below, whether it is within a limit
 abbrev pub bytes_of : Entries NvIndex → ℕ
 bytes_of indices = sum_by (λ e. e.1.public.data_size) indices
 
 abbrev pub have_space : (limit : ℕ) → Entries NvIndex → Bool
 have_space limit indices = nat_le (bytes_of indices) limit
 
--- the text of the NV indices, in ascending order of handle; reading checks the version's limits
--- on their number and their data
+-- the text of the NV indices, in ascending order of handle; only reading checks the version's
+-- limits on their number and their data
 unfoldable pub indices_text : Entries NvIndex → List ℕ
 indices_text indices = counted_text index_text indices
 

@@ -1,5 +1,5 @@
--- The fields of an image: how each is encoded and decoded. A field that is truncated, or contains
--- a value that is not allowed, is malformed, whatever fault other readers return for it.
+-- The fields of an image: how each is encoded and decoded. A field that is truncated, or contains a
+-- value that is not allowed, is malformed, whatever fault other readers return for the same field.
 use Rattle.std.specs.Prelude.{ℕ, ◌==◌, nat_lt, not, Bool, true, false, List, ◌++◌, length, Result, Ok}
 use Rattle.std.specs.Int.{Width, w8, w16, to_be_bytes}
 use Rattle.std.specs.List.{flat_map}

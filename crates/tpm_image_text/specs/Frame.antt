@@ -1,5 +1,5 @@
 -- The frame of an image, and of any text that encodes a device: a head before the body, and a
--- digest after both. The formats are this device's own.
+-- digest after both. The formats are specific to this device.
 use Rattle.std.specs.Prelude.{ℕ, ◌+◌, ◌-◌, ◌==◌, nat_lt, not, List, [], ◌∷◌, ◌++◌, length, take, drop}
 use Rattle.std.specs.Prelude.{ok_or, Option, Result, Ok}
 use Rattle.std.specs.Int.{w16, w32, from_be_bytes, to_be_bytes}
@@ -58,7 +58,7 @@ number_of text = from_be_bytes w16 (take 2 (drop 4 text))
 abbrev pub length_of : List ℕ → ℕ
 length_of text = from_be_bytes w32 (take 4 (drop 6 text))
 
--- the part of a text before the digest, and the digest
+-- the part of a text before the digest; below, the digest
 abbrev pub before_digest : List ℕ → List ℕ
 before_digest text = take (length text - digest_bytes) text
 

@@ -55,7 +55,7 @@ kept_of r = record {
 abbrev pub nv_of : NonVolatile → NvContents
 nv_of kept = record { indices = kept.indices; max_count = kept.state.max_count }
 
--- the record of a device that kept this state, just after power-on
+-- the record of a device that kept this state, just after power came on
 abbrev pub powered_on : NonVolatile → Record
 powered_on kept = record {
   fixed = record {

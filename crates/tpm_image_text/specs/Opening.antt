@@ -17,8 +17,8 @@ Opens record_of can text (Err NoMemory) =
     (can ≡ true) × ((kept : NonVolatile) × (image_of text ≡ Ok kept))
 Opens record_of can text (Err fault) = image_of text ≡ Err fault
 
--- The image of a record was opened, and the result has the record after a power cycle, unless an
--- allocation failed.
+-- Opening the image of a record resulted in the record after a power cycle, or an allocation
+-- failed.
 abbrev pub OpensAgain : {M : Type 0} → (M → Record) → Bool → Record → Result M ImageFault → Type 0
 OpensAgain record_of can r (Ok machine) = record_of machine ≡ cycled r
 OpensAgain record_of can r (Err NoMemory) = can ≡ true

@@ -1,4 +1,4 @@
--- The largest sizes of the parts of an image, in bytes, by the limits of the device.
+-- The largest sizes of the parts of an image, in bytes. They follow from the limits of the device.
 use Rattle.std.specs.Prelude.{ℕ, ◌+◌, ◌*◌}
 use Rattle.tpm_types.specs.Limits.{nv_index_limit, nv_space_limit, persistent_limit}
 
@@ -12,7 +12,7 @@ abbrev pub state_size : ℕ
 state_size = 1269
 
 -- the largest sizes of an object, of a persistent object with its handle, and of all persistent
--- objects preceded by their number
+-- objects preceded by their count
 abbrev pub object_fields_size : ℕ
 object_fields_size = 326
 
@@ -23,7 +23,7 @@ abbrev pub objects_size : ℕ
 objects_size = 2 + persistent_limit * object_size
 
 -- the largest sizes of an NV index without its data, of all indices with their data, and of all
--- indices preceded by their number
+-- indices preceded by their count
 abbrev pub index_size : ℕ
 index_size = 84
 

@@ -38,8 +38,8 @@ fn read_state(fixed: &mut Fixed, text: &mut Cursor) -> Result<u64, Malformed>
     Ok(max_count)
 }
 
-/// Reads the state that a device keeps without power into a new `Keep`. This state is at the
-/// beginning of the text, which has the given version.
+/// Reads the state that a device keeps without power from the beginning of a text of the given
+/// version, into a new `Keep`.
 #[tactic(auto, unfolding(crate::specs::Body::kept_in))]
 pub fn read_kept<K: Keep>(
     version: Version,

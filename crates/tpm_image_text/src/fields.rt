@@ -131,7 +131,7 @@ pub fn is_trimmed(bytes: &[u8]) -> bool
     trimmed(bytes) == bytes
 }
 
-/// Reads an authorization value. One with trailing zeros is malformed.
+/// Reads an authorization value, which must not end with a zero byte.
 #[tactic(auto, unfolding(crate::specs::Fields::auth_value_in))]
 pub fn read_auth_value(text: &mut Cursor) -> Result<AuthValue, Malformed>
     ensures { Reads (λ value. value) (auth_value_in text.old) text.old result text.new }

@@ -182,7 +182,7 @@ fn write_index(entry: &(u32, Head), bytes: &[u8], text: &mut Text)
     }
 }
 
-/// Writes the indices with these heads one after another, with their data from `area`.
+/// Writes the NV indices with these heads, one after another. Their data are in `area`.
 fn write_heads(heads: &[(u32, Head)], area: &[u8], text: &mut Text)
     requires whole { length area.now ≡ total heads.now }
     requires few { length heads.now ≤ nv_index_limit }

@@ -28,7 +28,8 @@ pub fn image_laws()
     ensures cycled { (r : Record) → powered_on (kept_of r) ≡ cycled r }
 {}
 
-/// If two records have the same kept text, they have the same non-volatile state, except for Clock.
+/// If two records have the same `kept_text`, they have the same non-volatile state, except for
+/// Clock.
 #[inline(always)]
 #[tactic(auto, using(crate::proofs::RecordLaws::kept_alike))]
 pub fn kept_text_laws()

@@ -96,7 +96,7 @@ fn read_sensitive(public: &Public, text: &mut Cursor) -> Result<Sensitive, Malfo
     Ok(sensitive)
 }
 
-/// Reads an object in any hierarchy.
+/// Reads an object of any hierarchy.
 #[tactic(auto, unfolding(crate::specs::Body::object_fields_in))]
 pub fn read_object_fields(text: &mut Cursor) -> Result<Object, Malformed>
     ensures { Reads (λ object. object) (object_fields_in text.old) text.old result text.new }

@@ -38,8 +38,8 @@ pub fn is_body(alloc: Global, version: Version, body: &[u8]) -> bool
     }
 }
 
-/// Returns the fault of opening a text if an allocation fails: the first fault of the text, or
-/// NoMemory if the text is an image. The call allocates no memory.
+/// Returns the fault to report if opening a text ran out of memory: the first fault of the text, or
+/// NoMemory if the text is an image. The call itself allocates no memory.
 #[inline(never)]
 pub fn fault_of(alloc: Global, text: &[u8]) -> ImageFault
     ensures { Opens (λ (r : Record). r) true text.now (Err result) }

@@ -1,4 +1,4 @@
--- The entry of a command can be written.
+-- The entry of every executed command can be written (`IsEntry`).
 use Rattle.std.proofs.Common.{◌≡◌, ℕ, Bool, ◌≤◌, ◌<◌, ◌^◌, List, length, arith, length-take}
 use Rattle.tpm_bytes.specs.Reading.{AreBytes}
 use Rattle.tpm_bytes.proofs.Fields.{AreBytes-take}

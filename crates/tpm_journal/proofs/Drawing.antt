@@ -73,7 +73,7 @@ draws_within can layer old c seen executed = if_within can c.completes layer old
 
 -- ---- a command that loads the context of an object draws none
 
--- a success is not a refusal: the third byte of its response code is 0, not 1
+-- a response that reports success is no refusal: the third byte of its response code is 0, not 1
 framed_success : (tag : ℕ) (body : List ℕ) → is_refusal 0x143 (framed tag 0 body) ≡ true → ⊥
 framed_success tag body is =
     let same : framed tag 0 body ≡ refusal 0x143 = (bytes_eq-Decides (framed tag 0 body) (refusal 0x143)).0 is in

@@ -17,8 +17,8 @@ use Rattle.tpm_journal.specs.Living.{Answers, IgnoresUndrawn, Lives}
 use Rattle.tpm_journal.proofs.Again.{lives_again}
 use Rattle.tpm_journal.proofs.Drawing.{asked_draws_none, behind_within, draws_within, no_more_drawn}
 
--- if the layer passed an event to the device, it can also pass the event with other random bytes,
--- if the event then executes in the same way and draws the same number of bytes
+-- passing an event to the device has the same effect with other random bytes, if the device then
+-- executes it in the same way and draws as many bytes
 passes_with : (layer : Completion) (old : Record) (event other : PlainEvent) (seen : Seen) → Passes false layer old event seen
     → Executes false old other seen.step → drawn_by old other seen.step.row.check ≡ drawn_by old event seen.step.row.check
     → Passes false layer old other seen
@@ -29,7 +29,7 @@ passes_with layer old event other seen passes executes draws = record {
   drawn = passes.drawn ∙ sym draws;
 }
 
--- an event that the layer passed to the device can also be passed with only the bytes that it drew,
+-- passing an event to the device has the same effect with only the random bytes that it drew,
 -- followed by zeros
 passes_again : (layer : Completion) (old : Record) (buffer : List ℕ) (locality elapsed : ℕ) (random : List ℕ) (seen : Seen)
     → Passes false layer old (Given buffer locality elapsed random) seen
@@ -39,8 +39,8 @@ passes_again layer old buffer locality elapsed random seen passes =
     subst (λ (n : ℕ). Passes false layer old (Given buffer locality elapsed (zeros_behind n random)) seen) (sym passes.drawn)
     (passes_with layer old event _ seen passes (replays old event seen.step passes.executes) (replay_draws old event seen.step passes.executes))
 
--- an event that the layer passed to the device, and that draws no random bytes, can also be passed
--- with any other random bytes
+-- passing an event that draws no random bytes to the device has the same effect with any other
+-- random bytes
 passes_anyhow : (layer : Completion) (old : Record) (buffer : List ℕ) (locality elapsed : ℕ) (random other : List ℕ) (seen : Seen)
     → Passes false layer old (Given buffer locality elapsed random) seen → drawn_by old (Given buffer locality elapsed random) 0 ≡ 0
     → length other ≡ length random → Passes false layer old (Given buffer locality elapsed other) seen
@@ -60,8 +60,8 @@ zeros_many n random few all =
 abbrev kept : Seen → List ℕ → List ℕ
 kept seen random = zeros_behind seen.drawn random
 
--- the device's first execution of a command stays the same if the random bytes that were not drawn
--- in the end are replaced by zeros
+-- the device's first execution of a command stays the same if zeros replace the random bytes that
+-- the command did not draw
 first_again : (layer : Completion) (old : Record) (first : Seen) (buffer : List ℕ) (locality elapsed : ℕ) (random : List ℕ) (asked : Option (List ℕ)) (seen : Seen)
     → asked ≡ asked_behind first buffer → Passes false layer old (Given buffer locality elapsed random) first → Behind false first buffer asked seen
     → Passes false layer old (Given buffer locality elapsed (kept seen random)) first

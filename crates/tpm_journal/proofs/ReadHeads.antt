@@ -27,7 +27,7 @@ begins text head is = record {
   is = sym (take-append-drop head.size text) ∙ ap (λ (l : List ℕ). l ++ drop head.size text) is.is;
 }
 
--- if the head of a text can be opened, the text starts the head's journal
+-- if the head of a text can be opened, it starts a journal, and its size is the size that was read
 pub started : (text : List ℕ) (head : Head) (start : Start) → IsHeadOf text head → start_by head.kind head.clock head.content.now ≡ Ok start
     → (rest : List ℕ) × (starts : Starts text start rest) × (head.size ≡ length (starting_head starts))
 started text head start is opened = (
@@ -38,7 +38,7 @@ started text head start is opened = (
 
 -- ---- faults
 
--- opening the content of a head never fails because of a missing head
+-- opening the content of a head never fails with the fault for a missing head
 no_head_in_image : (clock : ℕ) (image : List ℕ) (found : Result NonVolatile ImageFault) → start_by_image clock image found ≡ Err fault.NoJournal → ⊥
 no_head_in_image clock image (Ok kept) e = absurd cc
 no_head_in_image clock image (Err why) e = absurd cc

@@ -1,4 +1,4 @@
--- The journal that starts with a head of each kind.
+-- For each kind of head, the journal that it starts.
 use Rattle.std.proofs.Common.{◌≡◌, ℕ, List, ◌++◌, Result, Ok, ap, ◌∙◌}
 use Rattle.std.specs.List.{AllByRecursion}
 use Rattle.tpm_completion.specs.declared.completion.Completion.{Completion}

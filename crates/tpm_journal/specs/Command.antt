@@ -20,7 +20,7 @@ pub record Command : Type 0 where
 abbrev pub given : Command → PlainEvent
 given c = Given c.buffer c.locality c.elapsed c.random
 
--- the elapsed time of a command: the host's clock minus the time of a journal, limited to 0 ..
+-- the elapsed time of a command: the host's clock minus the time of the journal, limited to 0 ..
 -- 2^32 - 1
 abbrev pub elapsed_of : (now time : ℕ) → ℕ
 elapsed_of now time = min (now - time) (2 ^ 32 - 1)
@@ -53,7 +53,7 @@ entry_of c seen = record {
   answered = sum_of seen.step.response;
 }
 
--- 256 random bytes: the given ones, followed by zeros
+-- 256 random bytes: those that a command drew, followed by zeros
 abbrev pub padded : List ℕ → List ℕ
 padded drawn = drawn ++ replicate (256 - length drawn) 0
 

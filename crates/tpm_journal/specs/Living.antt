@@ -23,8 +23,8 @@ Answers layer old (e ∷ entries) after new =
     (seen : Seen) × IsPerformed false layer old e seen × (sum_of seen.step.response ≡ e.answered)
     × Answers seen.layer seen.step.after entries after new
 
--- Random bytes that a command does not draw have no effect. With the bytes that it draws, followed
--- by zeros, it has the same effect, even if the layer executes it a second time.
+-- Random bytes that a command does not draw have no effect. Executed again with only the bytes that
+-- it drew, followed by zeros, the command has the same effect, with or without the layer.
 abbrev pub IgnoresUndrawn : Type 0
 IgnoresUndrawn = (layer : Completion) (old : Record) (c : Command) (seen : Seen)
     → Executed false layer old c seen → IsPerformed false layer old (entry_of c seen) seen

@@ -29,8 +29,8 @@ pub record IsJournal (text : List ℕ) (opened : Opened) (new : Record) : Type 0
   pub whole : followed.fault ≡ None
   pub size : opened.taken ≡ length (starting_head reads.starts) + followed.taken
 
--- Either the text was opened as a journal; or this fault prevents it from starting a journal; or
--- its entries were executed up to this fault.
+-- The text was opened as a journal. Or it does not start a journal because of this fault. Or its
+-- entries were executed up to this fault.
 abbrev pub OpensJournal : List ℕ → Result Opened OpenFault → Record → Type 0
 OpensJournal text (Ok opened) new = IsJournal text opened new
 OpensJournal text (Err fault.NoJournal) new = StartsNot text fault.NoJournal

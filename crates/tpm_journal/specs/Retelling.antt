@@ -21,14 +21,14 @@ use Rattle.tpm_journal.specs.declared.retelling.RetellFault.TheVariants.{Open, F
 use Rattle.tpm_journal.specs.declared.retelling.Telling.{Telling}
 use Rattle.tpm_journal.specs.declared.retelling.Telling.TheVariants.{Script, Answers}
 
--- the text that says how an event was answered: `completed` if the completing layer was on,
+-- the text that describes how an event was answered: `completed` if the completing layer was on,
 -- otherwise the trace
 abbrev pub words_of : (completes : Bool) → PlainEvent → Row → (response : List ℕ) → List ℕ
 words_of true event row response = codes "completed"
 words_of false event row response = trace_text event row response
 
--- The answer to this event can be put in words. A trace requires that the row is in the table, and
--- that the response contains a header.
+-- The answer to this event can be described in words. A trace requires a known command and check,
+-- and a response that contains a header.
 abbrev pub CanBeTold : (completes : Bool) → PlainEvent → Row → (response : List ℕ) → Type 0
 CanBeTold true event row response = Unit {0}
 CanBeTold false event row response = IsRow row × IsAnswered event response
@@ -58,7 +58,7 @@ abbrev pub retold_by : Telling → (words response own : List ℕ) → List ℕ
 retold_by Script words response own = codes "# " ++ words ++ 10 ∷ [] ++ drop mark_line_size own
 retold_by Answers words response own = answer_lines words response
 
--- the output for a head: the head itself in a script, nothing among answers
+-- the output for a head: the head itself in a script, nothing in a list of answers
 abbrev pub retold_head : Telling → (head : List ℕ) → List ℕ
 retold_head Script head = head
 retold_head Answers head = []
@@ -103,8 +103,8 @@ abbrev pub retold_size : {form : Telling} {text : List ℕ} {held holds : Option
     {fault : Option FollowFault} → RetellsText form text held holds fault → ℕ
 retold_size told = length (starting_head told.starts) + told.followed.taken
 
--- Either the journal was converted to its end; or it was converted up to a fault; or the text does
--- not start a journal, and nothing was written; or the writer failed.
+-- The journal was converted to its end. Or it was converted up to a fault. Or the text does not
+-- start a journal, and nothing was written. Or the writer failed.
 abbrev pub RetellsJournal : Telling → List ℕ → (held : Option (List ℕ)) → (holds : Option (List ℕ))
     → Marks → Result (Unit {0}) RetellFault → Type 0
 RetellsJournal form text held holds marks (Ok done) = RetellsText form text held holds None

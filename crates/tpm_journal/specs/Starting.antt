@@ -1,4 +1,5 @@
--- The start of a journal: the device in its head, and the journal's additional state.
+-- The start of a journal: the device in its head, and the state of the journal apart from the
+-- device.
 use Rattle.std.specs.Prelude.{◌≡◌, ℕ, List, ◌++◌, length, Result, Ok, Err}
 use Rattle.tpm_image_text.specs.Image.{image_of}
 use Rattle.tpm_image_text.specs.NonVolatile.{NonVolatile, powered_on}
@@ -39,12 +40,12 @@ start_by_state clock text (Ok state) = Ok (record {
 })
 start_by_state clock text (Err why) = Err (fault.State (Text why))
 
--- the start from a head with this kind, clock and content, or the fault in the content
+-- the start from a head of this kind with this clock and content, or the fault in the content
 abbrev pub start_by : HeadKind → (clock : ℕ) → (content : List ℕ) → Result Start OpenFault
 start_by Image clock content = start_by_image clock content (image_of content)
 start_by State clock content = start_by_state clock content (current_state_of_text content)
 
--- The text is a head with this kind, clock and content, followed by the rest.
+-- The text is a head of this kind with this clock and content, followed by the rest.
 pub record BeginsWith (text : List ℕ) (kind : HeadKind) (clock : ℕ) (content rest : List ℕ)
     : Type 0
   where
@@ -79,13 +80,13 @@ StartsNot text (fault.Image why) = HoldsFault text (fault.Image why)
 StartsNot text (fault.State why) = HoldsFault text (fault.State why)
 StartsNot text (fault.Follow why) = ⊥
 
--- Opening the content of a head returned the journal and the device of its start, or the fault in
+-- Opening the content of a head returned the journal and the device at its start, or the fault in
 -- the content.
 abbrev pub IsStart : Result Start OpenFault → Result Journal OpenFault → (new : Record) → Type 0
 IsStart start (Ok journal) new = start ≡ Ok (record { journal = journal; device = new })
 IsStart start (Err why) new = start ≡ Err why
 
--- Opening the head of a text returned the journal and the device of its start, and the head's size.
+-- Opening the head of a text returned the journal and the device at its start, and the head's size.
 -- Or the text does not start a journal, because of this fault.
 abbrev pub StartsBy : List ℕ → Result Started OpenFault → (new : Record) → Type 0
 StartsBy text (Ok started) new =

@@ -17,8 +17,8 @@ ghost use Rattle.tpm_step.specs.Table.{row_of};
 ghost use Rattle.tpm_commands.specs.declared.command_code.CommandCode.{CommandCode};
 ghost use Rattle.tpm_commands.specs.declared.command_code.CommandCode.TheVariants as command;
 
-/// The result of a command's row depends only on the random bytes that the row draws: it is the
-/// same with other random bytes that agree on these.
+/// The result of a command's row depends only on the random bytes that the row draws: it stays the
+/// same if the other bytes are replaced.
 #[inline(always)]
 #[tactic(auto, using(crate::proofs::draw_laws::Rows::row_alike))]
 pub fn row_laws()
@@ -37,9 +37,9 @@ pub fn needed_byte_laws()
         → take s.answer.drawn other ≡ take s.answer.drawn q.random) }
 {}
 
-/// A command's step depends only on the random bytes that it draws. With equally many other bytes
-/// after these, the step is the same, even if an allocation fails, and draws the same number of
-/// bytes.
+/// A command's step depends only on the random bytes that it draws. If the bytes after these are
+/// replaced by equally many others, the step is the same, even if an allocation fails, and draws
+/// the same number of bytes.
 #[inline(always)]
 #[tactic(auto, using(crate::proofs::draw_laws::Executions::steps_alike, crate::proofs::draw_laws::Executions::draws_alike))]
 pub fn step_laws()
@@ -53,8 +53,8 @@ pub fn step_laws()
         ≡ drawn_by r (Given buffer locality elapsed random) check }
 {}
 
-/// A command's execution depends only on the random bytes that it draws. With equally many other
-/// bytes after these, the same outcome is possible.
+/// A command's execution depends only on the random bytes that it draws. If the bytes after these
+/// are replaced by equally many others, the same outcome is possible.
 #[inline(always)]
 pub fn execution_laws()
     ensures { (can : Bool) (r : Record) (buffer : List ℕ) (locality elapsed : ℕ)

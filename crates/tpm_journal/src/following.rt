@@ -35,9 +35,9 @@ pub struct Followed {
 /// The result of processing the beginning of a text.
 #[derive(Clone, Copy)]
 pub(crate) enum Deed<'a> {
-    /// An entry of `size` bytes of text was executed, and the answer matches it.
+    /// An entry of `size` bytes of text was executed, and the answer matches the recorded one.
     Executed { entry: Entry<'a>, size: usize },
-    /// An entry of `size` bytes of text was executed, and the answer differs from it.
+    /// An entry of `size` bytes of text was executed, but the answer differs from the recorded one.
     Otherwise { entry: Entry<'a>, size: usize },
     /// The text is torn: it is shorter than an entry, not counting zeros at its end.
     Torn,
@@ -65,7 +65,7 @@ pub fn perform<K: Keep>(
     execute(machine, layer, entry.completes, &event, outcome);
 }
 
-/// 256 random bytes: the given ones, followed by zeros.
+/// 256 random bytes: those that a command drew, followed by zeros.
 fn padded(drawn: &[u8]) -> [u8; 256]
     requires { length drawn.now ≤ 256 }
     ensures { result ≡ padded drawn.now }
@@ -77,8 +77,8 @@ fn padded(drawn: &[u8]) -> [u8; 256]
 }
 
 impl Journal {
-    /// Executes the entry at the beginning of a text. Decodes it into `bytes`, and encodes it again
-    /// in `room` for comparison.
+    /// Executes the entry at the beginning of a text. Decodes the entry into `bytes`, and encodes
+    /// it again in `room` to compare it with the text.
     pub(crate) fn follow_one<'a, K: Keep>(
         &mut self,
         machine: &mut Machine<K>,

@@ -36,7 +36,7 @@ use tpm_state_text::{Layer, StateBody, write_state};
 use tpm_step::{Event, Outcome};
 use tpm_types::Locality;
 
-/// The state of a journal in addition to its device.
+/// The state of a journal, apart from its device.
 #[derive(Clone, Copy, PartialEq, Eq)]
 pub struct Journal {
     /// The checksum of the marks of the head and all entries.
@@ -108,8 +108,8 @@ impl Journal {
 
     /// Restarts the text of the journal: writes a head with the whole state of the device and the
     /// completing layer to the beginning of a buffer. Returns the size of the head. If the buffer
-    /// is too small, the call has no effect. The device and the layer are unchanged. If the clock
-    /// is the journal's own time, no time is lost.
+    /// is too small, the call has no effect. The device and the layer are unchanged. No time is
+    /// lost if `clock_ms` is the journal's own time.
     pub fn checkpoint<K: Keep>(
         &mut self,
         machine: &Machine<K>,
@@ -168,7 +168,7 @@ impl Journal {
             take result room.new ≡ entry_text self.old.sum (entry_of c seen) }
         ensures fits { result ≤ length room.new }
 
-        // The written text is the text of an entry, which can be read again.
+        // The written bytes are the text of an entry, and can be read again.
         ensures entry { let c = command_at buffer.now (locality_number locality)
             (elapsed_of now_ms self.old.time) completes random.now in
             let seen = seen_of K.record_of machine.new self.new.layer outcome.new in

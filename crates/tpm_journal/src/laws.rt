@@ -40,8 +40,8 @@ pub fn living_laws()
         (new : Record) → Lives layer old entries after new → Answers layer old entries after new }
 {}
 
-/// A text consists of entries and perhaps an incomplete entry after a crash. If the device and its
-/// layer give the recorded answers, exactly the complete entries are executed again.
+/// If a text consists of entries and perhaps an incomplete entry after a crash, and the device and
+/// its layer give the recorded answers, exactly the complete entries are executed again.
 #[inline(always)]
 pub fn following_laws()
     ensures { (before : Journal) (old : Record) (layer : Completion) (final new : Record)
@@ -74,9 +74,9 @@ pub fn starting_laws()
         ≡ Ok (record { journal = checkpointed j clock r; device = r }) }
 {}
 
-/// A text consists of a head that starts a journal, entries, and perhaps an incomplete entry after
-/// a crash. If the device and its layer give the recorded answers, opening the text yields the
-/// device and the layer after all complete entries.
+/// If a text consists of a head that starts a journal, entries, and perhaps an incomplete entry
+/// after a crash, and the device and its layer give the recorded answers, opening the text yields
+/// the device and the layer after all complete entries.
 #[inline(always)]
 #[tactic(auto, using(crate::proofs::Again::opened_again))]
 pub fn opening_laws()
@@ -92,8 +92,8 @@ pub fn opening_laws()
         new }
 {}
 
-/// A text consists of a checkpoint of a live device and the entries of the commands that the device
-/// and its layer executed since. Opening it yields this device and layer.
+/// Opening a checkpoint of a live device, followed by the entries of the commands that the device
+/// and its layer executed since, yields this device and layer.
 #[inline(always)]
 #[tactic(auto, using(crate::proofs::Starts::checkpoint_opened))]
 pub fn checkpoint_laws()
@@ -109,9 +109,9 @@ pub fn checkpoint_laws()
         (checkpointed j clock r) entries layer final result new }
 {}
 
-/// If a device follows a history and executes entries again, it then follows that history extended
-/// by everything that it accepted while executing them. The law also states other properties of
-/// these executions, such as the limits on failed tries.
+/// If a device follows a history and executes entries again, afterwards it follows that history
+/// extended by everything that it accepted while executing them. The law also states other
+/// properties of these executions, such as the limits on failed tries.
 #[inline(always)]
 pub fn repeating_laws()
     ensures { (can : Bool) (before : Journal) (old : Record) (text : List ℕ) (taken : ℕ)

@@ -3,7 +3,7 @@
 //! The journal of a device: the image of the device when power came on, and an entry for each
 //! command answered since. Executing the entries again opens the device.
 //!
-//! [`Journal`] is the state of a journal in addition to the device: the checksum of its marks, its
+//! [`Journal`] is the state of a journal apart from the device: the checksum of its marks, its
 //! time, and the completing layer, which restarts at each head that does not contain its state. A
 //! journal begins at a power cycle, executes commands and writes their entries, executes the
 //! entries of a text again, and is opened from a text. An entry says whether the layer was on, and

@@ -64,7 +64,7 @@ fn open_image<K: Keep>(machine: &mut Machine<K>, head: &Head) -> Result<Journal,
 }
 
 /// Restores the device from the state text in a head, in a new machine. A text of version 1 is
-/// refused, because its entries were answered by another completing layer.
+/// refused, because an earlier completing layer answered the entries after it.
 fn open_state<K: Keep>(machine: &mut Machine<K>, head: &Head) -> Result<Journal, OpenFault>
     requires new { state_of K.record_of machine.old ≡ manufactured (replicate 256 0) }
     requires never_refused { K.can_refuse ≡ false }

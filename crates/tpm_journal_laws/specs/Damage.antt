@@ -5,8 +5,8 @@ use Rattle.tpm_journal.specs.Replay.{Replays}
 use Rattle.tpm_journal.specs.declared.journal.Journal.{Journal}
 use Rattle.tpm_journal.specs.declared.following.FollowFault.TheVariants.{Damaged}
 
--- A damaged journal that is truncated at the damage can be executed to its end, and yields the same
--- device. All answers before the damage match their entries.
+-- If a damaged journal is truncated at the damage, it can be executed to its end. The resulting
+-- device is that of the damaged journal, and all answers match their entries.
 abbrev pub FrontIsFollowed : Type 0
 FrontIsFollowed =
     (can : Bool) (before : Journal) (old : Record) (text : List ℕ) (taken : ℕ) (after : Journal)

@@ -10,7 +10,7 @@ use Rattle.tpmsim_script.specs.Line.{Meaning, Executes, SetsLocality, Waits, Set
 use Rattle.tpmsim_script.specs.Line.{DoesNothing}
 use Rattle.tpmsim_script.specs.Line.{line_meaning, lines_of}
 
--- the meanings of the lines of a text, one after another; None for a bad line
+-- the meanings of the lines of a text, one after another; None for a line without a meaning
 abbrev pub meanings_of : (text : List ℕ) → List (Option Meaning)
 meanings_of text = map line_meaning (lines_of text)
 

@@ -24,9 +24,9 @@ pub fn meaning_laws()
     ensures journal { JournalMeansIt }
 {}
 
-/// A journal can be played as a script to its end, which prints the device's responses to its
-/// entries. If an entry contains the bytes that its command drew, its lines execute the command as
-/// it was originally executed.
+/// If the content of its head has at most 32,767 bytes, a journal can be played as a script to its
+/// end, which prints the device's responses to its entries. If an entry contains the bytes that its
+/// command drew, its lines execute the command as it was originally executed.
 #[inline(always)]
 #[tactic(auto, using(crate::proofs::Playing::journal_plays, crate::proofs::Executing::plays_as_executed))]
 pub fn playing_laws()
@@ -55,8 +55,8 @@ pub fn buffer_laws()
     ensures longer { LongerAreRefusedAlike }
 {}
 
-/// A damaged journal that is truncated at the damage can be executed to its end, and yields the
-/// same device. All answers before the damage match their entries.
+/// If a damaged journal is truncated at the damage, it can be executed to its end. The resulting
+/// device is that of the damaged journal, and all answers match their entries.
 #[inline(always)]
 #[tactic(auto, using(crate::proofs::Damage::front_is_followed))]
 pub fn damage_laws()

@@ -1,5 +1,5 @@
--- If a text is long enough and does not begin with an entry, it is damaged. A torn text does not
--- begin with an entry.
+-- If a text is long enough for an entry but does not begin with one, it is damaged. A torn text
+-- does not begin with an entry.
 use Rattle.std.proofs.Common.{◌≡◌, ℕ, zero, suc, ◌-◌, ◌<◌, ◌≤◌, inl, inr, List, [], ◌∷◌, ◌++◌, length, take, replicate, get_or, refl, ap, subst, sym, ◌∙◌, append_assoc, arith, length-append}
 use Rattle.std.specs.Prelude.{codes}
 use Rattle.std.proofs.Math.Seq.{get_or-append_right, get_or-append_seam}
@@ -21,7 +21,7 @@ torn_line sum text mark torn begins =
     omega (arith, ap length begins.line, mark_line_many sum mark begins.count, length-take 72 torn.front) in
     ap (take 72) torn.is ∙ take-append-le 72 torn.front (replicate torn.zeros 0) long ∙ begins.line
 
--- If a text is long enough and does not begin with the line of a mark, it is damaged.
+-- If a text is long enough for the line of a mark but does not begin with one, it is damaged.
 pub no_line : (sum : ℕ) (text : List ℕ) → (HasFewer 72 text → ⊥)
     → ((mark : List ℕ) → length mark ≡ 26 → AreBytes mark → take 72 text ≡ mark_line sum mark → ⊥) → IsDamaged sum text
 no_line sum text long none = record {
@@ -32,14 +32,14 @@ no_line sum text long none = record {
   no_entry = λ e rest is t. none (mark_of e) (mark_many e) (mark_bytes e) (line_stands sum e text rest t);
 }
 
--- If two marks have their lines at the same offset of a text, the marks are equal.
+-- If a text begins with the lines of two marks, the marks are equal.
 pub same_mark : (sum : ℕ) (text mark other : List ℕ) → length mark ≡ 26 → AreBytes mark → take 72 text ≡ mark_line sum mark
     → length other ≡ 26 → AreBytes other → take 72 text ≡ mark_line sum other → mark ≡ other
 same_mark sum text mark other many are line other_many other_are other_line =
     line_same entry_word mark other (sum_from sum mark) (sum_from sum other) are other_are (many ∙ sym other_many) (sym line ∙ other_line)
 
--- If a text begins with the line of a mark and is long enough, but has no entry with this mark, it
--- is damaged.
+-- If a text begins with the line of a mark and is long enough for an entry with this mark, but does
+-- not begin with such an entry, it is damaged.
 pub no_entry_with : (sum : ℕ) (text mark : List ℕ) → length mark ≡ 26 → AreBytes mark → take 72 text ≡ mark_line sum mark
     → (HasFewer (entry_size mark) text → ⊥)
     → ((e : PlainEntry) (rest : List ℕ) → Stands e mark text → text ≡ entry_text sum e ++ rest → ⊥) → IsDamaged sum text
@@ -64,7 +64,7 @@ zero_at zero place = refl
 zero_at (suc zeros) zero = refl
 zero_at (suc zeros) (suc place) = zero_at zeros place
 
--- The line feed of a line is not one of the zeros that follow a text.
+-- The line feed at the end of a line is not one of the zeros at the end of a text.
 pub line_feed_is_no_zero : (front : List ℕ) (zeros : ℕ) (line rest : List ℕ) → length front ≤ length line
     → line ++ (10 ∷ rest) ≡ front ++ replicate zeros 0 → ⊥
 line_feed_is_no_zero front zeros line rest le same =
@@ -118,7 +118,7 @@ few_is_no_entry sum e rest text mark is t same has =
     (sym (ends_a_line sum e rest) ∙ sym t ∙ has.is)
 
 -- If a text begins with the line of a mark and is shorter than the mark's entry, and one of its
--- lines does not end where a line of the entry does, it is damaged.
+-- lines does not end where a line of that entry ends, it is damaged.
 pub lines_end_otherwise : (sum : ℕ) (text mark : List ℕ) → BeginsWithMark sum mark text → (HasFewer 72 text → ⊥) → HasFewer (entry_size mark) text
     → (LinesEnd mark text → ⊥) → IsDamaged sum text
 lines_end_otherwise sum text mark begins long has otherwise = record {

@@ -85,7 +85,7 @@ unfolding marked_line
 line_word word bytes rest sum =
     (encode_lower bytes ++ (32 ∷ [] ++ (encode_lower (to_be_bytes w64 sum) ++ (10 ∷ [] ++ rest))), simp append_assoc refl)
 
--- A head begins with the word of its kind, so all heads that a text begins with are of one kind.
+-- If a text begins with a head, it begins with the word for the head's kind.
 word_stands : (kind : HeadKind) (clock : ℕ) (content text rest : List ℕ) → text ≡ head_text kind clock content ++ rest
     → (more : List ℕ) × (text ≡ head_word kind ++ more)
 unfolding head_line
@@ -186,7 +186,7 @@ head_found text mark rest head has is sum line behind size =
       after = after;
     }
 
--- If one text begins with two heads, they are of one kind.
+-- If a text begins with two heads, both are of the same kind.
 pub same_kind : (kind other : HeadKind) (clock time : ℕ) (content bytes x y : List ℕ)
     → head_text kind clock content ++ x ≡ head_text other time bytes ++ y → kind ≡ other
 same_kind kind other clock time content bytes x y same =
@@ -194,7 +194,7 @@ same_kind kind other clock time content bytes x y same =
     let b = word_stands other time bytes (head_text kind clock content ++ x) y same in
     one_word kind other a.0 b.0 (sym a.1 ∙ b.1)
 
--- If one text begins with two heads of one kind, the heads are equal.
+-- If a text begins with two heads of the same kind, the heads are equal.
 pub same_head : (kind : HeadKind) (clock other : ℕ) (content bytes x y : List ℕ) → HasHead kind clock content → HasHead kind other bytes
     → head_text kind clock content ++ x ≡ head_text kind other bytes ++ y → (clock ≡ other) × (content ≡ bytes)
 same_head kind clock other content bytes x y has others same =

@@ -53,7 +53,7 @@ line_ends sum mark many =
     let line = entry_word ++ encode_lower mark ++ 32 ∷ [] ++ encode_lower (to_be_bytes w64 (sum_from sum mark)) in
     get_or_at line 10 [] 0 71 (omega (arith, mark_line_many sum mark many, length-append line (10 ∷ [])))
 
--- The byte after the line of an entry's mark is not a line feed.
+-- The byte after the line of an entry's mark is a `w`, not a line feed.
 wait_follows : (sum : ℕ) (e : PlainEntry) → get_or (entry_text sum e) 72 0 ≡ 119
 unfolding entry_text setting_lines
 wait_follows sum e =
@@ -112,7 +112,7 @@ module _ (sum : ℕ) (e : PlainEntry) (place : ℕ) (is : IsEntry e) (less : pla
       ∙ sym (get_or-take 72 (without place (entry_text sum e)) 71 0 (omega arith)) ∙ ap (λ (t : List ℕ). get_or t 71 0) line ∙ line_ends sum mark many in
       absurd (omega (arith, feed))
 
-  -- If a later byte is removed, the line of the mark is still present.
+  -- If a byte after the mark's line is removed, this line is unchanged.
   late : 72 ≤ place → take 72 cut ≡ mark_line sum (mark_of e)
   unfolding cut text
   late after =

@@ -174,7 +174,7 @@ cmd_many : (e : PlainEntry) → length (cmd_line e) ≡ 4 + 2 * length e.buffer
 unfolding cmd_line
 cmd_many e = omega (arith, length-append (codes "cmd ") (encode_lower e.buffer), length-encode_with lower_digits e.buffer)
 
--- the offset at which the last line of an entry ends
+-- the offset at which the last line of an entry ends, counted from the end of the mark's line
 abbrev last_end : PlainEntry → ℕ
 last_end e = 35 + 2 * max 1 (length e.drawn) + 2 * length e.buffer
 

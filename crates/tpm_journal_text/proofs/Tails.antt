@@ -33,8 +33,7 @@ fewer text end size some long e all = record {
   fewer = omega (arith, some, long, length-take-le (size - 1) text (omega (arith, long)));
 }
 
--- If a text consists of a prefix and zeros, all bytes from any offset after the prefix on are
--- zeros.
+-- If a text consists of a prefix and zeros, all bytes after the prefix are zeros.
 zeros_after : (front : List ℕ) (zeros place : ℕ) → length front ≤ place
     → (count : ℕ) × (drop place (front ++ replicate zeros 0) ≡ replicate count 0)
 zeros_after [] zeros place le = (zeros - place, drop-replicate {X = ℕ} place zeros 0)

@@ -23,7 +23,7 @@ pub record PlainEntry : Type 0 where
 abbrev pub entry_room : ℕ
 entry_room = 9216
 
--- the largest size of a buffer; a longer buffer is refused like one of 4,097 bytes
+-- the largest size of a buffer in an entry; a longer buffer is refused like one of 4,097 bytes
 abbrev pub entry_limit : ℕ
 entry_limit = 4097
 

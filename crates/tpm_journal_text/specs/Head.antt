@@ -1,5 +1,5 @@
--- The head of a journal: the host's clock, and the device at that time. The device is either its
--- image when power came on, or its whole state as a state text.
+-- The head of a journal: the host's clock, and the device at that time, either as its image when
+-- power came on, or as a state text with its whole state.
 use Rattle.std.specs.Prelude.{◌≡◌, ℕ, ◌+◌, ◌*◌, ◌≤◌, ◌<◌, ◌^◌, List, [], ◌∷◌, ◌++◌, codes, length, take}
 use Rattle.std.specs.Int.{w32, w64, to_be_bytes}
 use Rattle.hex.specs.Hex.{encode_lower}
@@ -50,7 +50,7 @@ pub record HasHead (kind : HeadKind) (clock : ℕ) (content : List ℕ) : Type 0
   pub small : length content ≤ content_limit kind
   pub are_bytes : AreBytes content
 
--- The text begins with a head of this kind, clock and content, with this size and this checksum.
+-- The text begins with a head that has this kind, clock, content, size and checksum.
 pub record IsHeadOf (text : List ℕ) (head : Head) : Type 0 where
   pub has : HasHead head.kind head.clock head.content.now
   pub whole : head.size ≤ length text

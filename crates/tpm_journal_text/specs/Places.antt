@@ -1,4 +1,4 @@
--- The offsets of the parts of an entry and of a head, in its mark and in its text.
+-- The offsets of the parts of an entry and of a head, in their marks and texts.
 use Rattle.std.specs.Prelude.{◌≡◌, ℕ, ◌+◌, ◌*◌, ◌≤◌, List, drop, length, max, slice_index, take}
 use Rattle.std.specs.Int.{w32, w64, from_be_bytes}
 use Rattle.hex.specs.Hex.{encode_lower}

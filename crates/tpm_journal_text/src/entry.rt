@@ -80,8 +80,8 @@ impl<'a> Entry<'a> {
         mark
     }
 
-    /// Writes the lines that set the command's time and locality at an offset in a buffer;
-    /// returns the end offset.
+    /// Writes, at an offset in a buffer, the lines that set the command's time and locality.
+    /// Returns the end offset.
     #[tactic(auto, unfolding(crate::specs::Entry::setting_lines))]
     fn put_setting(&self, room: &mut [u8], place: usize) -> usize
         requires entry { IsEntry (plain_entry self.now) }
@@ -111,8 +111,8 @@ impl<'a> Entry<'a> {
         }
     }
 
-    /// Writes the lines that set the command's random bytes and execute it at an offset in a
-    /// buffer; returns the end offset.
+    /// Writes, at an offset in a buffer, the lines that set the command's random bytes and execute
+    /// it. Returns the end offset.
     #[tactic(auto, unfolding(crate::specs::Entry::executing_lines))]
     fn put_executing(&self, room: &mut [u8], place: usize) -> usize
         requires entry { IsEntry (plain_entry self.now) }

@@ -25,9 +25,9 @@ pub const BYTES_ROOM: usize = 256 + ENTRY_LIMIT;
 /// The offset of the random bytes in the text of an entry.
 const DRAWN_PLACE: usize = 102;
 
-/// The beginning of a text: an entry, a text too short for an entry, or neither.
+/// What a text begins with: an entry, a part too short for an entry, or neither.
 pub enum Next<'a> {
-    /// An entry, the size of its text, and the checksum after it.
+    /// An entry, the size of its text, and the checksum of all marks including its own.
     Whole {
         entry: Entry<'a>,
         size: usize,
@@ -153,7 +153,7 @@ fn less_than_entry<'a>(text: &[u8], mark: &[u8; MARK_SIZE]) -> Next<'a>
 }
 
 /// Reads the entry at the beginning of a text. `sum` is the checksum of all earlier marks. Decodes
-/// the entry into `bytes`, and encodes it again in `room` for comparison.
+/// the entry into `bytes`, and encodes it again in `room` to compare it with the text.
 pub fn read_entry<'a>(
     sum: u64,
     text: &[u8],

@@ -15,7 +15,7 @@ pub record AreTwoDevices : Type 0 where
   pub alike : AreAlike (seeded 0) (seeded 1) []
   pub differ : seeded 0 ≢ seeded 1
 
--- a device with an index that contains this byte eight times
+-- a device with an NV index that contains this byte eight times
 abbrev pub holding : (byte : ℕ) → Record
 holding byte =
     let r : Record = tried 0 0 0 in

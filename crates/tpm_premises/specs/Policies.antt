@@ -11,7 +11,7 @@ use Rattle.tpm_policy_meaning.specs.Expression.{PolicyCommandCode, PolicyLocalit
 use Rattle.tpm_policy_meaning.specs.Expression.{PolicyNvWritten, PolicySecret, PolicyNv}
 use Rattle.tpm_policy_meaning.specs.Meaning.{IsPolicyExpression}
 
--- A policy can be written that adds this assertion to another policy.
+-- This assertion can be added to the written policy `before`.
 abbrev pub IsWrittenAfter : HashAlg → PolicyExpression → PolicyAssertion → Type 0
 IsWrittenAfter hash before assertion = IsPolicyExpression hash (Then before assertion)
 

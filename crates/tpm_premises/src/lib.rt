@@ -16,8 +16,8 @@ ghost use Rattle.tpm_premises.specs.Policies.{EachIsWritten};
 ghost use Rattle.tpm_premises.specs.Replays.{HasReplay};
 ghost use Rattle.tpm_premises.specs.Uses.{HasUse};
 
-/// Every assertion can be added to a written policy, and two policies can be the branches of
-/// another.
+/// Every assertion can be added to a written policy, and two policies can be the branches of a
+/// third.
 #[inline(always)]
 #[tactic(auto, using(crate::proofs::Policies::each_is_written))]
 pub fn policy_premise()

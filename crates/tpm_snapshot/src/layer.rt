@@ -9,7 +9,7 @@ use tpm_completion::Completion;
 use tpm_state_text::Layer;
 use tpm_types::SESSION_LIMIT;
 
-/// Returns a number unchanged. The contract adds that the number fits its width.
+/// Returns a number unchanged. The contract adds that the number fits in 64 bits.
 fn with_width(number: u64) -> u64
     ensures same { result ≡ number }
     ensures fits { result < 2 ^ 64 }

@@ -35,8 +35,8 @@ pub fn snapshot_into<K: Keep>(
     tpm_state_text::snapshot_into(machine.keep(), layer, buffer)
 }
 
-/// Restores the machine of a state text into a machine just manufactured with all-zero random
-/// bytes, without moving it. Returns the completing layer, or the first fault of the text. On
+/// Replaces a machine just manufactured with all-zero random bytes by the machine that a state text
+/// encodes, without moving it. Returns the completing layer, or the first fault of the text. On
 /// error, the machine is unspecified.
 #[tactic(auto, using(crate::proofs::Restoring::new_again, crate::proofs::Restoring::has_follows))]
 pub fn restore_new<K: Keep>(
@@ -58,8 +58,8 @@ pub fn restore_new<K: Keep>(
     fill(machine, text)
 }
 
-/// Restores the machine of a state text into a new machine. The contract does not mention the
-/// device that wrote the text.
+/// Replaces a new machine by the machine that a state text encodes. The contract does not mention
+/// the device that wrote the text.
 fn fill<K: Keep>(machine: &mut Machine<K>, text: &[u8]) -> Result<Option<Layer>, RestoreFault>
     requires { state_of K.record_of machine.old ≡ manufactured (replicate 256 0) }
     ensures { RestoresNew K.can_refuse (state_of_text text.now) (state_of K.record_of machine.new)
@@ -80,8 +80,8 @@ pub fn resume_new<K: Keep>(
     tpm_state_text::resume_new(machine.keep_mut(), text)
 }
 
-/// Returns the machine of a state text, with its completing layer; or the first fault of the
-/// text.
+/// Returns the machine that a state text encodes, with its completing layer; or the first fault of
+/// the text.
 #[tactic(auto, using(crate::proofs::Restoring::again_follows))]
 pub fn restored<K: Keep>(
     alloc: Global,
@@ -101,8 +101,8 @@ pub fn restored<K: Keep>(
     made(alloc, text)
 }
 
-/// Returns the machine of a state text. The contract does not mention the device that wrote the
-/// text.
+/// Returns the machine that a state text encodes. The contract does not mention the device that
+/// wrote the text.
 #[tactic(auto, using(tpm_state_text::proofs::RestoringLaws::restored_again))]
 fn made<K: Keep>(alloc: Global, text: &[u8]) -> Result<(Machine<K>, Option<Layer>), RestoreFault>
     ensures exact { Restores (state_of K.record_of) (K.empty_can_refuse || K.can_refuse) text.now
@@ -114,8 +114,8 @@ fn made<K: Keep>(alloc: Global, text: &[u8]) -> Result<(Machine<K>, Option<Layer
     Ok((Machine::from_keep(keep), layer))
 }
 
-/// Replaces a machine by the machine of a state text, and returns the completing layer. If the text
-/// is refused, the machine is unchanged.
+/// Replaces a machine by the machine that a state text encodes, and returns the completing layer.
+/// If the text is refused, the machine is unchanged.
 #[tactic(auto, using(crate::proofs::Restoring::into_again, crate::proofs::Restoring::has_follows))]
 pub fn restore_into<K: Keep>(
     machine: &mut Machine<K>,
@@ -137,8 +137,8 @@ pub fn restore_into<K: Keep>(
     replace(machine, alloc, text)
 }
 
-/// Replaces a machine by the machine of a state text. The contract does not mention the device that
-/// wrote the text.
+/// Replaces a machine by the machine that a state text encodes. The contract does not mention the
+/// device that wrote the text.
 fn replace<K: Keep>(
     machine: &mut Machine<K>,
     alloc: Global,

@@ -13,7 +13,7 @@ use Rattle.tpm_image_text.proofs.FieldSpelling.{many_spelled, number_in_spelled,
 use Rattle.tpm_state_text.specs.Layer.{IsLayer, layer_in, layer_text}
 use Rattle.tpm_state_text.specs.declared.layer.Layer.{Layer}
 
--- if an element can be decoded, so can `count` elements one after another
+-- if a decoder of one element is exact, so is the decoder of `count` elements one after another
 pub all_spelled : {A : Type 0} {text : A → List ℕ} {Is : A → Type 0} {at : List ℕ → Result (A × List ℕ) Malformed} (count : ℕ) → Spelled text Is at → Spelled (flat_map text) (λ xs. (length xs ≡ count) × All Is xs) (many_at at count)
 all_spelled {A} {text} {Is} {at} count law =
     respelled (many_spelled count law) (λ xs. refl)

@@ -79,7 +79,7 @@ length_set [] place x = refl
 length_set (y ∷ xs) zero x = refl
 length_set (y ∷ xs) (suc place) x = ap (λ (n : ℕ). suc n) (length_set xs place x)
 
--- This slot and all later slots are free.
+-- The slot `from` and all later slots are free.
 pub IsFreeFrom : {A : Type 0} → ℕ → List (Option A) → Type 0
 IsFreeFrom from places = (place : ℕ) → from ≤ place → at_place places place ≡ None
 
@@ -112,12 +112,13 @@ set_none [] place is = refl
 set_none (x ∷ xs) zero is = ap (λ (c : Option _). c ∷ xs) (sym is)
 set_none (x ∷ xs) (suc place) is = ap (λ (l : List (Option _)). x ∷ l) (set_none xs place is)
 
--- storing an optional value in a free slot sets the slot to the value, or leaves it free
+-- storing an optional value in a free slot sets the slot to the value, or leaves the slot free if
+-- there is no value
 pub value_set : {A : Type 0} (places : List (Option A)) (place : ℕ) (value : Option A) → at_place places place ≡ None → with_value places place value ≡ slice_set places place value
 value_set places place None is = sym (set_none places place is)
 value_set places place (Some x) is = refl
 
--- if reading a slot fails, its fault is the fault of the whole call
+-- if reading a slot fails, the whole call fails with the same fault
 pub place_cut : {A : Type 0} (can : Bool) (read : Result (Option A × List ℕ) Malformed) (old new filled : List (Option A)) (place : ℕ) (rest behind : List ℕ) (whole : Result (List (Option A) × List ℕ) Malformed) (fault : FillFault) → (read ≡ Err malformed → whole ≡ Err malformed) → FillsPlace can read old place (Err fault) new rest → Fills can whole filled (Err fault) behind
 place_cut can read old new filled place rest behind whole unfilled.Malformed ends is = ends is
 place_cut can read old new filled place rest behind whole unfilled.NoMemory ends may = may
@@ -129,7 +130,7 @@ at_is [] place below = absurd (omega arith)
 at_is (x ∷ xs) zero below = refl
 at_is (x ∷ xs) (suc place) below = at_is xs place (omega arith)
 
--- writing one more slot does not change what the whole text will be
+-- writing one more slot does not change the resulting whole text
 pub placed_more : {A : Type 0} (text_of : Option A → List ℕ) (text new whole : List ℕ) (places : List (Option A)) (place : ℕ) → place < length places → new ≡ text ++ text_of (at_place places place) → text ++ flat_map text_of (drop place places) ≡ whole → new ++ flat_map text_of (drop (place + 1) places) ≡ whole
 placed_more text_of text new whole places place below more so_far =
     written_more text_of text new whole places place None below (more ∙ ap (λ (v : Option _). text ++ text_of v) (at_is places place below)) so_far

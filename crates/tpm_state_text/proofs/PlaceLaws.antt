@@ -12,7 +12,8 @@ use Rattle.tpm_state_text.specs.Places.{optional_after, optional_in, optional_te
 
 -- ---- slots whose values have a property
 
--- if the value in each slot has a property, so does each element of the list of slots
+-- if the values in all occupied slots have a property, each element of the list is free or has the
+-- property
 pub each_of_all : {A : Type 0} (Is : A → Type 0) (places : List (Option A)) → AreAll Is places → AllByRecursion (λ value. IfSome value Is) places
 each_of_all Is [] all = tt
 each_of_all Is (value ∷ values) all = (all 0, each_of_all Is values (λ place. all (suc place)))

@@ -20,7 +20,7 @@ use Rattle.tpm_state_text.specs.Sessions.{sessions_in}
 use Rattle.tpm_image_text.specs.Fields.{number_in, yes_no_in}
 use Rattle.std.specs.Int.{w64}
 
--- reading the fields that a power cycle clears one after another results in the device that the
+-- reading the fields that a power cycle clears, one after another, results in the device that the
 -- text encodes
 pub resumes : (r : Record) (old : Fixed) (lockout : LockoutState) (fields : LockoutFields) (started : Bool) (banks : BankValues) (time forgiving_time closed_time : ℕ) (sessions : List (Option Session)) (objects : List (Option Object)) (new : Record) (text behind_started behind_banks behind_time behind_forgiving behind_closed behind_sessions rest : List ℕ) → old ≡ r.fixed → fields ≡ old.lockout.fields → lockout ≡ record { fields = fields; forgiving_time = forgiving_time; closed_time = closed_time } → new ≡ record r { fixed = record old { started = started; banks = banks; time = time; lockout = lockout }; sessions = sessions; objects = objects } → yes_no_in text ≡ Ok (started, behind_started) → banks_in behind_started ≡ Ok (banks, behind_banks) → number_in w64 behind_banks ≡ Ok (time, behind_time) → lockout_time_in behind_time ≡ Ok (forgiving_time, behind_forgiving) → lockout_time_in behind_forgiving ≡ Ok (closed_time, behind_closed) → sessions_in behind_closed ≡ Ok (sessions, behind_sessions) → transients_in behind_sessions ≡ Ok (objects, rest) → resumed_in (kept_of r) text ≡ Ok (new, rest)
 unfolding resumed_in
@@ -28,7 +28,7 @@ resumes r old lockout fields started banks time forgiving_time closed_time sessi
     rw (written, made, same, is, first, second, third, fourth, fifth, sixth, seventh) refl
 
 -- reading first the state that a device keeps without power, and then the state that a power cycle
--- clears, reads the whole device
+-- clears, reads the complete device
 pub device_filled : (can : Bool) (kept : NonVolatile) (middle new : Record) (result : Result (Unit {0}) FillFault) (text behind rest : List ℕ) → kept_in Two text ≡ Ok (kept, behind) → middle ≡ powered_on kept → Fills can (resumed_in (kept_of middle) behind) new result rest → Fills can (device_in text) new result rest
 unfolding device_in
 device_filled can kept middle new result text behind rest is same filled =

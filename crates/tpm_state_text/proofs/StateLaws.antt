@@ -84,7 +84,8 @@ pub earlier_refused : (state : EarlierState) → IsEarlierState state → curren
 earlier_refused state is =
     ap (λ (framed : Result (StateVersion × List ℕ) StateFault). framed >>= current_by) (earlier_framed state is)
 
--- a state that was decoded from a body of this version is possible, and the framed body encodes it
+-- a state that was decoded from a body of this version is one that a device can have, and the
+-- framed body encodes it
 found_in : (version : StateVersion) (body : List ℕ) (state : WholeState) → AreBytes body → state_in_body version body ≡ Ok state → IsWholeState state × Encodes (framed_state version body) state
 unfolding state_in_body state_text earlier_text
 found_in One body state fits e =

@@ -24,7 +24,8 @@ pub record WholeState : Type 0 where
   pub device : Record
   pub layer : Option Layer
 
--- A state is possible for a device: each of its parts has the right size and width.
+-- A device can have this state: each of its parts has an allowed size, and each number fits its
+-- integer type.
 pub record IsWholeState (state : WholeState) : Type 0 where
   pub device : IsRecord state.device
   pub layer : IfSome state.layer IsLayer

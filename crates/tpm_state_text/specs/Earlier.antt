@@ -70,7 +70,8 @@ pub record EarlierState : Type 0 where
   pub device : Record
   pub layer : Option EarlierLayer
 
--- A state is possible: each of its parts has the right size and width.
+-- A device can have this state: each of its parts has an allowed size, and each number fits its
+-- integer type.
 pub record IsEarlierState (state : EarlierState) : Type 0 where
   pub device : IsRecord state.device
   pub layer : IfSome state.layer IsEarlierLayer
@@ -106,8 +107,8 @@ without_one held objects place =
 unfoldable pub without_waiting : List Held → List (Option Object) → List (Option Object)
 without_waiting held objects = fold (without_one held) objects (numbers_below object_limit)
 
--- the device without the flushed objects that stayed in their slots; without a layer, there are
--- none
+-- the device without the flushed objects that stayed in their slots; a device without a layer has
+-- no such objects
 abbrev pub device_of : Record → Option EarlierLayer → Record
 device_of device (Some layer) =
     record device { objects = without_waiting layer.objects device.objects }

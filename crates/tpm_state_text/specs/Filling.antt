@@ -39,8 +39,8 @@ FillsState can read device (Ok layer) = read ≡ Ok (state_of device layer)
 FillsState can read device (Err unfilled.Malformed) = read ≡ Err malformed
 FillsState can read device (Err unfilled.NoMemory) = can ≡ true
 
--- A new device was set to the state of a text, which is `read`, and the result is its layer. Or the
--- result is the first fault of the text. Or an allocation failed, in which case the text may be
+-- A new device was set to the state `read`, which a text encodes, and the result is its layer. Or
+-- the result is the first fault of the text. Or an allocation failed, in which case the text may be
 -- anything.
 abbrev pub RestoresNew : Bool → (read : Result WholeState StateFault) → Record
     → Result (Option Layer) RestoreFault → Type 0
@@ -57,7 +57,7 @@ Restores record_of can text (Ok made) = state_of_text text ≡ Ok (state_of (rec
 Restores record_of can text (Err (unrestored.Text fault)) = state_of_text text ≡ Err fault
 Restores record_of can text (Err unrestored.NoMemory) = can ≡ true
 
--- Restoring the text of a state returned exactly that state, unless an allocation failed.
+-- Restoring the text of a state returned exactly that state, or an allocation failed.
 abbrev pub RestoresAgain : {K : Type 0} → (K → Record) → Bool → WholeState
     → Result (K × Option Layer) RestoreFault → Type 0
 RestoresAgain record_of can state (Ok made) = state_of (record_of made.0) made.1 ≡ state
@@ -65,7 +65,7 @@ RestoresAgain record_of can state (Err (unrestored.Text fault)) = ⊥
 RestoresAgain record_of can state (Err unrestored.NoMemory) = can ≡ true
 
 -- A device was set to the state of a text, and the result is its layer. Otherwise the device is
--- unchanged, and the result is the first fault of the text, or an allocation failed.
+-- unchanged, and the result is the first fault of the text, or says that an allocation failed.
 abbrev pub RestoresInto : Bool → List ℕ → (old : Record) → Result (Option Layer) RestoreFault
     → (new : Record) → Type 0
 RestoresInto can text old (Ok layer) new = state_of_text text ≡ Ok (state_of new layer)

@@ -1,5 +1,5 @@
 -- The frame of a state text: like the frame of an image, but with its own magic word, versions and
--- faults. The format is this device's own (docs/table/state_text.md).
+-- faults. The format is specific to this device (docs/table/state_text.md).
 use Rattle.std.specs.Prelude.{ℕ, List}
 use Rattle.tpm_image_text.specs.Frame.{Format, framed_in}
 use Rattle.tpm_state_text.specs.Version.{state_version_number, state_version_numbered}

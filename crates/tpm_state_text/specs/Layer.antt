@@ -1,6 +1,6 @@
 -- The state of the completing layer, if a device has the layer: the contexts that it made. TPM 2.0
--- Library, Part 1, section 30 (context management). The same record is `Completion` in
--- tpm_completion.
+-- Library, Part 1, section 30 (context management). `Completion` in tpm_completion has the same
+-- fields.
 use Rattle.std.specs.Prelude.{◌≡◌, ℕ, ◌<◌, ◌^◌, List, ◌++◌, length, Result, Ok}
 use Rattle.std.specs.Int.{w64, to_be_bytes}
 use Rattle.std.specs.List.{All, flat_map}

@@ -42,8 +42,8 @@ optional_in at text = do
 
 -- ---- slots
 
--- the text of the slots, from the first to the last: for each slot, whether it is occupied,
--- followed by its value if it is
+-- the text of the slots, from the first to the last: for each slot, whether it is occupied, and its
+-- value if it is
 abbrev pub places_text : {X : Type 0} → (X → List ℕ) → List (Option X) → List ℕ
 places_text text_of places = flat_map (optional_text text_of) places
 

@@ -1,5 +1,5 @@
 -- The policy of a session. TPM 2.0 Library, Part 1, section 19.7 (enhanced authorization), and
--- docs/table/policies.md, say what it contains; the layout is this device's own.
+-- docs/table/policies.md, say what it contains; the layout is specific to this device.
 use Rattle.std.specs.Prelude.{ℕ, ◌==◌, nat_le, Bool, List, ◌++◌, if◌then◌else◌, Option, Some, None, Result, Ok}
 use Rattle.std.specs.Int.{w8, w32, w64, to_be_bytes}
 use Rattle.tpm_bytes.specs.Reading.{◌>>=◌}
@@ -34,8 +34,8 @@ are_localities localities = nat_le localities 0x1f
 unfoldable pub localities_in : List ℕ → Result (ℕ × List ℕ) Malformed
 localities_in text = passing are_localities (number_in w8) text
 
--- the text of a policy: its digest; the update counter, the command, the cpHash and the written
--- state, each if an assertion recorded it; the localities; and the demand
+-- the text of a policy: its digest; the update counter, command, cpHash and written state, if
+-- assertions recorded them; the localities; and the demand
 unfoldable pub policy_text : Policy → List ℕ
 policy_text p =
     sized_text p.digest

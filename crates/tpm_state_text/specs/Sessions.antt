@@ -1,7 +1,7 @@
 -- The sessions of a device. TPM 2.0 Library, Part 1, sections 19.6 and 19.7, and
 -- docs/table/sessions.md, say what a session contains. Part 2, sections 6.11 (TPM_SE), 6.3
 -- (TPM_ALG_ID) and 11.1.6 (TPMT_SYM_DEF), say how its type, hash and symmetric definition are
--- encoded. The rest of the layout is this device's own.
+-- encoded. The rest of the layout is specific to this device.
 use Rattle.std.specs.Prelude.{ℕ, ◌==◌, List, ◌++◌, if◌then◌else◌, Option, Some, None, Result, Ok}
 use Rattle.std.specs.Int.{w8, w16, to_be_bytes}
 use Rattle.tpm_bytes.specs.Reading.{◌>>=◌}
@@ -22,8 +22,8 @@ use Rattle.tpm_state_text.specs.Policies.{policy_in, policy_text}
 
 -- ---- what a session is bound to
 
--- the number that stands for a protection against guesses: 0 for none, 1 if a wrong entry is a
--- failed try, 2 if a wrong entry disables lockoutAuth
+-- the number that stands for a protection against guesses of an authorization value: 0 for none, 1
+-- if a wrong guess is a failed try, 2 if a wrong guess disables lockoutAuth
 abbrev pub protection_number : Protection → ℕ
 protection_number protection.None = 0
 protection_number protection.Tries = 1
@@ -89,8 +89,8 @@ session_fields_in text = do
     policy.1,
   )
 
--- reads a session, and refuses it if nonceTPM, the key or the policy digest has a size that the
--- session's hash does not allow
+-- reads a session, and refuses it if its hash does not allow the size of nonceTPM, of the key or of
+-- the policy digest
 unfoldable pub session_in : List ℕ → Result (Session × List ℕ) Malformed
 session_in text = passing has_hash_sizes session_fields_in text
 

@@ -1,4 +1,4 @@
--- The versions of a state text. The format is this device's own.
+-- The versions of a state text. The format is specific to this device.
 use Rattle.std.specs.Prelude.{ℕ, ◌==◌, Bool, true, false, if◌then◌else◌, Option, Some, None}
 use Rattle.tpm_state_text.specs.declared.version.StateVersion.{StateVersion}
 use Rattle.tpm_state_text.specs.declared.version.StateVersion.TheVariants.{One, Two}

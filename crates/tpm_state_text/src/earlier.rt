@@ -23,7 +23,7 @@ use tpm_record::objects::Objects;
 use tpm_types::{Handle, OBJECT_LIMIT};
 
 /// What the completing layer remembers about a transient object: the number of its context, and the
-/// number of its flush. Each number is 0 if there was no context or no flush.
+/// number of its flush. Each of them is 0 if the object has none.
 #[derive(Clone, Copy, PartialEq, Eq)]
 pub struct Held {
     pub context: u64,

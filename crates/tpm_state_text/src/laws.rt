@@ -14,9 +14,9 @@ ghost use Rattle.tpm_state_text.specs.State.{Encodes, HasBehindHead, current_sta
 ghost use Rattle.tpm_state_text.specs.declared.fault.StateFault.TheVariants as fault;
 
 /// Decoding the state text of a device returns exactly that device, with its completing layer. If
-/// decoding bytes returns a device, this device is possible, and the bytes are its state text. Or
-/// the bytes have version 1, and flushed objects that stayed in their slots were left out. Two
-/// devices with the same state text are equal, and no state text exceeds the largest size.
+/// decoding bytes returns a device, it is a device that can exist, and the bytes are its state
+/// text, or a text of version 1 whose flushed objects were left out. Two devices with the same
+/// state text are equal, and no state text exceeds the largest size.
 #[inline(always)]
 #[tactic(auto, using(crate::proofs::StateLaws::text_told, crate::proofs::StateLaws::one_state, crate::proofs::StateLaws::text_small))]
 pub fn state_laws()
@@ -32,8 +32,8 @@ pub fn state_laws()
 {}
 
 /// Decoding a text of version 1 returns its state without the flushed objects that stayed in their
-/// slots, which is a possible state. If only version 2 is accepted, version 1 is refused with
-/// Earlier, and only the state text of a device decodes to this device.
+/// slots. A device can have the returned state. If only version 2 is accepted, version 1 is refused
+/// with Earlier, and only the state text of a device decodes to this device.
 #[inline(always)]
 #[tactic(auto, using(crate::proofs::StateLaws::earlier_told, crate::proofs::StateLaws::earlier_refused, crate::proofs::StateLaws::current_told, crate::proofs::StateLaws::current_found, crate::proofs::EarlierLaws::current_is))]
 pub fn version_laws()

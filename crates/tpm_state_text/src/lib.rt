@@ -12,8 +12,8 @@
 //! [`restore_into`] read a text of version 1 or 2, into any type that keeps a device's state.
 //! [`resume_new`] reads only version 2. They allocate memory only for the state itself.
 //!
-//! Decoding the state text of a device returns exactly that device. Decoding succeeds only on the
-//! text of a possible device; from version 1, it leaves out flushed objects that stayed in their
+//! Decoding the state text of a device returns exactly that device. Decoding succeeds only on a
+//! text whose device can exist; from version 1, it leaves out flushed objects that stayed in their
 //! slots. No proper prefix of a state text is a state text ([`laws`]).
 
 mod banks;

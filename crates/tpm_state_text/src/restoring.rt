@@ -33,9 +33,9 @@ fn read_version<K: Keep>(
     }
 }
 
-/// Restores the device of a state text into a device just manufactured with all-zero random bytes,
-/// without moving it. Returns the completing layer, or the first fault of the text. On error, the
-/// device's state is unspecified.
+/// Replaces a device just manufactured with all-zero random bytes by the device that a state text
+/// encodes, without moving it. Returns the completing layer, or the first fault of the text. On
+/// error, the device's state is unspecified.
 pub fn restore_new<K: Keep>(keep: &mut K, text: &[u8]) -> Result<Option<Layer>, RestoreFault>
     requires { K.record_of keep.old ≡ manufactured (replicate 256 0) }
     ensures { RestoresNew K.can_refuse (state_of_text text.now) (K.record_of keep.new) result }
@@ -71,8 +71,8 @@ pub fn resume_new<K: Keep>(keep: &mut K, text: &[u8]) -> Result<Option<Layer>, R
     }
 }
 
-/// Creates the device of a state text. The contract does not mention the device that wrote the
-/// text.
+/// Creates the device that a state text encodes. The contract does not mention the device that
+/// wrote the text.
 fn made<K: Keep>(alloc: Global, text: &[u8]) -> Result<(K, Option<Layer>), RestoreFault>
     ensures { Restores K.record_of (K.empty_can_refuse || K.can_refuse) text.now result }
 {
@@ -83,8 +83,8 @@ fn made<K: Keep>(alloc: Global, text: &[u8]) -> Result<(K, Option<Layer>), Resto
     Ok((keep, layer))
 }
 
-/// Returns the device of a state text, as a new `Keep`, with its completing layer; or the first
-/// fault of the text.
+/// Returns the device that a state text encodes, as a new `Keep`, with its completing layer; or the
+/// first fault of the text.
 #[tactic(auto, using(crate::proofs::RestoringLaws::restored_again))]
 pub fn restored<K: Keep>(alloc: Global, text: &[u8]) -> Result<(K, Option<Layer>), RestoreFault>
     ensures exact { Restores K.record_of (K.empty_can_refuse || K.can_refuse) text.now result }
@@ -95,9 +95,9 @@ pub fn restored<K: Keep>(alloc: Global, text: &[u8]) -> Result<(K, Option<Layer>
     made(alloc, text)
 }
 
-/// Replaces a device by the device of a state text, and returns the completing layer. If the text
-/// is refused, the device is unchanged. The new device is created next to the old one and then
-/// moved.
+/// Replaces a device by the device that a state text encodes, and returns the completing layer. If
+/// the text is refused, the device is unchanged. The new device is created next to the old one and
+/// then moved.
 pub fn restore_into<K: Keep>(
     keep: &mut K,
     alloc: Global,

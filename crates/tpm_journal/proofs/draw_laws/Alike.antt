@@ -28,7 +28,7 @@ module _ {A B E : Type 0} (random other : List ℕ) where
       ∙ ap Ok (made a)
   alike_before drawn moved drawn' moved' (Err e) y f g as_many made alike = ap (λ (z : Result A E). z >>= λ a. Ok (g a)) alike
 
--- results remain alike if the command is added to a refusal
+-- results remain alike if the command code is added to their refusals
 pub alike_in_command : {A : Type 0} (drawn : A → ℕ) (moved : A → A) (random other : List ℕ) (c : CommandCode) (x y : Result A Refused)
     → Alike drawn moved random other x y → Alike drawn moved random other (in_command c x) (in_command c y)
 alike_in_command drawn moved random other c (Ok a) y alike = λ same. ap (in_command c) (alike same)

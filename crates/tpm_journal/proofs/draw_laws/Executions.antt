@@ -1,5 +1,4 @@
--- A command is executed in the same way with other random bytes that agree on the bytes that it
--- draws.
+-- A command is executed in the same way if the random bytes that it does not draw are replaced.
 use Rattle.std.proofs.Common.{◌≡◌, ◌≤◌, ◌-◌, ◌∙◌, ℕ, Bool, false, List, length, take, Result, Ok, Err, refl, sym, ap, subst, arith}
 use Rattle.std.specs.Prelude.{replicate}
 use Rattle.std.proofs.lemmas.List.{length-append, length-replicate, length-take-le}
@@ -17,7 +16,8 @@ use Rattle.tpm_journal.specs.draw_laws.Bytes.{AgreeOnDrawn, replayed, zeros_behi
 use Rattle.tpm_journal.proofs.draw_laws.Fronts.{front_kept}
 use Rattle.tpm_journal.proofs.draw_laws.Steps.{AcceptedAlike, accepted_alike, drawn_alike, fronts, nonces_alike, where_alike, with_other}
 
--- a success that stays within the limits (`IsModest`) also does so with other random bytes
+-- a success that stays within the limits (`IsModest`) also stays within them with other random
+-- bytes
 modest_alike : (a b : Result Accepted RefusedCommand) (random other : List ℕ) → length other ≡ length random → AcceptedAlike random other a b
     → take (drawn_by_command random a 0) other ≡ take (drawn_by_command random a 0) random
     → (x : Accepted) × (a ≡ Ok x) × IsModest random x → (x : Accepted) × (b ≡ Ok x) × IsModest other x

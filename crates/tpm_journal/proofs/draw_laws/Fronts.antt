@@ -10,7 +10,7 @@ take_twice (suc d) zero xs le = absurd (let never : ⊥ = omega (arith, le) in n
 take_twice (suc d) (suc n) [] le = refl
 take_twice (suc d) (suc n) (x ∷ xs) le = ap (λ l. x ∷ l) (take_twice d n xs (omega (arith, le)))
 
--- the prefix of a list that is at least as long as the list is the whole list
+-- a prefix that is at least as long as the list is the whole list
 take_whole : {X : Type 0} (n : ℕ) (xs : List X) → length xs ≤ n → take n xs ≡ xs
 take_whole zero [] le = refl
 take_whole zero (x ∷ xs) le = absurd (let never : ⊥ = omega (arith, le) in never)
@@ -27,7 +27,7 @@ module _ {X : Type 0} (n : ℕ) (xs ys : List X) (same : take n ys ≡ take n xs
   part skipped count le =
       sym (drop-take skipped count ys) ∙ ap (λ l. drop skipped l) (shorter (skipped + count) le) ∙ drop-take skipped count xs
 
-  -- both lists are equal, if they have the same length and the common prefix is all of one
+  -- if both lists have the same length, and the common prefix is the whole of one, they are equal
   whole : length ys ≡ length xs → length xs ≤ n → ys ≡ xs
   whole as_long le = sym (take_whole n ys (omega (arith, as_long, le))) ∙ same ∙ take_whole n xs le
 

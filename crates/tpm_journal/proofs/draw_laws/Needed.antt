@@ -1,4 +1,4 @@
--- TPM2_GetRandom returns the bytes that it draws, so each of them matters.
+-- TPM2_GetRandom returns all bytes that it draws. Therefore, each of them matters.
 use Rattle.std.proofs.Common.{◌≡◌, List, [], ℕ, Result, Ok, Err, IfOk, ap, take}
 use Rattle.std.specs.Prelude.{min}
 use Rattle.std.specs.Int.{w16}

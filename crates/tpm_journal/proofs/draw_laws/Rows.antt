@@ -1,4 +1,4 @@
--- Five rows read random bytes. Each of them reads only the first bytes, and reports their number as
+-- Five rows read random bytes. Each of them reads only the first ones, and reports their number as
 -- drawn. The other rows read none.
 use Rattle.std.proofs.Common.{◌≡◌, ◌+◌, ℕ, List, None, Some, take, slice_set, Result, Ok, Err, refl, ap, arith}
 use Rattle.std.specs.Prelude.{min}
@@ -75,7 +75,7 @@ use Rattle.tpm_actions_device.specs.StartAuthSession.{start_auth_session_row}
 use Rattle.tpm_actions_device.specs.Startup.{startup_row}
 use Rattle.tpm_actions_object.specs.Unseal.{unseal_row}
 
--- a result that does not depend on random bytes is the same with any others
+-- a result that does not depend on random bytes is the same with all random bytes
 acts_same : (random other : List ℕ) (acts : Result Success Refused) → ActsAlike random other acts acts
 acts_same random other (Ok s) = λ same. refl
 acts_same random other (Err e) = refl
@@ -152,8 +152,7 @@ module _ (r : Record) (q : Request) (other : List ℕ) where
       let object = drawn_by p.template p.given in
       rw (created_alike p.template p.given (shorter (object + 16) q.random other same object (omega arith)), part (object + 16) q.random other same object 16 (omega arith)) refl))))))
 
--- the result of a row is the same with other random bytes that agree on all bytes that the row
--- draws
+-- the result of a row stays the same if the random bytes that it does not draw are replaced
 pub row_alike : (r : Record) (c : CommandCode) (q : Request) (other : List ℕ) → ActsAlike q.random other (row_of r c q) (row_of r c (with_random q other))
 unfolding row_of assertion_row clear_control_row create_primary_row dictionary_attack_lock_reset_row dictionary_attack_parameters_row evict_control_row flush_context_row get_capability_row hierarchy_change_auth_row hmac_row load_row nv_change_auth_row nv_define_space_row nv_extend_row nv_increment_row nv_read_lock_row nv_read_public_row nv_read_row nv_set_bits_row nv_undefine_space_row nv_write_lock_row nv_write_row pcr_event_row pcr_extend_row pcr_read_row pcr_reset_row policy_get_digest_row policy_restart_row read_clock_row read_public_row self_test_row shutdown_row unseal_row
 row_alike r command.GetRandom q other = get_random_alike r q other

@@ -61,8 +61,8 @@ fewer_left r (e ∷ es) left =
     let later = fewer_left (entry_rolled r e left).after es (drop (draw_of r e) left) in
     omega (arith, later, length-drop (draw_of r e) left)
 
--- New nonces are the same with other random bytes, if these agree on all bytes drawn for the
--- nonces. The number of bytes left is then also the same.
+-- New nonces stay the same if the random bytes that are not drawn for them are replaced. The number
+-- of bytes left is then also the same.
 pub record RolledAlike (r : Record) (es : List Entry) (left other : List ℕ) : Type 0 where
   pub after : (entries_rolled r es other).after ≡ (entries_rolled r es left).after
   pub as_long : length (entries_rolled r es other).left ≡ length (entries_rolled r es left).left
@@ -91,8 +91,8 @@ answer_alike : (c : Whole) (grants : List (Option Grant)) (a : Written) (effect 
 unfolding answer_to
 answer_alike c grants a effect random other same = rw same refl
 
--- Facts about a success with other random bytes that agree on all bytes drawn: those of the row,
--- then those of the nonces.
+-- Facts about an accepted command with other random bytes, which agree on all bytes that its row
+-- and then its nonces draw.
 module _ (a : Accepted) (random other : List ℕ) (as_long : length other ≡ length random) where
   abbrev drawn : ℕ
   drawn = bytes_drawn random a.success.after a.command.entries (row_drawn a)
@@ -111,7 +111,7 @@ module _ (a : Accepted) (random other : List ℕ) (as_long : length other ≡ le
       rw (answer_alike a.command a.grants (written_of a.success.answer) a.success.after random other (nonces_alike same).after) refl
 
 module _ (r : Record) (random other : List ℕ) (as_long : length other ≡ length random) where
-  -- a step is the same with other random bytes that agree on those drawn, whether or not an
+  -- a step stays the same if the random bytes that it does not draw are replaced, whether or not an
   -- allocation fails
   pub where_alike : (refused : Bool) (a b : Result Accepted RefusedCommand) → AcceptedAlike random other a b
       → take (drawn_by_command random a 0) other ≡ take (drawn_by_command random a 0) random
@@ -124,7 +124,7 @@ module _ (r : Record) (random other : List ℕ) (as_long : length other ≡ leng
   where_alike false (Err e) b alike same = ap (answer_where false r other) alike
   where_alike true (Err e) b alike same = ap (answer_where true r other) alike
 
-  -- a command draws the same number of bytes with other random bytes that agree on those drawn
+  -- a command draws the same number of bytes if the random bytes that it does not draw are replaced
   pub drawn_alike : (check : ℕ) (a b : Result Accepted RefusedCommand) → AcceptedAlike random other a b
       → take (drawn_by_command random a 0) other ≡ take (drawn_by_command random a 0) random
       → drawn_by_command other b check ≡ drawn_by_command random a check

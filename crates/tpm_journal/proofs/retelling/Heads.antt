@@ -11,7 +11,7 @@ use Rattle.tpm_journal.specs.declared.retelling.Telling.{Telling}
 use Rattle.tpm_journal.proofs.ReadHeads.{split_head}
 use Rattle.tpm_record.specs.Record.{Record}
 
--- the entries after the head are converted, if no allocation can fail
+-- if no allocation can fail, the entries after the head are converted
 abbrev pub from_head : (form : Telling) (can : Bool) (start : Start) (rest left : List ℕ) (followed : Followed) (after : Journal) (new : Record)
     (held holds : Option (List ℕ)) → can ≡ false → left ≡ rest → RetellsEntries form can start.journal start.device left held holds followed after new
     → RetellsEntries form false start.journal start.device rest held holds followed after new

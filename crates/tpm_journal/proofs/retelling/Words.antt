@@ -1,4 +1,5 @@
--- The answer to an entry can be put in words, and its output is written piece by piece.
+-- The answer to an entry can be described in words, and the output for it is written piece by
+-- piece.
 use Rattle.std.proofs.Common.{ℕ, Bool, true, false, List, ◌++◌, Option}
 use Rattle.std.specs.Io.KnownBytes.{Appends}
 use Rattle.std.proofs.KnownBytes.{Appends-trans}

@@ -21,7 +21,7 @@ const MARK_LINE_SIZE: usize = 72;
 /// The largest number of hex digits in a response.
 const DIGITS_LIMIT: usize = 8_192;
 
-/// Writes the output for a head: the head itself in a script, nothing among answers.
+/// Writes the output for a head: the head itself in a script, nothing in a list of answers.
 pub fn put_head<W: Write>(writer: &mut Tap<W>, form: Telling, head: &[u8]) -> Result<(), Failed>
     ensures written { OnOk result (Appends (W.contents (device_of writer.old))
         (W.contents (device_of writer.new)) (retold_head form head.now)) }
