@@ -87,8 +87,7 @@ is_litter j litter laws = by (j.is_litter litter) refl
     by true is = is
     by false is = laws.clean
 
--- what a crash leaves of a content is a head, complete entries, and possibly the remains of one
--- more
+-- a crash leaves a file with a head, complete entries, and possibly the remains of one more entry
 left_text : (j : Journal) (f : File) (c : Content) (count : ℕ) (litter : List ℕ) → IsJournal j → j.is_state f.start.state ≡ true → Entered j c.commands
     → j.is_litter litter ≡ true → IsText j f.head f.start c → length f.head ≤ count → IsText j f.head f.start (left_of j f c count litter).now
 left_text j f c count litter laws lives entered ok t le =

@@ -50,7 +50,7 @@ same_lock j phase effect s k = (refl, refl)
 
 -- ---- the other holders
 
--- a holder without the lock depends only on what it knows of the file
+-- the invariant of a holder without the lock depends only on what the holder knows about the file
 away_in : (phase : Phase) (j : Journal) (v w : Sight) (k : Holder) → (holds phase ≡ true → ⊥) → (KnowsOf j v k → KnowsOf j w k) → In phase j v k → In phase j w k
 away_in (Ended e) j v w k away grows h = grows h
 away_in Locking j v w k away grows h = grows h
@@ -138,7 +138,8 @@ begins_fits Renew j s p k laws is none next lock below calm = dropped_fits j s p
 begins_fits Show j s p k laws is none next lock below calm = dropped_fits j s p k fault.Absent next lock
 begins_fits Cut j s p k laws is none next lock below calm = dropped_fits j s p k fault.Absent next lock
 
--- the holder when it continues to read the file that it knows, after the part that it executed
+-- the holder when it continues to read the file that it knows, from the end of the part that it
+-- executed
 abbrev pub again : Shared → Holder → Holder
 again s k = record k { size = length s.file.now.text; seen = k.place; read = [] }
 
@@ -387,7 +388,7 @@ last_named Show j s c response still named gives =
 last_named Begin j s c response still named gives = tt
 last_named Cut j s c response still named gives = tt
 
--- The new file contains the holder's text, and its device is the holder's.
+-- The new file contains the holder's text, and opens as the holder's device.
 pub record IsNew (j : Journal) (origin : List ℕ) (s : Shared) (k : Holder) : Type 0 where
   pub body : body j (named_from j origin s k).file ≡ k.out
   pub has : k.device ≡ Some (spot_of j (named_from j origin s k).file)

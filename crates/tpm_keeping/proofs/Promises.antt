@@ -1,4 +1,4 @@
--- The commands that were promised stay the beginning of the history.
+-- Promised commands remain at the beginning of the history.
 use Rattle.std.proofs.Common.{◌≡◌, ℕ, ◌-◌, ◌≤◌, ◌==◌, Bool, true, false, cond, List, [], ◌++◌, length, max, take, refl, sym, ap, ◌∙◌, subst, arith, append_assoc}
 use Rattle.std.proofs.lemmas.List.{append-nil, take-append-le}
 use Rattle.tpm_keeping.specs.Journal.{Journal, IsJournal, run, whole_in}

@@ -67,7 +67,7 @@ pub record File : Type 0 where
 
 -- a response that was sent
 pub record Answer : Type 0 where
-  -- the number of commands in the history when the response was sent, of which its own is the last
+  -- the position of the response's command in the history, where the first command has position 1
   pub place : ℕ
   -- the word of force of the holder that sent the response
   pub force : Force
@@ -123,8 +123,8 @@ pub data Event : Type 0 where
   Dies : (p : ℕ) → (effect : Effect) → Event
   Forks : (p child : ℕ) → Event
   Drops : Event
-  -- The host crashes. One of the contents of this file is left, truncated at the byte `far`, but
-  -- not before the end of the bytes on the disk. This litter follows.
+  -- The host crashes. One of the contents of this file is left, followed by this litter. The
+  -- content is truncated at the byte `far`, but not before the end of the bytes on the disk.
   Crashes : (file content far : ℕ) → (litter : List ℕ) → Event
 
 abbrev pub with_holder : Shared → (ℕ → Holder) → ℕ → Holder → World
@@ -132,12 +132,12 @@ with_holder s holders p k = record { shared = s; holders = λ q. cond (q == p) k
 
 -- ---- what a process does
 
--- a text after bytes were written at an offset, over the bytes there and beyond the end
+-- a text after bytes were written at an offset; they replace old bytes, and may extend the text
 abbrev pub written : (text : List ℕ) → (at : ℕ) → (bytes : List ℕ) → List ℕ
 written text at bytes = take at text ++ (bytes ++ drop (at + length bytes) text)
 
--- the commands whose entries a job writes to the journal or to a new one; and the commands without
--- an entry that lead to the state in which a new journal begins
+-- the command that gets an entry in the journal or in a new one (`adds`), or the command without an
+-- entry after which a new journal begins (`leads`), if the job has one
 abbrev pub adds : Journal → Job → List ℕ → List (List ℕ)
 adds j Execute c = cond (j.is_entered c) (c ∷ []) []
 adds j job c = []
@@ -151,8 +151,8 @@ leads j job c = []
 abbrev pub put_more : Journal → Holder → (count : ℕ) → List (List ℕ)
 put_more j k count = cond (nat_le (length k.out) count) (adds j k.job k.command) []
 
--- whether bytes are still dropped after a write; they are not if the whole text was written and
--- begins within the synced bytes
+-- whether bytes of the file are still dropped after a write; they are not if the whole text was
+-- written and it begins within the synced bytes
 abbrev pub put_dropped : File → Holder → (count : ℕ) → Bool
 put_dropped f k count =
     cond (nat_le (length k.out) count && nat_le (sure k) (min f.forced k.place)) false f.is_dropped
