@@ -49,7 +49,7 @@ seen_in parts = seen_of slot_record parts.machine parts.journal.layer parts.outc
 abbrev pub answer_in : Parts → List ℕ
 answer_in parts = reported (seen_in parts)
 
--- A device began in this state; or there is no such state, and no device.
+-- A device was created in this state; or there is neither a state nor a device.
 abbrev pub BeginsAs : {B : Type 0} → (B → Parts) → Option DeviceState → Option B → Type 0
 BeginsAs parts_in state (Some b) = state ≡ Some (state_of (parts_in b))
 BeginsAs parts_in state None = state ≡ None

@@ -44,8 +44,7 @@ module _ (j : Journal) (r : Record) (is : IsDeviceState (state_in j r)) (text : 
 
 -- ---- a command of the standard
 
--- A command of the standard arrived at this moment, and was executed when the host's clock showed
--- `clock`.
+-- A TPM command arrived at this moment, and was executed when the host's clock showed `clock`.
 module _ (j : Journal) (r : Record) (is : IsDeviceState (state_in j r)) (text : List ℕ) (moment : Moment) (locality : ℕ) (completes : Bool)
     (random buffer : List ℕ) (read : command_of text ≡ Ok (kept.Executes moment locality completes random buffer)) (seen : Seen) (clock : ℕ)
     (told : clock ≡ clock_at moment j.time)

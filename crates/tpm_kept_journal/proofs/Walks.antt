@@ -154,8 +154,8 @@ all p cs = entries device_journal p cs
 abbrev pub end_of : Spot → List (List ℕ) → Spot
 end_of p cs = trail device_journal p cs
 
--- If a walk over the entries of later commands is right, so is a walk that begins with an earlier
--- one.
+-- If walking over the entries of `cs` gives the right position, so does walking over the entry of
+-- `c` and then those of `cs`.
 walk_led : (c : List ℕ) (cs : List (List ℕ)) (bound : ℕ) (p : Spot) (taken : ℕ) (tail : List ℕ)
     → ((bound taken : ℕ) → length (all (stepped device_journal p c) cs ++ tail) < bound
     → walk bound (stepped device_journal p c) taken (all (stepped device_journal p c) cs ++ tail)
