@@ -1,8 +1,8 @@
 -- The folder of a kept device, as its processes see it, and as a crash of the host may leave it.
 --
--- This model assumes that the reader knows fsync. A file has the contents that all processes see
--- (`now`). After a crash it may have any text that it had since it was last synced (`past`), up to
--- any byte that is not before `forced`, followed by litter such as zeros. All processes see a
+-- The reader is expected to know fsync. A file has the contents that all processes see (`now`).
+-- After a crash it may have any text that it had since it was last synced (`past`), truncated at
+-- any byte that is not before `forced` and followed by litter such as zeros. All processes see a
 -- rename at once. Until the folder is synced, a crash may undo the rename: an earlier file
 -- (`older`) has the name again, or no file has it.
 --
@@ -15,8 +15,9 @@
 -- write or after it, finish an operation and still report an error, die at any byte, and fork. A
 -- fork has the memory of its parent, but not the lock. Each process has its own word of force.
 --
--- A host whose write fails cuts the file back. If the write left part of an entry, this is another
--- process here, which takes the lock next and dies after its cut (`Dies p (Part 0)`).
+-- A host whose write fails truncates the file again. If the write left part of an entry, the model
+-- makes another process do this: it takes the lock next and dies after truncating the file (`Dies p
+-- (Part 0)`).
 --
 -- The model leaves out: what processes read after a failed sync, if the system then shows older
 -- bytes (a holder opens the file again if it is shorter, and does not notice other bytes in their

@@ -172,8 +172,8 @@ impl Parts {
         Parts::open(alloc, front)
     }
 
-    /// Turns a new device of zeros into the device of a journal. If the result is None, the device
-    /// is unspecified.
+    /// Turns a new device, whose secrets are zeros, into the device of a journal. If the result is
+    /// None, the device is unspecified.
     fn open_in_place(&mut self, text: &[u8]) -> Option<usize>
         requires { slot_record self.old.machine.keep ≡ manufactured (replicate 256 0) }
         ensures { MatchOption result (opened_text text.now ≡ None)

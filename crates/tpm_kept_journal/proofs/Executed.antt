@@ -42,7 +42,7 @@ module _ (j : Journal) (r : Record) (is : IsDeviceState (state_in j r)) (text : 
       ap (λ (b : List ℕ). spot_made b (sum_if j.sum (entered s c))) after_is
       ∙ ap (λ (o : Option PlainEntry). spot_made (device_journal.after (spot_of j r).state text) (sum_if j.sum o)) entry_is
 
--- ---- a command of the standard
+-- ---- a TPM command
 
 -- A TPM command arrived at this moment, and was executed when the host's clock showed `clock`.
 module _ (j : Journal) (r : Record) (is : IsDeviceState (state_in j r)) (text : List ℕ) (moment : Moment) (locality : ℕ) (completes : Bool)

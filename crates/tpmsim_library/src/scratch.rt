@@ -20,7 +20,7 @@ use tpm_snapshot::Layer;
 use tpm_state_text::write_state;
 
 /// A buffer that is allocated once, because it is almost as large as a device. Each use clears it.
-/// It is no part of the device's state, so contracts do not mention its bytes.
+/// It is not part of the device's state, so contracts do not mention its bytes.
 #[derive(Drop)]
 pub struct Scratch {
     text: Text,

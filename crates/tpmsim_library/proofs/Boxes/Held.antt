@@ -1,5 +1,5 @@
--- A holder owns nothing if it is null, and otherwise the box of its device. Proofs about holders
--- use these lemmas to open and to make them.
+-- A holder owns nothing if it is null, and otherwise the box of its device. Proofs use these lemmas
+-- to open and to make holders.
 use mathlib.Core.List.{List, [], ◌∷◌}
 use mathlib.Core.Path.{◌≡◌, refl}
 use Prim.Native.Nat.{ℕ}

@@ -29,7 +29,7 @@ Passed = OwnerRow device.the_row
 abbrev Given : RattleType
 Given = device_holder.the_row
 
--- nothing remains of the owner that was passed
+-- the owner that was passed is consumed
 abbrev stays : Stays promise.ended.signature.params promise.ended.kept
 stays = (stay_dropped (plain (λ _. Passed)) yes, tt)
 

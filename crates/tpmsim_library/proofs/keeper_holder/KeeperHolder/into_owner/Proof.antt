@@ -29,7 +29,7 @@ Passed = keeper_holder.the_row
 abbrev Given : RattleType
 Given = OwnerRow keeper.the_row
 
--- nothing remains of the holder that was passed
+-- the holder that was passed is consumed
 abbrev stays : Stays promise.ended.signature.params promise.ended.kept
 stays = (stay_dropped (plain (λ _. Passed)) yes, tt)
 

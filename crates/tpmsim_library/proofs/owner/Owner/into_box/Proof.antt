@@ -41,7 +41,7 @@ pub into_box_spec : {M : Type 1} → statement M
 into_box_spec 𝓤 𝓛 𝓜 𝓡 wired T L drop_of glued =
     let clauses = promise.clauses T drop_of 𝓛 𝓜.mem 𝓡.returns in let ended = promise.ended T drop_of in let 𝓣 = tables 𝓤 𝓛.H 𝓜 𝓡 𝓡.env in
     let types = bounded (a_type ∷ []) (T, tt) (dcons drop_of dnil) in let function = inst_fn types code.function in let Row = OwnerRow (param 0 T) in
-    -- nothing remains of the owner that was passed
+    -- the owner that was passed is consumed
     let stays : Stays ended.signature.params ended.kept = (stay_dropped (plain (λ _. Row)) no, tt) in
     let linked : Linked 𝓡.env = record {
       allocate = code.calls-std_heap::GlobalAllocator::allocate 𝓡.env wired;

@@ -34,7 +34,7 @@ pub of_spec : {M : Type 1} → statement M
 of_spec 𝓤 𝓛 𝓜 𝓡 wired T L drop_of glued =
     let clauses = promise.clauses T drop_of 𝓛 𝓜.mem 𝓡.returns in let ended = promise.ended T drop_of in
     let types = bounded (a_type ∷ []) (T, tt) (dcons drop_of dnil) in let function = inst_fn types code.function in
-    -- nothing remains of the box that was passed
+    -- the box that was passed is consumed
     let stays : Stays ended.signature.params ended.kept = (stay_dropped (plain (λ _. BoxRow T)) no, tt) in
     let linked : Linked 𝓡.env = record {
       allocate = code.calls-std_heap::GlobalAllocator::allocate 𝓡.env wired;

@@ -34,7 +34,7 @@ use Rattle.tpmsim_web.specs.Held.{held}
 use Rattle.tpmsim_web.specs.contracts.device.Device as device
 use Rattle.tpmsim_web.specs.contracts.holder.Holder.into_box as promise
 
--- nothing remains of the holder that was passed
+-- the holder that was passed is consumed
 abbrev stays : Stays promise.ended.signature.params promise.ended.kept
 stays = (stay_dropped (plain (λ _. HolderRow)) yes, tt)
 

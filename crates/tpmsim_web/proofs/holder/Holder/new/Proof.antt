@@ -42,7 +42,7 @@ DeviceRow = device.the_row
 abbrev PlaceRow : RattleType
 PlaceRow = place.the_row
 
--- nothing remains of the place and the device that were passed
+-- the place and the device that were passed are consumed
 abbrev stays : Stays promise.ended.signature.params promise.ended.kept
 stays = (stay_dropped (plain (λ _. PlaceRow)) yes, (stay_dropped (plain (λ _. DeviceRow)) yes, tt))
 

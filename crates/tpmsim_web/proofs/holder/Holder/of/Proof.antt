@@ -27,7 +27,7 @@ use Rattle.tpmsim_web.specs.Held.{held}
 use Rattle.tpmsim_web.specs.contracts.device.Device as device
 use Rattle.tpmsim_web.specs.contracts.holder.Holder.of as promise
 
--- nothing remains of the box that was passed
+-- the box that was passed is consumed
 abbrev stays : Stays promise.ended.signature.params promise.ended.kept
 stays = (stay_dropped (plain (λ _. BoxRow)) yes, tt)
 
