@@ -10,8 +10,9 @@
 //! valid holder. Each call accepts every holder, and most return a [number](told). If this number
 //! is not 0, the call did nothing and left the holder unchanged, except that
 //! `tpmsim_journal_follow` has executed the entries before the error. A caller must only ensure
-//! that its pointers and sizes describe its buffers. A [`KeeperHolder`](keeper_holder::KeeperHolder) is the same for a keeper. Both consist of
-//! an [`Owner`](owner::Owner), which converts a box to a pointer and back.
+//! that its pointers and sizes describe its buffers. A
+//! [`KeeperHolder`](keeper_holder::KeeperHolder) is the same for a keeper. Both consist of an
+//! [`Owner`](owner::Owner), which converts a box to a pointer and back.
 //!
 //! The contracts for commands and power cycles are those of tpm_machine, for images those of
 //! tpm_image, and for state texts those of tpm_snapshot. A keeper's steps are those of
