@@ -1,4 +1,4 @@
--- A call that is done sends its response, and fulfils what its holder's word of force promises.
+-- A completed call sends its response, and keeps the promise of its holder's word of force.
 use Rattle.std.proofs.Common.{◌≡◌, ◌⊎◌, ℕ, ◌<◌, ◌≤◌, Bool, true, false, cond, List, [], ◌∷◌, ◌++◌, length, refl, sym, ap, ◌∙◌, subst, arith, inl, inr, length-append}
 use Rattle.std.specs.List.{AllByRecursion}
 use Rattle.std.proofs.lemmas.List.{append-nil}
@@ -16,7 +16,7 @@ use Rattle.tpm_keeping.specs.declared.holder.End.{End}
 use Rattle.tpm_keeping.specs.declared.holder.End.TheVariants as ending
 use Rattle.tpm_keeping.specs.declared.holder.Phase.TheVariants.{Leaving}
 
--- A call promises the whole history, or only what was promised before.
+-- A call promises either the whole history or nothing new.
 promise_is : (j : Journal) (force : Force) (job : Job) (c : List ℕ) (s : Shared)
     → ((promises j force job c ≡ true) × (promise j force job c s ≡ length s.history)) ⊎ (promise j force job c s ≡ s.promised)
 promise_is j Always job c s = inl (refl, refl)

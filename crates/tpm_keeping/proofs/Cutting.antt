@@ -13,8 +13,8 @@ use Rattle.tpm_keeping.specs.declared.holder.Phase.TheVariants.{Ended, Locking, 
 abbrev Opens : Holder → Type 0
 Opens k = k.device ≡ None → k.place ≡ 0
 
--- If the holder has to make a new journal, it begins in a state to which a prefix of the text
--- decodes.
+-- If the holder has to make a new journal, that journal begins in a state to which a prefix of the
+-- text decodes.
 abbrev IsCut : Journal → (text : List ℕ) → Holder → Type 0
 IsCut j text k = k.phase ≡ Making → KeepsFront j text k
 

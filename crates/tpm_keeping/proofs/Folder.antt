@@ -199,7 +199,7 @@ is_put j s k n laws lives t puts = by (nat_le (length k.out) n) refl
         some n u r true is less = let le : u ≤ n = grind (arith, nat_tests) in inl (omega (arith, le, less))
         some n u r false is less = let le : n < u = grind (arith, nat_tests) in inr (omega (arith, le))
 
--- If there is a file, the state after its entries is the state after the history.
+-- If the journal exists, executing its entries leads to the state after the whole history.
 pub state_is : (j : Journal) (s : Shared) → Still j s → 0 < s.file.number → state_of j s.file ≡ run j s.origin s.history
 state_is j s still named =
     let h = still.file.headed named in
@@ -467,8 +467,8 @@ follows_still j s k laws still h fresh enough =
 
 -- ---- the first journal
 
--- If no journal exists, the invariant of its file does not depend on the state in which the history
--- began.
+-- If there is no journal (its number is 0), the invariant `IsFile` does not depend on the state in
+-- which the history began.
 file_anew : (j : Journal) (origin other : List ℕ) (history : List (List ℕ)) (promised : ℕ) (lasting : Bool) (next : ℕ) (f : File) → f.number ≡ 0
     → IsFile j origin history promised lasting next f → IsFile j other history promised lasting next f
 file_anew j origin other history promised lasting next f none h = record {

@@ -25,7 +25,7 @@ pub record Holder : Type 0 where
   pub device : Option Spot
   pub file : ℕ
   pub place : ℕ
-  -- the last executed bytes, as far as the holder has not itself seen them synced
+  -- the bytes at the end of the executed part that the holder has not itself seen synced
   pub unsure : List ℕ
   -- the size of the file, the offset up to which it was read, and the bytes that were read but not
   -- executed yet
@@ -84,8 +84,8 @@ newborn force limit = record {
   response = [];
 }
 
--- the holder without the call in progress, if there is one: the call was interrupted, or was made
--- by the parent of a fork
+-- the holder without the call in progress, if there is one, and without all that it knows: the call
+-- was interrupted, or was made by the parent of a fork
 abbrev pub rests_in : Phase → Holder → Holder
 rests_in (Ended e) k = k
 rests_in phase k = newborn k.force k.limit
@@ -123,8 +123,8 @@ is_never f = false
 abbrev pub sure : Holder → ℕ
 sure k = k.place - length k.unsure
 
--- the phase after all work on the file is done: the folder is synced once, before the first
--- response from a file, unless the holder never syncs
+-- the phase after all work on the file is done: unless the holder never syncs, it syncs the folder
+-- once for each file that it opens, before its first response
 abbrev pub settles : Holder → Phase
 settles k = cond (k.settled || is_never k.force) (Leaving ending.Done) Settling
 

@@ -30,13 +30,13 @@ pub record Journal : Type 0 where
   pub first : List ℕ → ℕ
   -- the position after a head; the head may be of a kind that is no longer written
   pub after_head : List ℕ → Option Spot
-  -- the position after a journal, or after the entries that follow a position; and the size of the
-  -- executed text
+  -- the position after opening a journal, or after executing the entries that follow a position;
+  -- and the size of the executed text
   pub opened : List ℕ → Option (Spot × ℕ)
   pub followed : Spot → List ℕ → Option (Spot × ℕ)
   -- the position after the undamaged beginning of a damaged text, and the size of that beginning
   pub salvaged : List ℕ → Option (Spot × ℕ)
-  -- whether a text can be the remains of an entry, at a position, whose write was incomplete
+  -- whether a text can be what is left if an entry at this position was not written completely
   pub is_torn : Spot → List ℕ → Bool
   -- whether a crash of the host may leave these bytes, such as zeros, after a file's bytes; no
   -- entry looks like them
@@ -92,7 +92,7 @@ pub record IsJournal (j : Journal) : Type 0 where
   pub follows : (p : Spot) (cs : List (List ℕ)) (tail : List ℕ)
       → j.is_state p.state ≡ true → Entered j cs → j.is_torn (trail j p cs) tail ≡ true
       → j.followed p (entries j p cs ++ tail) ≡ Some (trail j p cs, length (entries j p cs))
-  -- salvaging a text gives the device to which some prefix of the text opens
+  -- salvaging a text gives the same device as opening some prefix of it
   pub salvages : (text : List ℕ) (p : Spot) (size : ℕ) → j.salvaged text ≡ Some (p, size)
       → j.opened (take size text) ≡ Some (p, size)
   -- the empty text is torn, and so is a proper prefix of an entry

@@ -9,7 +9,7 @@
 -- A sync that fails may have dropped the bytes that it did not write: their pages count as clean.
 -- Then a sync by another process succeeds without them (`is_dropped`), until they are written
 -- again. The system may also drop bytes by itself when it writes back (`Drops`). If it does so
--- between a holder's write and its sync, that sync reports the failure: it is the holder's `Fails`.
+-- between a holder's write and its sync, that sync reports the failure, as the event `Fails`.
 --
 -- Only one process can have the lock. Processes may read less than they requested, fail during a
 -- write or after it, finish an operation and still report an error, die at any byte, and fork. A
@@ -26,7 +26,7 @@
 -- lose bytes of a file and keep later ones, as ext4 and XFS may, or undo one of two renames; a
 -- folder whose sync fails and then succeeds without the rename; a torn sector over bytes that were
 -- synced before; the folder's own name in its parent, which hosts sync with the folder; the
--- journals of the past, which hosts link before a rename; the content of a command, such as its
+-- finished journals, which hosts link before a rename; the content of a command, such as its
 -- time and its random bytes; network file systems, on which locks and renames are seen late; two
 -- hosts on one folder; the removal of the lock's file while a holder has the lock; and anybody else
 -- who writes to the folder.
@@ -152,13 +152,13 @@ leads j job c = []
 abbrev pub put_more : Journal → Holder → (count : ℕ) → List (List ℕ)
 put_more j k count = cond (nat_le (length k.out) count) (adds j k.job k.command) []
 
--- whether bytes of the file are still dropped after a write; they are not if the whole text was
--- written and it begins within the synced bytes
+-- whether the file still lacks dropped bytes after a write; it does not if the whole text was
+-- written and starts within the synced bytes
 abbrev pub put_dropped : File → Holder → (count : ℕ) → Bool
 put_dropped f k count =
     cond (nat_le (length k.out) count && nat_le (sure k) (min f.forced k.place)) false f.is_dropped
 
--- a text after a `Put`: its end is cut, and bytes are written at the requested offset
+-- a text after a `Put`: it is truncated, and the bytes are then written at the requested offset
 abbrev pub put_by : Ask → (text bytes : List ℕ) → List ℕ
 put_by (ask.Put cut at) text bytes = written (take cut text) at bytes
 put_by asked text bytes = text

@@ -17,7 +17,7 @@ use std::mem;
 pub enum OnDamage {
     /// The call ends with the fault.
     Ends,
-    /// A cut follows the call.
+    /// If the call finds damage, a cut follows.
     IsCut,
     /// The damage is being cut off. Then the call begins again.
     BeginsAgain,
