@@ -112,8 +112,8 @@ impl<D: Device> CuttingKeeper<D> {
         next
     }
 
-    /// Begins a cut if the call that ended found damage that has to be cut off. Begins the call
-    /// again if the cut is done.
+    /// If the call that ended found damage that has to be cut off, begins a cut. If a cut was done,
+    /// begins the original call again.
     fn goes_on(&mut self)
         ensures { caller_of D.spot self.new ≡ goes_on (caller_of D.spot self.old) }
     {

@@ -26,7 +26,7 @@ pub enum Job {
     Renew,
     /// Return the text of the state: a snapshot.
     Show,
-    /// Make sure that there is a device: open it, or begin one with random bytes or a text.
+    /// Make sure that there is a device: open it, or create one from random bytes or a text.
     Begin,
     /// Make sure that there is a device. If the journal is damaged, begin a new journal in the
     /// state after its undamaged beginning. If a device is in memory and its file is damaged, the

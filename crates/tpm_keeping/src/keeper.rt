@@ -18,7 +18,7 @@ use std::alloc::Global;
 /// What the host has to do next.
 #[derive(Clone, Copy, PartialEq, Eq)]
 pub enum Ask {
-    /// Nothing: the call has ended. If it is done, the response may be sent.
+    /// Nothing: the call has ended. If it succeeded, the response may be sent.
     Nothing(End),
     /// Take the folder's lock, through an open file that only this process has. If that fails,
     /// close the file.
@@ -233,8 +233,8 @@ impl<D: Device> Keeper<D> {
         Ok(())
     }
 
-    /// Returns the phase after all work on the file is done: the folder is synced before the first
-    /// response from a file, unless the holder never syncs.
+    /// Returns the phase after all work on the file is done: unless the holder never syncs, it
+    /// syncs the folder once for each file that it opens, before its first response.
     pub(crate) fn settles(&self) -> Phase
         ensures { result ≡ settles (holder_of D.spot self.now) }
     {

@@ -32,7 +32,7 @@ pub fn calls_advance()
         → Advances k (next_of j k told) }
 {}
 
-/// If its host does all its tasks and memory suffices, a call ends. It succeeds, unless there is no
+/// A call ends if its host does all tasks and memory suffices. It succeeds, unless there is no
 /// journal and none can begin, or the text to execute is not a command. It takes at most six steps
 /// and one more for each byte of the file. After it, the lock is free.
 pub fn calls_end()
@@ -81,7 +81,7 @@ pub fn cuts_keep_a_front()
         → KeepsFront j (text_read k.phase k told) (next_of j k told) }
 {}
 
-/// A step of a keeper that cuts damage is a step of an ordinary keeper, possibly followed by a
+/// A step of a keeper that cuts off damage is a step of an ordinary keeper, possibly followed by a
 /// request for another call. Therefore, whatever holds after every run of all holders also holds
 /// with cuts.
 pub fn cuts_are_calls()
