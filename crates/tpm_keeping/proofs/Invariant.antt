@@ -161,7 +161,7 @@ pub record IsReading (j : Journal) (v : Sight) (k : Holder) : Type 0 where
   pub seen : k.seen ≡ k.place + length k.read
   pub read : take (length k.read) (drop k.place v.file.now.text) ≡ k.read
 
--- whether a holder with this word of force promises the result of the job
+-- whether a holder with this word of force promises that no crash loses the result of the job
 abbrev pub promises : Journal → Force → Job → (command : List ℕ) → Bool
 promises j Always job c = true
 promises j Power Execute c = cond (j.is_entered c) false true

@@ -98,7 +98,8 @@ module _ (p : Spot) (c : List ℕ) (found : IsEntered c) where
   abbrev entry : DeviceState → PlainEntry
   entry s = entry_of (command s) (effect s (command s))
 
-  -- the result if the position's text encodes a state, and if it does not
+  -- `with_both` applies the function `f` if the position's text encodes a state, and otherwise
+  -- returns `other`
   said : {X : Type 0} (other : X) (f : DeviceState → KeptCommand → X) (s : DeviceState) → state_of_bytes p.state ≡ Some s
       → with_both (state_of_bytes p.state) (command_of c) other f ≡ f s given_command
   said other f s is =

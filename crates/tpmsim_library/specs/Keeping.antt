@@ -174,7 +174,7 @@ abbrev pub request_of : Holder → Request
 request_of k =
     request_by (ask_of k) (drops_damage k.job) (length (text_of k)) (length (response_of k))
 
--- the request if there is no keeper: no task, and a fault that reports this
+-- the request for the case that there is no keeper: it has no task, and a fault that reports this
 abbrev pub no_request : Request
 no_request = record (task_of 0) { fault = 15 }
 

@@ -37,7 +37,7 @@ empty_spec 𝓤 𝓛 𝓜 𝓡 wired T L drop_of glued =
     enter ! _ _ _ _ _ $ alloc_all ! (λ l. pass_all ! refl (heap_typed a.0, tt) $
     sets ! (agg ! (and_then ! (lit ! tt) (and_then ! (get ! refl) (no_more !)))) refl (word_typed null_ptr a.0) $
     returns ! (look_at ! 0 refl) $ free_all ! refl $
-    -- Context: the owner; the lifetime has not ended.
+    -- The context contains the owner, and the fact that the lifetime has not ended.
     feq_i ! Ptr null_ptr null_ptr refl $ use1 𝓛 (‵ ((OwnerRow (param 0 T)).own_val made (word null_ptr a.0 ∷ []))) (owner_made (param 0 T) 𝓛 made) $
     suffices ! _ (ends_at 𝓛 ended stays clauses y (word null_ptr a.0) made (tt, tt) (tt, tt)) $ says ! refl $
     nothing ! $ nothing ! $ join ! $ nothing ! $ move ! (3 ∷ 0 ∷ []) $ join ! $ group ! 3 $ done !))
