@@ -73,7 +73,7 @@ each_longer j origin history more (a ∷ answers) h = (
 
 -- ---- a put
 
--- Writing the same bytes again, followed by others, only appends the others.
+-- Overwriting a text with itself and further bytes only appends the further bytes.
 again : (same rest : List ℕ) (n : ℕ)
     → take n (same ++ rest) ++ drop (length (take n (same ++ rest))) same ≡ same ++ take (n - length same) rest
 again [] rest n =

@@ -53,7 +53,7 @@ pub fn command_after(
     Ok(text)
 }
 
-/// Appends the part of a command's text after its arrival time.
+/// Appends the part of a command's text that follows the arrival time.
 fn put_given(
     text: &mut Vec<u8>,
     locality: Locality,

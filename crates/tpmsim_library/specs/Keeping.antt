@@ -145,7 +145,7 @@ IsAnswer a buffer answered =
     (answered.code ≡ a.code) × (answered.check ≡ a.check) × (answered.drawn ≡ a.drawn)
     × (take answered.size buffer ≡ a.response)
 
--- the request for a task that its number alone describes
+-- the request for a task that has no parameters
 abbrev pub task_of : (task : ℕ) → Request
 task_of task = record { cut = 0; at = 0; size = 0; task = task; fault = 0; drops = 0 }
 

@@ -102,7 +102,7 @@ pub fn fault_of(number: u8) -> Option<Fault>
 }
 
 impl Request {
-    /// Returns the request for a task that its number alone describes.
+    /// Returns the request for a task that has no parameters.
     fn task(task: u8) -> Request
         ensures { result ≡ task_of task }
     {
