@@ -94,14 +94,14 @@ pub update : (j : Journal) (w : World) (s : Shared) (p : ℕ) (new : Holder) →
 update j w s p new still others mine =
     record { still = still; holders = λ q. pick j s p q new (w.holders q) (q == p) refl (others q) mine }
 
--- if the process with the lock makes a step, the invariant still holds
+-- if the process with the lock takes a step, the invariant still holds
 pub goes_fine : (j : Journal) (w : World) (s : Shared) (p : ℕ) (new : Holder) → Fine j w → holds (w.holders p).phase ≡ true → Moves j w.shared s
     → Fits j s p new → Fine j (with_holder s w.holders p new)
 goes_fine j w s p new h mine moves fits =
     update j w s p new moves.still
     (λ q apart. away_fits j w.shared s q (w.holders q) moves.grows (h.holders q) (alone j w p h mine q apart)) fits
 
--- if a process without the lock makes a step that leaves the folder unchanged, the invariant still
+-- if a process without the lock takes a step that leaves the folder unchanged, the invariant still
 -- holds
 pub beside : (j : Journal) (w : World) (p : ℕ) (new : Holder) → Fine j w → Fits j w.shared p new → Fine j (with_holder w.shared w.holders p new)
 beside j w p new h fits = update j w w.shared p new h.still (λ q _. h.holders q) fits

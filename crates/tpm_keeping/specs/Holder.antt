@@ -25,7 +25,7 @@ pub record Holder : Type 0 where
   pub device : Option Spot
   pub file : ℕ
   pub place : ℕ
-  -- the last executed bytes, as far as the holder still has to see them synced
+  -- the executed bytes at the end that the holder still has to see synced
   pub unsure : List ℕ
   -- the size of the file, the offset up to which it was read, and the bytes that were read but not
   -- executed yet

@@ -328,7 +328,7 @@ content_at c (d ∷ ds) (suc n) = content_at d ds n
 abbrev pub litter_of : Journal → List ℕ → List ℕ
 litter_of j litter = cond (j.is_litter litter) litter []
 
--- what is left of a file after a crash: the first `count` bytes of a content, and litter
+-- what is left of a file after a crash: the first `count` bytes of one of its contents, and litter
 abbrev pub left_of : Journal → File → Content → (count : ℕ) → (litter : List ℕ) → File
 left_of j f c count litter = record {
   number = f.number;

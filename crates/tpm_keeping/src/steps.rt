@@ -16,8 +16,8 @@ use crate::keeper::Keeper;
 use std::mem;
 
 impl<D: Device> Keeper<D> {
-    /// Continues with the journal's file. Forgets the device if this is another file, or has become
-    /// shorter.
+    /// Continues with the file that is now the journal. Forgets the device if this is another file
+    /// than before, or has become shorter.
     pub(crate) fn looked(&mut self, file: u64, size: u64) -> Result<(), Exhausted>
         ensures ok { OnOk result (holder_of D.spot self.new
             ≡ looked D.journal (holder_of D.spot self.old) file size) }

@@ -178,8 +178,8 @@ impl Device {
             .snapshot_into(&self.machine, Some(&layer), buffer)
     }
 
-    /// Restores the device of a state text, or returns the first error in the text; NoMemory if an
-    /// allocation fails, for any text.
+    /// Restores the device of a state text, or returns the first error in the text. Returns
+    /// NoMemory if an allocation fails, whatever the text is.
     pub fn restored(alloc: Global, text: &[u8]) -> Result<Box<Device>, RestoreFault>
         ensures { RestoresDevice (λ b. b.value) text.now result }
     {

@@ -1,4 +1,5 @@
-//! The buffer in which a device's texts are written, before they are copied to the caller's buffer.
+//! The buffer into which a device's texts are written before they are copied to the caller's
+//! buffer.
 
 ghost use Rattle.std.specs.Prelude.{◌≡◌, ◌≤◌, option_copied};
 ghost use Rattle.tpm_image_text.specs.Image.{image_text};
