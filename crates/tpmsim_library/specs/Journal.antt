@@ -29,7 +29,7 @@ use Rattle.tpmsim_library.specs.declared.device.Device.{Device}
 abbrev pub image_at_power : Device → List ℕ
 image_at_power device = image_text Two (kept_of (cycled (record_of device)))
 
--- The device was power-cycled, and its new journal starts with this clock.
+-- The device was power-cycled, and its new journal starts at the time `now`.
 pub record BeginsJournal (before : Device) (now : ℕ) (after : Device) : Type 0 where
   pub executes : Executes false (record_of before) Cycled (cycle_seen after)
   pub history : After Follows (record_of before) Cycled (cycle_seen after)
