@@ -1,4 +1,4 @@
--- A call that is done sends its response, and fulfils what its holder's word of force promises.
+-- A completed call sends its response, and keeps the promise of its holder's word of force.
 use Rattle.std.proofs.Common.{◌≡◌, ◌⊎◌, ℕ, ◌<◌, ◌≤◌, Bool, true, false, cond, List, [], ◌∷◌, ◌++◌, length, refl, sym, ap, ◌∙◌, subst, arith, inl, inr, length-append}
 use Rattle.std.specs.List.{AllByRecursion}
 use Rattle.std.proofs.lemmas.List.{append-nil}
@@ -16,7 +16,7 @@ use Rattle.tpm_keeping.specs.declared.holder.End.{End}
 use Rattle.tpm_keeping.specs.declared.holder.End.TheVariants as ending
 use Rattle.tpm_keeping.specs.declared.holder.Phase.TheVariants.{Leaving}
 
--- A call promises the whole history, or only what was promised before.
+-- After a call, either the whole history is promised (no crash removes it), or no more than before.
 promise_is : (j : Journal) (force : Force) (job : Job) (c : List ℕ) (s : Shared)
     → ((promises j force job c ≡ true) × (promise j force job c s ≡ length s.history)) ⊎ (promise j force job c s ≡ s.promised)
 promise_is j Always job c s = inl (refl, refl)
@@ -45,7 +45,7 @@ word_is Never = inl refl
 word_is Power = inr refl
 word_is Always = inr refl
 
--- if a file is synced, the whole history can be promised
+-- if a file is synced, the whole history can be promised, since no crash removes it
 all_promised : (j : Journal) (s : Shared) (lasting : Bool) → Still j s → IsForced j s.file → 0 < s.file.number
     → IsFile j s.origin s.history (length s.history) lasting s.next s.file
 all_promised j s lasting still forced named =

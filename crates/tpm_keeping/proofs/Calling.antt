@@ -1,4 +1,4 @@
--- Lemmas about the steps of a keeper that cuts damage.
+-- Lemmas about the steps of a keeper that cuts off damage.
 use Rattle.std.proofs.Common.{[], refl, inl, inr}
 use Rattle.tpm_keeping.specs.Cutting.{Caller, IsOrIsAsked, goes_on_in, next_call}
 use Rattle.tpm_keeping.specs.Holder.{Told, next_of}
@@ -12,7 +12,7 @@ use Rattle.tpm_keeping.specs.declared.holder.Job.TheVariants.{Cut}
 use Rattle.tpm_keeping.specs.declared.holder.Phase.{Phase}
 use Rattle.tpm_keeping.specs.declared.holder.Phase.TheVariants.{Ended, Locking, Looking, Reading, Putting, Forcing, Making, Naming, Settling, Leaving}
 
--- a call that ended with this fault is followed by a cut, or by nothing
+-- if a call ends with this fault, the keeper either requests a cut or nothing more
 ended_so : (f : Fault) (c : Caller) → IsOrIsAsked c.holder (goes_on_in IsCut (Ended (ending.Failed f)) c).holder
 ended_so fault.Damaged c = inr (Cut, [], refl)
 ended_so fault.Idle c = inl refl

@@ -12,7 +12,7 @@ use Rattle.tpm_keeping.proofs.Invariant.{Each, IsContent, IsFile, IsText, Safe, 
 
 -- ---- the responses
 
--- A prefix of the history contains the same command at each position that is within the prefix.
+-- At each position within a prefix of the history, the prefix has the same command as the history.
 front_has : (before rest front more : List (List ℕ)) (c : List ℕ) → before ++ (c ∷ rest) ≡ front ++ more → length before < length front
     → (left : List (List ℕ)) × (front ≡ before ++ (c ∷ left))
 front_has [] rest [] more c e le = absurd (omega (arith, le))
@@ -87,8 +87,7 @@ is_litter j litter laws = by (j.is_litter litter) refl
     by true is = is
     by false is = laws.clean
 
--- what a crash leaves of a content is a head, complete entries, and possibly the remains of one
--- more
+-- a crash leaves a file with a head, complete entries, and possibly the remains of one more entry
 left_text : (j : Journal) (f : File) (c : Content) (count : ℕ) (litter : List ℕ) → IsJournal j → j.is_state f.start.state ≡ true → Entered j c.commands
     → j.is_litter litter ≡ true → IsText j f.head f.start c → length f.head ≤ count → IsText j f.head f.start (left_of j f c count litter).now
 left_text j f c count litter laws lives entered ok t le =

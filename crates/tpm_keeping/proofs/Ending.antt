@@ -1,4 +1,4 @@
--- A call whose host does all its tasks ends, after at most six steps and one more for each byte of
+-- If the host does all its tasks, a call ends after at most six steps, plus one for each byte of
 -- the file.
 use Rattle.std.proofs.Common.{◌≡◌, ℕ, suc, ◌+◌, ◌-◌, ◌<◌, ◌≤◌, ◌==◌, ◌||◌, Bool, true, false, cond, List, [], ◌∷◌, length, take, drop, Some, None, Option, refl, sym, ap, ◌∙◌, subst, arith}
 use Rattle.std.proofs.lemmas.Bool.Decides.{nat_tests}
@@ -19,7 +19,7 @@ use Rattle.tpm_keeping.specs.declared.holder.End.TheVariants as ending
 use Rattle.tpm_keeping.specs.declared.holder.Phase.{Phase}
 use Rattle.tpm_keeping.specs.declared.holder.Phase.TheVariants.{Ended, Locking, Looking, Reading, Putting, Forcing, Making, Naming, Settling, Leaving}
 
--- A holder in this phase reaches this end within this number of steps.
+-- A holder in this phase ends its call in the way `e` after at most `steps` steps.
 abbrev Heads : Phase → (e : End) → Journal → Shared → Holder → (steps : ℕ) → Type 0
 Heads (Ended x) e j s k n = (x ≡ e) × (s.locked ≡ false)
 Heads Locking e j s k n = (s.locked ≡ false) × (end_of j s.file k.job k.command ≡ e) × (6 + length s.file.now.text ≤ n)
@@ -83,7 +83,7 @@ reads_on_heads e j s k n laws still r is le = by (is_read k) refl
         (acts_heads k.job e j s (caught_up k c.taken) (spot_of j s.file) n is (omega (arith, le)))
     by false more = let less : k.seen < k.size = grind (arith, nat_tests) in (is, less, le)
 
--- After a read of at least one byte, the holder needs one step less to its end.
+-- A read of at least one byte brings the holder one step closer to the end of its call.
 has_read_heads : (e : End) (j : Journal) (s : Shared) (k : Holder) (bytes : List ℕ) (m n : ℕ) → IsJournal j → Still j s → IsReading j (sight s) k → end_with j k.job k.command ≡ e
     → bytes ≡ take m (drop k.seen s.file.now.text) → 0 < length bytes → 4 + (k.size - k.seen) ≤ suc n → k.seen < k.size → HeadsFor e j s (has_read j k bytes) n
 has_read_heads e j s k [] m n laws still r is from some le less = absurd (omega (arith, some))
@@ -122,7 +122,7 @@ looks_heads e j s k more n laws still knows is le = by (s.file.number == 0) refl
 
 -- ---- one step of the process
 
--- A process reaches this end within this number of steps.
+-- The process `p` ends its call in the way `e` after at most `steps` steps.
 abbrev HeadsIn : (e : End) → Journal → World → (p steps : ℕ) → Type 0
 HeadsIn e j w p n = HeadsFor e j w.shared (w.holders p) n
 
@@ -181,7 +181,7 @@ does_heads Settling e j w p more n laws fine now is h =
 
 -- ---- all steps
 
--- a holder that reaches its end within no steps has ended
+-- a holder that is zero steps away from its end has ended
 ended : (phase : Phase) (e : End) (j : Journal) (s : Shared) (k : Holder) → Heads phase e j s k 0 → (phase ≡ Ended e) × (s.locked ≡ false)
 ended (Ended x) e j s k h = (ap (λ (y : End). Ended y) h.0, h.1)
 ended Locking e j s k h = absurd (omega (arith, h.2))

@@ -73,7 +73,7 @@ each_longer j origin history more (a ∷ answers) h = (
 
 -- ---- a put
 
--- Writing the same bytes again, followed by others, only appends the others.
+-- Overwriting a text with itself and further bytes only appends the further bytes.
 again : (same rest : List ℕ) (n : ℕ)
     → take n (same ++ rest) ++ drop (length (take n (same ++ rest))) same ≡ same ++ take (n - length same) rest
 again [] rest n =
@@ -138,7 +138,7 @@ less_torn j p Show c m laws lives (inl le) = absurd (omega (arith, le))
 less_torn j p Begin c m laws lives (inl le) = absurd (omega (arith, le))
 less_torn j p Cut c m laws lives (inl le) = absurd (omega (arith, le))
 
--- The text after a put: the complete entries and the written part of the new one.
+-- The text after a put: the complete entries, and the written part of the new entry.
 put_text : (j : Journal) (s : Shared) (k : Holder) (n : ℕ) (t : IsText j s.file.head s.file.start s.file.now) → Puts j s.file k.job k
     → (put_on j s.file k n).now.text
     ≡ body j s.file ++ take (n - length k.unsure) (entries j (spot_of j s.file) (adds j k.job k.command))
@@ -199,7 +199,7 @@ is_put j s k n laws lives t puts = by (nat_le (length k.out) n) refl
         some n u r true is less = let le : u ≤ n = grind (arith, nat_tests) in inl (omega (arith, le, less))
         some n u r false is less = let le : n < u = grind (arith, nat_tests) in inr (omega (arith, le))
 
--- If there is a file, the state after its entries is the state after the history.
+-- If the journal exists, executing its entries leads to the state after the whole history.
 pub state_is : (j : Journal) (s : Shared) → Still j s → 0 < s.file.number → state_of j s.file ≡ run j s.origin s.history
 state_is j s still named =
     let h = still.file.headed named in
@@ -212,7 +212,7 @@ state_lives j s laws still named = trail_lives j s.file.start s.file.now.command
 
 -- ---- the knowledge of other holders
 
--- After a step of another process, everything that a holder knew of the folder still holds.
+-- After a step of another process, everything that a holder knew about the folder still holds.
 pub record Grows (j : Journal) (s t : Shared) : Type 0 where
   pub knows : (force : Force) (file : ℕ) (device : Option Spot) (place : ℕ) (unsure : List ℕ) → file < s.next
       → Knows j s.file force file device place unsure → Knows j t.file force file device place unsure
@@ -223,8 +223,8 @@ pub record Moves (j : Journal) (s t : Shared) : Type 0 where
   pub still : Still j t
   pub grows : Grows j s t
 
--- If at least the bytes that a holder has seen synced are still on the disk, the holder's position
--- is still right.
+-- A holder's position stays right if at least the bytes that it has seen synced are still on the
+-- disk.
 forced_at : (j : Journal) (f g : File) (more : List (List ℕ)) (force : Force) (state : Spot) (place : ℕ) (unsure : List ℕ)
     → g.head ≡ f.head → g.start ≡ f.start → g.now.commands ≡ f.now.commands ++ more → min f.forced (length (body j f)) ≤ g.forced
     → IsAt j f.head f.start f.now.commands f.forced force state place unsure
@@ -396,7 +396,8 @@ settle_moves j s still = record {
 pub same_moves : (j : Journal) (s : Shared) → Still j s → Moves j s s
 same_moves j s still = record { still = still; grows = same_grows j s s refl (λ none. none) (omega arith) }
 
--- after a new file gets the journal's name, everything that a holder knew of the folder still holds
+-- after a new file gets the journal's name, everything that a holder knew about the folder still
+-- holds
 named_grows : (j : Journal) (origin : List ℕ) (s : Shared) (k : Holder) → Grows j s (named_from j origin s k)
 named_grows j origin s k = record {
   knows = λ force file device place unsure below h. record { at = λ d has same. absurd (omega (arith, below, same)); empty = h.empty };
@@ -432,7 +433,8 @@ named_file j origin s k laws fresh enough kept text next lives =
       past = tt;
     }
 
--- adding two lists of commands to the history, one after the other, is adding both together
+-- appending two lists of commands to the history, one after the other, is appending their
+-- concatenation
 twice_longer : (history some more : List (List ℕ)) → (history ++ some) ++ more ≡ history ++ (some ++ more)
 twice_longer history some more = append_assoc history some more
 
@@ -465,7 +467,8 @@ follows_still j s k laws still h fresh enough =
 
 -- ---- the first journal
 
--- If there is no file, its invariant does not depend on the state in which the history began.
+-- If there is no journal (its number is 0), the invariant `IsFile` does not depend on the state in
+-- which the history began.
 file_anew : (j : Journal) (origin other : List ℕ) (history : List (List ℕ)) (promised : ℕ) (lasting : Bool) (next : ℕ) (f : File) → f.number ≡ 0
     → IsFile j origin history promised lasting next f → IsFile j other history promised lasting next f
 file_anew j origin other history promised lasting next f none h = record {
@@ -480,7 +483,7 @@ file_anew j origin other history promised lasting next f none h = record {
   past = h.past;
 }
 
--- If the history is empty, the responses do not depend on the state in which it began.
+-- If the history is empty, the responses do not depend on the state in which the history began.
 pub each_gone : (j : Journal) (origin other : List ℕ) (history : List (List ℕ)) (answers : List Answer) → history ≡ []
     → Each j origin history answers → Each j other history answers
 each_gone j origin other history [] none h = tt

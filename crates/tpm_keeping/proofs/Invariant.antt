@@ -20,7 +20,7 @@ use Rattle.tpm_keeping.specs.declared.holder.Phase.TheVariants.{Ended, Locking, 
 abbrev pub body : Journal → File → List ℕ
 body j f = whole j f.head f.start f.now.commands
 
--- the position after a file's complete entries, and its state
+-- the position after a file's complete entries; and the state at this position
 abbrev pub spot_of : Journal → File → Spot
 spot_of j f = trail j f.start f.now.commands
 
@@ -32,8 +32,8 @@ pub record IsText (j : Journal) (head : List ℕ) (start : Spot) (c : Content) :
   pub is : c.text ≡ whole j head start c.commands ++ tail
   pub torn : j.is_torn (trail j start c.commands) tail ≡ true
 
--- A content of a file: its commands are in the history, and the first of them are certainly on the
--- disk.
+-- A content that the file has or had: its commands are in the history, and the commands `surely` at
+-- its start are certainly on the disk.
 pub record IsContent (j : Journal) (head : List ℕ) (start : Spot) (number : ℕ) (history before surely : List (List ℕ)) (c : Content) : Type 0 where
   pub rest : List (List ℕ)
   pub has : c.commands ≡ surely ++ rest
@@ -102,9 +102,9 @@ sight s = record {
   answers = s.answers;
 }
 
--- The position is that of a device that executed the first of these commands, up to an offset in
--- the file. If the holder syncs before each response, the bytes that it has seen synced are on the
--- disk.
+-- The holder's device has executed some of the commands, from the first one on, up to the offset
+-- `place` in the file. If the holder syncs before each response, the bytes that it has seen synced
+-- are on the disk.
 pub record IsAt (j : Journal) (head : List ℕ) (start : Spot) (cs : List (List ℕ)) (forced : ℕ) (force : Force) (spot : Spot) (place : ℕ) (unsure : List ℕ) : Type 0 where
   pub done : List (List ℕ)
   pub ahead : List (List ℕ)
@@ -115,8 +115,8 @@ pub record IsAt (j : Journal) (head : List ℕ) (start : Spot) (cs : List (List 
   pub reached : place ≡ length (whole j head start done)
   pub sure : is_always force ≡ true → length front ≤ forced
 
--- The device in a holder's memory is that of the file, if the file is still the one that the holder
--- knows.
+-- If the journal is still the file that a holder has read, the device in the holder's memory is
+-- that of the file, up to the executed offset.
 pub record Knows (j : Journal) (f : File) (force : Force) (file : ℕ) (device : Option Spot) (place : ℕ) (unsure : List ℕ) : Type 0 where
   pub at : (s : Spot) → device ≡ Some s → file ≡ f.number
       → IsAt j f.head f.start f.now.commands f.forced force s place unsure
@@ -140,7 +140,7 @@ Gives Execute j state c response = response ≡ j.response state c
 Gives Show j state c response = response ≡ j.head state
 Gives job j state c response = Unit {0}
 
--- The command is the last one of the history, with this response, which was not sent yet.
+-- The command is the last one of the history. This is its response, which was not sent yet.
 pub record IsLast (j : Journal) (origin : List ℕ) (history : List (List ℕ)) (answers : List Answer) (command response : List ℕ) : Type 0 where
   pub before : List (List ℕ)
   pub is : history ≡ before ++ command ∷ []
@@ -161,15 +161,15 @@ pub record IsReading (j : Journal) (v : Sight) (k : Holder) : Type 0 where
   pub seen : k.seen ≡ k.place + length k.read
   pub read : take (length k.read) (drop k.place v.file.now.text) ≡ k.read
 
--- whether a holder with this word of force promises the result of the job
+-- whether a holder with this word of force promises that no crash loses the result of the job
 abbrev pub promises : Journal → Force → Job → (command : List ℕ) → Bool
 promises j Always job c = true
 promises j Power Execute c = cond (j.is_entered c) false true
 promises j Power Renew c = true
 promises j force job c = false
 
--- The holder has to write the bytes that it has not seen synced, followed by its command's entry,
--- if it has one.
+-- The holder has to write the bytes that it has not seen synced, and then the entry of its command,
+-- if the command has one.
 pub record Puts (j : Journal) (f : File) (job : Job) (k : Holder) : Type 0 where
   pub all : HasAll j f k.force k.file k.place k.unsure
   pub quiet : promises j Power job k.command ≡ false
@@ -177,7 +177,8 @@ pub record Puts (j : Journal) (f : File) (job : Job) (k : Holder) : Type 0 where
   pub out : k.out ≡ k.unsure ++ entries j (spot_of j f) (adds j job k.command)
   pub gives : Gives job j (state_of j f) k.command k.response
 
--- The holder has executed the whole file, and the command of its job, if any, is the last one.
+-- The holder has executed the whole file. If its job executed a command, that command is the last
+-- one of the history.
 pub record Stays (j : Journal) (origin : List ℕ) (f : File) (history : List (List ℕ)) (answers : List Answer) (force : Force) (file : ℕ) (device : Option Spot) (place : ℕ) (unsure : List ℕ) (job : Job) (command response : List ℕ) : Type 0 where
   pub all : HasAll j f force file place unsure
   pub has : device ≡ Some (spot_of j f)
@@ -190,7 +191,7 @@ StaysOf j v k = Stays j v.origin v.file v.history v.answers k.force k.file k.dev
 abbrev pub begun : Journal → List ℕ → List (List ℕ) → List ℕ
 begun j state cs = whole j (j.head state) (started j state) cs
 
--- The holder begins a new journal after the existing one.
+-- The holder replaces the existing journal with a new one.
 pub record Follows (j : Journal) (f : File) (job : Job) (command : List ℕ) (device : Option Spot) (out response : List ℕ) : Type 0 where
   pub named : 0 < f.number
   pub has : device ≡ Some (trail j (started j (run j (state_of j f) (leads j job command))) (adds j job command))
@@ -220,7 +221,7 @@ pub record IsDone (j : Journal) (v : Sight) (k : Holder) : Type 0 where
   pub forced : promises j k.force k.job k.command ≡ true → IsForced j v.file
   pub settled : is_never k.force ≡ false → v.older ≡ []
 
--- What holds for a holder in a phase.
+-- What holds for a holder in each phase.
 abbrev pub In : Phase → Journal → Sight → Holder → Type 0
 In (Ended e) j v k = KnowsOf j v k
 In Locking j v k = KnowsOf j v k
@@ -240,8 +241,8 @@ holds (Ended e) = false
 holds Locking = false
 holds phase = true
 
--- If the folder was synced since the holder opened the file, no earlier file can have the name
--- again.
+-- If the folder was synced since the holder opened the file, a crash cannot give the journal's name
+-- back to an earlier file.
 abbrev pub Calm : Sight → (settled : Bool) → (file : ℕ) → Type 0
 Calm v settled file = settled ≡ true → file ≡ v.file.number → v.older ≡ []
 

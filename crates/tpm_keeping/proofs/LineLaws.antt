@@ -103,8 +103,8 @@ head_is (Some found) p is = by found.1 refl is
 
 -- ---- the salvaged part
 
--- Either no line ends in the text, and nothing is executed; or a prefix of the text, executed
--- alone, leads to the same state, and its size is reported.
+-- If no line ends in the text, nothing is executed. Otherwise some prefix of the text, executed
+-- alone, leads to the same state, and its size is returned.
 walk_front : (text state part : List ℕ) (taken far : ℕ)
     → (walk state part taken far text ≡ (state, taken))
     ⊎ ((count : ℕ) × ((walk state part taken far text).1 ≡ far + count) × (walk state part taken far (take count text) ≡ walk state part taken far text))

@@ -50,7 +50,7 @@ same_lock j phase effect s k = (refl, refl)
 
 -- ---- the other holders
 
--- a holder without the lock depends only on what it knows of the file
+-- the invariant of a holder without the lock depends only on what the holder knows about the file
 away_in : (phase : Phase) (j : Journal) (v w : Sight) (k : Holder) → (holds phase ≡ true → ⊥) → (KnowsOf j v k → KnowsOf j w k) → In phase j v k → In phase j w k
 away_in (Ended e) j v w k away grows h = grows h
 away_in Locking j v w k away grows h = grows h
@@ -94,14 +94,14 @@ pub update : (j : Journal) (w : World) (s : Shared) (p : ℕ) (new : Holder) →
 update j w s p new still others mine =
     record { still = still; holders = λ q. pick j s p q new (w.holders q) (q == p) refl (others q) mine }
 
--- if the process with the lock makes a step, the invariant still holds
+-- if the process with the lock takes a step, the invariant still holds
 pub goes_fine : (j : Journal) (w : World) (s : Shared) (p : ℕ) (new : Holder) → Fine j w → holds (w.holders p).phase ≡ true → Moves j w.shared s
     → Fits j s p new → Fine j (with_holder s w.holders p new)
 goes_fine j w s p new h mine moves fits =
     update j w s p new moves.still
     (λ q apart. away_fits j w.shared s q (w.holders q) moves.grows (h.holders q) (alone j w p h mine q apart)) fits
 
--- if a process without the lock makes a step that leaves the folder unchanged, the invariant still
+-- if a process without the lock takes a step that leaves the folder unchanged, the invariant still
 -- holds
 pub beside : (j : Journal) (w : World) (p : ℕ) (new : Holder) → Fine j w → Fits j w.shared p new → Fine j (with_holder w.shared w.holders p new)
 beside j w p new h fits = update j w w.shared p new h.still (λ q _. h.holders q) fits
@@ -138,7 +138,8 @@ begins_fits Renew j s p k laws is none next lock below calm = dropped_fits j s p
 begins_fits Show j s p k laws is none next lock below calm = dropped_fits j s p k fault.Absent next lock
 begins_fits Cut j s p k laws is none next lock below calm = dropped_fits j s p k fault.Absent next lock
 
--- the holder when it continues to read the file that it knows, after the part that it executed
+-- the holder when it continues to read the file that it knows, from the end of the part that it
+-- executed
 abbrev pub again : Shared → Holder → Holder
 again s k = record k { size = length s.file.now.text; seen = k.place; read = [] }
 
@@ -387,7 +388,7 @@ last_named Show j s c response still named gives =
 last_named Begin j s c response still named gives = tt
 last_named Cut j s c response still named gives = tt
 
--- The new file contains the holder's text, and its device is the holder's.
+-- The new file contains the holder's text, and opens as the holder's device.
 pub record IsNew (j : Journal) (origin : List ℕ) (s : Shared) (k : Holder) : Type 0 where
   pub body : body j (named_from j origin s k).file ≡ k.out
   pub has : k.device ≡ Some (spot_of j (named_from j origin s k).file)

@@ -1,4 +1,4 @@
--- The commands that were promised stay the beginning of the history.
+-- Promised commands remain at the beginning of the history.
 use Rattle.std.proofs.Common.{◌≡◌, ℕ, ◌-◌, ◌≤◌, ◌==◌, Bool, true, false, cond, List, [], ◌++◌, length, max, take, refl, sym, ap, ◌∙◌, subst, arith, append_assoc}
 use Rattle.std.proofs.lemmas.List.{append-nil, take-append-le}
 use Rattle.tpm_keeping.specs.Journal.{Journal, IsJournal, run, whole_in}
@@ -18,7 +18,7 @@ use Rattle.tpm_keeping.specs.declared.holder.End.TheVariants as ending
 use Rattle.tpm_keeping.specs.declared.holder.Phase.{Phase}
 use Rattle.tpm_keeping.specs.declared.holder.Phase.TheVariants.{Ended, Locking, Looking, Reading, Putting, Forcing, Making, Naming, Settling, Leaving}
 
--- The history became longer, and no fewer commands are promised.
+-- Commands may have been added to the history, and no fewer commands are promised than before.
 pub record Longer (s t : Shared) : Type 0 where
   pub more : List (List ℕ)
   pub is : t.history ≡ s.history ++ more

@@ -218,7 +218,7 @@ rests_fits (Ended e) j s p child k is now h = record {
 }
 rests_fits phase j s p child k is now h = newborn_fits j s child k.force k.limit (omega (arith, h.below))
 
--- If the system drops bytes by itself, the invariant still holds.
+-- If the system itself drops bytes that are not synced, the invariant still holds.
 drops_by_itself : (j : Journal) (w : World) → Fine j w → (b : Bool) → w.shared.locked ≡ b
     → Fine j (cond b w (record w { shared = record w.shared { file = record w.shared.file { is_dropped = true } } }))
 drops_by_itself j w h true is = h

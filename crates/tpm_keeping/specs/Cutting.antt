@@ -1,4 +1,5 @@
--- A keeper that cuts damage: a call that finds damage is followed by a cut, and then begins again.
+-- A keeper that cuts off damage: if a call finds a damaged journal, the keeper makes a cut and then
+-- begins the call again.
 use Rattle.std.specs.Prelude.{◌≡◌, ℕ, ◌⊎◌, Bool, true, false, List, []}
 use Rattle.tpm_keeping.specs.Holder.{Holder, Told, asked, next_of, rests}
 use Rattle.tpm_keeping.specs.Journal.{Journal, Spot}
@@ -13,8 +14,8 @@ use Rattle.tpm_keeping.specs.declared.holder.Job.TheVariants.{Show, Cut}
 use Rattle.tpm_keeping.specs.declared.holder.Phase.{Phase}
 use Rattle.tpm_keeping.specs.declared.holder.Phase.TheVariants.{Ended}
 
--- A holder; what happens if its call finds damage; and the call that begins again after a cut. If
--- damage is not cut, the command of the call is not stored.
+-- A holder, what happens if its call finds damage, and the call to begin again after a cut. If
+-- damage is not cut off, the command of that call is not stored.
 pub record Caller : Type 0 where
   pub holder : Holder
   pub on_damage : OnDamage
@@ -33,7 +34,7 @@ caller_of state k = record {
 abbrev pub idle : Holder → Caller
 idle k = record { holder = k; on_damage = Ends; job = Show; command = [] }
 
--- the keeper after a call begins; an interrupted call is dropped
+-- the keeper after it begins a call; a call that was still in progress is dropped
 abbrev pub called : (cuts : Bool) → Job → List ℕ → Holder → Caller
 called true job command k = record {
   holder = asked (rests k) job command;
@@ -44,8 +45,8 @@ called true job command k = record {
 called false job command k =
     record { holder = asked (rests k) job command; on_damage = Ends; job = job; command = [] }
 
--- the keeper after a call ended. If damage has to be cut, a cut follows a call that found damage,
--- and the same call begins again after the cut is done
+-- the keeper after a call ended. If the call found damage that has to be cut off, a cut follows;
+-- after the cut is done, the call begins again
 abbrev pub goes_on_in : OnDamage → Phase → Caller → Caller
 goes_on_in IsCut (Ended (ending.Failed fault.Damaged)) c =
     record c { holder = asked c.holder Cut []; on_damage = BeginsAgain }

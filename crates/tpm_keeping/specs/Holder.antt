@@ -14,7 +14,7 @@ use Rattle.tpm_keeping.specs.declared.holder.Phase.{Phase}
 use Rattle.tpm_keeping.specs.declared.holder.Phase.TheVariants.{Ended, Locking, Looking, Reading, Putting, Forcing, Making, Naming, Settling, Leaving}
 
 pub record Holder : Type 0 where
-  -- when the holder syncs, and the size from which on it may restart a journal
+  -- when the holder syncs, and the minimum size at which it may restart a journal
   pub force : Force
   pub limit : ℕ
   pub phase : Phase
@@ -25,9 +25,10 @@ pub record Holder : Type 0 where
   pub device : Option Spot
   pub file : ℕ
   pub place : ℕ
-  -- the last executed bytes, if the holder has not itself seen them synced
+  -- the executed bytes at the end that the holder still has to see synced
   pub unsure : List ℕ
-  -- the size of the file, the number of bytes read, and the bytes that are not executed yet
+  -- the size of the file, the offset up to which it was read, and the bytes that were read but not
+  -- executed yet
   pub size : ℕ
   pub seen : ℕ
   pub read : List ℕ
@@ -83,8 +84,8 @@ newborn force limit = record {
   response = [];
 }
 
--- the holder without the call in progress, if there is one: the call was interrupted, or was made
--- by the parent of a fork
+-- the holder without the call in progress, if there is one, and without all that it knows: the call
+-- was interrupted, or was made by the parent of a fork
 abbrev pub rests_in : Phase → Holder → Holder
 rests_in (Ended e) k = k
 rests_in phase k = newborn k.force k.limit
@@ -100,7 +101,7 @@ asked_in phase k job command = k
 abbrev pub asked : Holder → Job → List ℕ → Holder
 asked k job command = asked_in k.phase k job command
 
--- the holder after it forgot everything; at its next look, it opens the device from the file
+-- the holder after it forgot everything; the next time it looks, it opens the device from the file
 abbrev pub forgets : Phase → Holder → Holder
 forgets p k = record (newborn k.force k.limit) { phase = p }
 
@@ -118,12 +119,12 @@ abbrev pub is_never : Force → Bool
 is_never Never = true
 is_never f = false
 
--- the offset from which on the holder has not itself seen the file synced
+-- the offset up to which the holder has nothing left to sync
 abbrev pub sure : Holder → ℕ
 sure k = k.place - length k.unsure
 
--- the phase after all work on the file is done: the folder is synced once, before the first
--- response from a file, unless the holder never syncs
+-- the phase after all work on the file is done: unless the holder never syncs, it syncs the folder
+-- once for each file that it opens, before its first response
 abbrev pub settles : Holder → Phase
 settles k = cond (k.settled || is_never k.force) (Leaving ending.Done) Settling
 
@@ -194,7 +195,7 @@ acts j Show k p = shows k p (j.head p.state)
 acts j Begin k p = shows k p []
 acts j Cut k p = shows k p []
 
--- the holder after the first `taken` bytes of those read are executed
+-- the holder after it executed the first `taken` of the bytes that it read
 abbrev pub caught_up : Holder → (taken : ℕ) → Holder
 caught_up k taken = record k {
   place = k.place + taken;
@@ -202,9 +203,9 @@ caught_up k taken = record k {
   read = [];
 }
 
--- the holder if the bytes that it read are damaged. The call fails, and the file stays as it is,
--- unless a cut has read the whole file. Then a new journal begins in the state after the undamaged
--- beginning
+-- the holder if the bytes that it read are damaged. A cut that has read the whole file begins a new
+-- journal in the state after the undamaged beginning, if there is one. Otherwise the call fails,
+-- and the file stays as it is
 abbrev pub salvages_of : Journal → Holder → Option (Spot × ℕ) → Holder
 salvages_of j k None = dropped fault.Damaged k
 salvages_of j k (Some salvaged) = renews j (caught_up k salvaged.1) salvaged.0.state []

@@ -19,24 +19,24 @@ pub record Journal : Type 0 where
   -- the state after a command, and its response
   pub after : List ℕ → List ℕ → List ℕ
   pub response : List ℕ → List ℕ → List ℕ
-  -- the state in which a device begins, from random bytes or a text; None if they are not valid
+  -- the state of a new device, from random bytes or from a text; None if these bytes are not valid
   pub begun : List ℕ → Option (List ℕ)
   -- the entry of a command at a position, and the checksum to which the next entry is then chained
   pub entry : Spot → List ℕ → List ℕ
   pub link : Spot → List ℕ → ℕ
-  -- the text with which a journal begins in a state, and the checksum to which its first entry is
+  -- the head of a journal that begins in a state, and the checksum to which its first entry is
   -- chained
   pub head : List ℕ → List ℕ
   pub first : List ℕ → ℕ
   -- the position after a head; the head may be of a kind that is no longer written
   pub after_head : List ℕ → Option Spot
-  -- the position after a journal, or after the entries that follow a position; and the size of the
-  -- executed text
+  -- the position after opening a journal, or after executing the entries that follow a position;
+  -- and the size of the executed text
   pub opened : List ℕ → Option (Spot × ℕ)
   pub followed : Spot → List ℕ → Option (Spot × ℕ)
   -- the position after the undamaged beginning of a damaged text, and the size of that beginning
   pub salvaged : List ℕ → Option (Spot × ℕ)
-  -- whether a text can be what is left of an entry at a position, if it was not written completely
+  -- whether a text can be what is left if an entry at this position was not written completely
   pub is_torn : Spot → List ℕ → Bool
   -- whether a crash of the host may leave these bytes, such as zeros, after a file's bytes; no
   -- entry looks like them
@@ -48,6 +48,7 @@ run j s [] = s
 run j s (c ∷ cs) = run j (j.after s c) cs
 
 -- the positions after a head, after the entry of one command, and after the entries of several
+-- commands
 abbrev pub started : Journal → List ℕ → Spot
 started j s = record { state = s; chain = j.first s }
 
@@ -77,10 +78,10 @@ Entered j cs = AllByRecursion (λ c. j.is_entered c ≡ true) cs
 
 -- What a keeper requires of a journal.
 pub record IsJournal (j : Journal) : Type 0 where
-  -- a device begins in a state, and a command leads from a state to a state
+  -- a new device has a valid state, and a command leads from a valid state to a valid state
   pub begins : (seed s : List ℕ) → j.begun seed ≡ Some s → j.is_state s ≡ true
   pub leads : (s c : List ℕ) → j.is_state s ≡ true → j.is_state (j.after s c) ≡ true
-  -- the text that is written as the head of a state is a head
+  -- the head that is written for a state decodes to the position with this state
   pub heads : (s : List ℕ) → j.is_state s ≡ true → j.after_head (j.head s) ≡ Some (started j s)
   -- opening a journal starts at the position after its head, and executes each complete entry
   pub opens : (head : List ℕ) (p : Spot) (cs : List (List ℕ)) (tail : List ℕ)
@@ -91,7 +92,7 @@ pub record IsJournal (j : Journal) : Type 0 where
   pub follows : (p : Spot) (cs : List (List ℕ)) (tail : List ℕ)
       → j.is_state p.state ≡ true → Entered j cs → j.is_torn (trail j p cs) tail ≡ true
       → j.followed p (entries j p cs ++ tail) ≡ Some (trail j p cs, length (entries j p cs))
-  -- the salvaged device is that of a prefix of the text
+  -- salvaging a text gives the same device as opening some prefix of it
   pub salvages : (text : List ℕ) (p : Spot) (size : ℕ) → j.salvaged text ≡ Some (p, size)
       → j.opened (take size text) ≡ Some (p, size)
   -- the empty text is torn, and so is a proper prefix of an entry

@@ -1,4 +1,4 @@
--- The message for each fault of a call, which follows the path of a file or of the folder.
+-- The message for each fault of a call. It is written after the path of a file or of the folder.
 use Rattle.std.specs.Prelude.{List, ℕ, codes}
 use Rattle.tpm_keeping.specs.declared.holder.Fault.{Fault}
 use Rattle.tpm_keeping.specs.declared.holder.Fault.TheVariants as fault

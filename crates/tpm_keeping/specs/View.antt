@@ -1,4 +1,4 @@
--- The keeper in the code, as the record `Holder` of the definitions.
+-- Views the code's `Keeper` as the record `Holder` of the definitions.
 use Rattle.std.specs.Option.{option_map}
 use Rattle.tpm_keeping.specs.Holder.{Holder, Told, sure}
 use Rattle.tpm_keeping.specs.Holder as holder

@@ -1,22 +1,23 @@
 -- The folder of a kept device, as its processes see it, and as a crash of the host may leave it.
 --
--- This model assumes that the reader knows fsync. A file has the contents that all processes see
--- (`now`). After a crash it may have any text that it had since it was last synced (`past`), up to
--- any byte that is not before `forced`, followed by litter such as zeros. All processes see a
+-- The reader is expected to know fsync. A file has the contents that all processes see (`now`).
+-- After a crash it may have any text that it had since it was last synced (`past`), truncated at
+-- any byte that is not before `forced` and followed by litter such as zeros. All processes see a
 -- rename at once. Until the folder is synced, a crash may undo the rename: an earlier file
 -- (`older`) has the name again, or no file has it.
 --
 -- A sync that fails may have dropped the bytes that it did not write: their pages count as clean.
 -- Then a sync by another process succeeds without them (`is_dropped`), until they are written
 -- again. The system may also drop bytes by itself when it writes back (`Drops`). If it does so
--- between a holder's write and its sync, that sync reports the failure: it is the holder's `Fails`.
+-- between a holder's write and its sync, that sync reports the failure, as the event `Fails`.
 --
 -- Only one process can have the lock. Processes may read less than they requested, fail during a
 -- write or after it, finish an operation and still report an error, die at any byte, and fork. A
 -- fork has the memory of its parent, but not the lock. Each process has its own word of force.
 --
--- A host whose write fails cuts the file back. If the write left part of an entry, this is another
--- process here, which takes the lock next and dies after its cut (`Dies p (Part 0)`).
+-- A host whose write fails truncates the file again. If the write left part of an entry, the model
+-- makes another process do this: it takes the lock next and dies after truncating the file (`Dies p
+-- (Part 0)`).
 --
 -- The model leaves out: what processes read after a failed sync, if the system then shows older
 -- bytes (a holder opens the file again if it is shorter, and does not notice other bytes in their
@@ -25,7 +26,7 @@
 -- lose bytes of a file and keep later ones, as ext4 and XFS may, or undo one of two renames; a
 -- folder whose sync fails and then succeeds without the rename; a torn sector over bytes that were
 -- synced before; the folder's own name in its parent, which hosts sync with the folder; the
--- journals of the past, which hosts link before a rename; the content of a command, such as its
+-- finished journals, which hosts link before a rename; the content of a command, such as its
 -- time and its random bytes; network file systems, on which locks and renames are seen late; two
 -- hosts on one folder; the removal of the lock's file while a holder has the lock; and anybody else
 -- who writes to the folder.
@@ -67,7 +68,7 @@ pub record File : Type 0 where
 
 -- a response that was sent
 pub record Answer : Type 0 where
-  -- the number of commands in the history when the response was sent, of which its own is the last
+  -- the position of the response's command in the history, where the first command has position 1
   pub place : ℕ
   -- the word of force of the holder that sent the response
   pub force : Force
@@ -123,8 +124,8 @@ pub data Event : Type 0 where
   Dies : (p : ℕ) → (effect : Effect) → Event
   Forks : (p child : ℕ) → Event
   Drops : Event
-  -- The host crashes. One of the contents of this file is left, truncated at the byte `far`, but
-  -- not before the end of the bytes on the disk. This litter follows.
+  -- The host crashes. One of the contents of this file is left, followed by this litter. The
+  -- content is truncated at the byte `far`, but not before the end of the bytes on the disk.
   Crashes : (file content far : ℕ) → (litter : List ℕ) → Event
 
 abbrev pub with_holder : Shared → (ℕ → Holder) → ℕ → Holder → World
@@ -132,12 +133,12 @@ with_holder s holders p k = record { shared = s; holders = λ q. cond (q == p) k
 
 -- ---- what a process does
 
--- a text after bytes were written at an offset, over the bytes there and beyond the end
+-- a text after bytes were written at an offset; they replace old bytes, and may extend the text
 abbrev pub written : (text : List ℕ) → (at : ℕ) → (bytes : List ℕ) → List ℕ
 written text at bytes = take at text ++ (bytes ++ drop (at + length bytes) text)
 
--- the commands whose entries a job writes to the journal or to a new one; and the commands without
--- an entry that lead to the state in which a new journal begins
+-- the command that gets an entry in the journal or in a new one (`adds`), or the command without an
+-- entry after which a new journal begins (`leads`), if the job has one
 abbrev pub adds : Journal → Job → List ℕ → List (List ℕ)
 adds j Execute c = cond (j.is_entered c) (c ∷ []) []
 adds j job c = []
@@ -151,13 +152,13 @@ leads j job c = []
 abbrev pub put_more : Journal → Holder → (count : ℕ) → List (List ℕ)
 put_more j k count = cond (nat_le (length k.out) count) (adds j k.job k.command) []
 
--- whether bytes are still dropped after a write; they are not if the whole text was written and
--- begins within the synced bytes
+-- whether the file still lacks dropped bytes after a write; it does not if the whole text was
+-- written and starts within the synced bytes
 abbrev pub put_dropped : File → Holder → (count : ℕ) → Bool
 put_dropped f k count =
     cond (nat_le (length k.out) count && nat_le (sure k) (min f.forced k.place)) false f.is_dropped
 
--- a text after a `Put`: its end is cut, and bytes are written at the requested offset
+-- a text after a `Put`: it is truncated, and the bytes are then written at the requested offset
 abbrev pub put_by : Ask → (text bytes : List ℕ) → List ℕ
 put_by (ask.Put cut at) text bytes = written (take cut text) at bytes
 put_by asked text bytes = text
@@ -327,7 +328,7 @@ content_at c (d ∷ ds) (suc n) = content_at d ds n
 abbrev pub litter_of : Journal → List ℕ → List ℕ
 litter_of j litter = cond (j.is_litter litter) litter []
 
--- what is left of a file after a crash: the first `count` bytes of a content, and litter
+-- what is left of a file after a crash: the first `count` bytes of one of its contents, and litter
 abbrev pub left_of : Journal → File → Content → (count : ℕ) → (litter : List ℕ) → File
 left_of j f c count litter = record {
   number = f.number;

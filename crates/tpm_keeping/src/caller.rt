@@ -1,5 +1,5 @@
-//! A keeper that cuts damage. If a call finds a damaged journal, the keeper cuts the damage and
-//! begins the call again.
+//! A keeper that cuts off damage. If a call finds a damaged journal, the keeper cuts off the damage
+//! and begins the call again.
 
 ghost use Rattle.std.specs.Prelude.{◌≡◌, OnErr, OnOk};
 ghost use Rattle.tpm_keeping.specs.Cutting.{called, caller_of, goes_on, idle, next_call};
@@ -17,13 +17,13 @@ use std::mem;
 pub enum OnDamage {
     /// The call ends with the fault.
     Ends,
-    /// A cut follows the call.
+    /// If the call finds damage, a cut follows.
     IsCut,
-    /// The damage is being cut. Then the call begins again.
+    /// The damage is being cut off. Then the call begins again.
     BeginsAgain,
 }
 
-/// A keeper, and the call that begins again after a cut.
+/// A keeper, and the call to begin again after a cut.
 #[derive(Drop)]
 pub struct CuttingKeeper<D: Device> {
     pub(crate) keeper: Keeper<D>,
@@ -48,8 +48,9 @@ impl<D: Device> CuttingKeeper<D> {
         }
     }
 
-    /// Begins a call. If `cuts` is true, damage is cut and the call begins again; otherwise the
-    /// call ends with the fault. On `Err`, nothing has changed.
+    /// Begins a call. If the call finds damage and `cuts` is true, the damage is cut off and the
+    /// call begins again; if `cuts` is false, the call ends with the fault. On `Err`, nothing has
+    /// changed.
     pub fn begin(&mut self, cuts: bool, job: Job, command: Vec<u8>) -> Result<(), Exhausted>
         ensures ok { OnOk result (caller_of D.spot self.new
             ≡ called cuts job command.items (caller_of D.spot self.old).holder) }
@@ -77,7 +78,7 @@ impl<D: Device> CuttingKeeper<D> {
         self.keeper.ask()
     }
 
-    /// Returns the keeper's current or last job: the job of the call, or the cut of its damage.
+    /// Returns the keeper's current or last job: the job of the call, or the cut of the damage.
     pub fn job(&self) -> Job
         ensures { result ≡ (caller_of D.spot self.now).holder.job }
     {
@@ -111,7 +112,8 @@ impl<D: Device> CuttingKeeper<D> {
         next
     }
 
-    /// If damage has to be cut: begins the cut after the call, and the call again after the cut.
+    /// If the call that ended found damage that has to be cut off, begins a cut. If a cut was done,
+    /// begins the original call again.
     fn goes_on(&mut self)
         ensures { caller_of D.spot self.new ≡ goes_on (caller_of D.spot self.old) }
     {

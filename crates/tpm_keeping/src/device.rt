@@ -1,4 +1,4 @@
-//! What a keeper requires of the device that it keeps, and of the device's journal.
+//! What a keeper requires of its device, and of the device's journal.
 
 ghost use Rattle.std.specs.Prelude.{◌≡◌, ◌++◌, ℕ, List, IfOk, OnOk, false, true};
 ghost use Rattle.std.specs.Option.{MatchOption};
@@ -23,26 +23,26 @@ pub trait Device: Drop + Sized {
     /// The journal satisfies a keeper's requirements.
     ghost keeps: { IsJournal journal };
 
-    /// Returns a device that begins with random bytes or with a text; None if `seed` is not valid.
+    /// Creates a device from random bytes or from a text; returns None if `seed` is not valid.
     fn begin(alloc: Global, seed: &[u8]) -> Result<Option<Self>, Exhausted>
         ensures { IfOk result (λ begun. MatchOption begun (journal.begun seed.now ≡ None)
             (λ device. journal.begun seed.now ≡ Some (spot device).state)) };
 
-    /// Returns the device of a journal, and the size of the text that it executed; None if the text
-    /// is not a journal.
+    /// Opens the device of a journal, and returns it with the size of the executed text; None if
+    /// the text is not a journal.
     fn open(alloc: Global, text: &[u8]) -> Result<Option<(Self, usize)>, Exhausted>
         ensures { IfOk result (λ opened. MatchOption opened (journal.opened text.now ≡ None)
             (λ found. journal.opened text.now ≡ Some (spot found.0, found.1))) };
 
-    /// Executes the entries of a text, and returns the size of the text that it executed; None if
-    /// the text does not continue the journal.
+    /// Executes the entries of a text, and returns the size of the executed text; None if the text
+    /// does not continue the journal.
     fn follow(&mut self, text: &[u8]) -> Result<Option<usize>, Exhausted>
         ensures { IfOk result (λ followed. MatchOption followed
             (journal.followed (spot self.old) text.now ≡ None)
             (λ taken. journal.followed (spot self.old) text.now ≡ Some (spot self.new, taken))) };
 
-    /// Returns the device of the undamaged beginning of a damaged journal, and the size of the text
-    /// that it executed; None if there is no such beginning.
+    /// Returns the device of the undamaged beginning of a damaged journal, and the size of the
+    /// executed text; None if there is no such beginning.
     fn salvage(alloc: Global, text: &[u8]) -> Result<Option<(Self, usize)>, Exhausted>
         ensures { IfOk result (λ salvaged. MatchOption salvaged (journal.salvaged text.now ≡ None)
             (λ found. journal.salvaged text.now ≡ Some (spot found.0, found.1))) };

@@ -7,9 +7,9 @@ ghost use Rattle.tpm_keeping.specs.Sentence.{sentence};
 /// The word of force of a holder: when the holder syncs its writes to the disk.
 #[derive(Clone, Copy, PartialEq, Eq)]
 pub enum Force {
-    /// Only when it writes a new journal.
+    /// Only when the holder writes a new journal.
     Never,
-    /// When a journal is restarted, for example at a power cycle or a checkpoint.
+    /// When the holder restarts a journal, for example at a power cycle or a checkpoint.
     Power,
     /// Before each response.
     Always,
@@ -26,7 +26,7 @@ pub enum Job {
     Renew,
     /// Return the text of the state: a snapshot.
     Show,
-    /// Make sure that there is a device: open it, or begin one with random bytes or a text.
+    /// Make sure that there is a device: open it, or create one from random bytes or a text.
     Begin,
     /// Make sure that there is a device. If the journal is damaged, begin a new journal in the
     /// state after its undamaged beginning. If a device is in memory and its file is damaged, the
@@ -39,21 +39,21 @@ pub enum Job {
 pub enum Fault {
     /// No call was begun, or the call was interrupted.
     Idle,
-    /// The host did not take the lock.
+    /// The host failed to take the lock.
     Lock,
-    /// The host did not look at the journal.
+    /// The host failed to look up the journal's file.
     Look,
-    /// The host did not read the journal, or the journal became shorter.
+    /// The host failed to read the journal, or the journal became shorter.
     Read,
-    /// The host did not write the journal.
+    /// The host failed to write the journal.
     Write,
-    /// The host did not sync the journal to the disk.
+    /// The host failed to sync the journal to the disk.
     Force,
-    /// The host did not write a new journal, or did not sync it to the disk.
+    /// The host failed to write a new journal, or to sync it to the disk.
     Make,
-    /// The host did not rename the new file to the journal's name.
+    /// The host failed to rename the new file to the journal's name.
     Name,
-    /// The host did not sync the folder to the disk.
+    /// The host failed to sync the folder to the disk.
     Settle,
     /// There is no journal.
     Absent,
@@ -126,7 +126,7 @@ pub enum Phase {
 }
 
 impl Phase {
-    /// Returns the fault of a call whose host does not do its task in this phase.
+    /// Returns the fault with which a call ends if the host fails in this phase.
     pub fn fault(self) -> Fault
         ensures { result ≡ fault_of self }
     {

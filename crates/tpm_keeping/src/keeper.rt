@@ -18,7 +18,7 @@ use std::alloc::Global;
 /// What the host has to do next.
 #[derive(Clone, Copy, PartialEq, Eq)]
 pub enum Ask {
-    /// Nothing: the call has ended. If it is done, the response may be sent.
+    /// Nothing: the call has ended. If it succeeded, the response may be sent.
     Nothing(End),
     /// Take the folder's lock, through an open file that only this process has. If that fails,
     /// close the file.
@@ -33,14 +33,15 @@ pub enum Ask {
     Put { cut: u64, at: u64 },
     /// Sync the file to the disk.
     Force,
-    /// Write the keeper's text to a new file, completely, and sync it to the disk. The device has
-    /// executed the first `whole` bytes of the old journal, or 0 if there is no old journal.
+    /// Write the keeper's text to a new file, completely, and sync it to the disk. `whole` is the
+    /// number of bytes of the old journal that the device has executed, or 0 if there is no old
+    /// journal.
     Make { whole: u64 },
     /// Rename the new file to the journal's name, and report its number.
     Name,
     /// Sync the folder to the disk.
     Settle,
-    /// Release the lock. If that fails, close its file.
+    /// Release the lock. If that fails, close the lock's file.
     Unlock,
 }
 
@@ -139,15 +140,15 @@ impl<D: Device> Keeper<D> {
         &self.response
     }
 
-    /// Returns the offset from which on this holder has not itself seen the file synced.
+    /// Returns the offset up to which this holder has nothing left to sync.
     pub(crate) fn sure(&self) -> u64
         ensures { result ≡ sure (holder_of D.spot self.now) }
     {
         self.place.saturating_sub(self.unsure.len() as u64)
     }
 
-    /// Begins a call. An interrupted call is dropped: the host that interrupted it, or a fork of
-    /// that host, first has to close its lock.
+    /// Begins a call. A call that is still in progress is dropped: the host that interrupted it, or
+    /// a fork of that host, first has to close the lock's file.
     pub fn begin(&mut self, job: Job, command: &[u8]) -> Result<(), Exhausted>
         ensures ok { OnOk result (holder_of D.spot self.new
             ≡ asked (rests (holder_of D.spot self.old)) job command.now) }
@@ -162,7 +163,8 @@ impl<D: Device> Keeper<D> {
         Ok(())
     }
 
-    /// Begins a call with a command that the keeper then owns. An interrupted call is dropped.
+    /// Begins a call with a command that the keeper then owns. A call that is still in progress is
+    /// dropped.
     pub(crate) fn begin_with(&mut self, job: Job, command: Vec<u8>)
         ensures { holder_of D.spot self.new
             ≡ asked (rests (holder_of D.spot self.old)) job command.items }
@@ -184,7 +186,7 @@ impl<D: Device> Keeper<D> {
         *self = Keeper::new(self.alloc, self.force, self.limit);
     }
 
-    /// Forgets everything; at the next look, the keeper opens the device from the file.
+    /// Forgets everything; the next time it looks, the keeper opens the device from the file.
     fn forget(&mut self, phase: Phase)
         ensures { holder_of D.spot self.new ≡ forgets phase (holder_of D.spot self.old) }
     {
@@ -231,8 +233,8 @@ impl<D: Device> Keeper<D> {
         Ok(())
     }
 
-    /// Returns the phase after all work on the file is done: the folder is synced before the first
-    /// response from a file, unless the holder never syncs.
+    /// Returns the phase after all work on the file is done: unless the holder never syncs, it
+    /// syncs the folder once for each file that it opens, before its first response.
     pub(crate) fn settles(&self) -> Phase
         ensures { result ≡ settles (holder_of D.spot self.now) }
     {

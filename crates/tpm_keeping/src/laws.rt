@@ -32,7 +32,7 @@ pub fn calls_advance()
         → Advances k (next_of j k told) }
 {}
 
-/// If its host does all its tasks and memory suffices, a call ends. It succeeds, unless there is no
+/// A call ends if its host does all tasks and memory suffices. It succeeds, unless there is no
 /// journal and none can begin, or the text to execute is not a command. It takes at most six steps
 /// and one more for each byte of the file. After it, the lock is free.
 pub fn calls_end()
@@ -45,7 +45,7 @@ pub fn calls_end()
         (end_of j w.shared.file job command) }
 {}
 
-/// The commands that were promised stay the beginning of the history, whatever happens next.
+/// Promised commands remain at the beginning of the history, whatever happens next.
 pub fn promises_are_kept()
     ensures { (j : Journal) (start : World) (events : List Event) (e : Event)
         → IsJournal j → IsStart j start
@@ -53,7 +53,7 @@ pub fn promises_are_kept()
 {}
 
 /// If all commands of the journal at the start and all requested commands have a property, then all
-/// commands of the history have it. So nothing else is executed.
+/// commands of the history have it. Therefore, nothing else is executed.
 pub fn only_what_was_asked()
     ensures { (j : Journal) (start : World) (events : List Event) (test : List ℕ → Bool)
         → IsJournal j → IsStart j start → AllByRecursion (λ c. test c ≡ true) start.shared.history
@@ -61,7 +61,7 @@ pub fn only_what_was_asked()
         → AllByRecursion (λ c. test c ≡ true) (happen j events start).shared.history }
 {}
 
-/// The response of a snapshot, before its holder releases the lock, is the text of the state to
+/// A snapshot's response, just before the holder releases the lock, is the text of the state to
 /// which the history has led.
 pub fn snapshots_are_true()
     ensures { (j : Journal) (start : World) (events : List Event) (p : ℕ)
@@ -81,7 +81,7 @@ pub fn cuts_keep_a_front()
         → KeepsFront j (text_read k.phase k told) (next_of j k told) }
 {}
 
-/// A step of a keeper that cuts damage is a step of an ordinary keeper, possibly followed by a
+/// A step of a keeper that cuts off damage is a step of an ordinary keeper, possibly followed by a
 /// request for another call. Therefore, whatever holds after every run of all holders also holds
 /// with cuts.
 pub fn cuts_are_calls()

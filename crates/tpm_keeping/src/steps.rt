@@ -16,8 +16,8 @@ use crate::keeper::Keeper;
 use std::mem;
 
 impl<D: Device> Keeper<D> {
-    /// Continues with the journal's file. Forgets the device if this is another file, or has become
-    /// shorter.
+    /// Continues with the file that is now the journal. Forgets the device if this is another file
+    /// than before, or has become shorter.
     pub(crate) fn looked(&mut self, file: u64, size: u64) -> Result<(), Exhausted>
         ensures ok { OnOk result (holder_of D.spot self.new
             ≡ looked D.journal (holder_of D.spot self.old) file size) }
@@ -58,7 +58,7 @@ impl<D: Device> Keeper<D> {
         self.reads_on()
     }
 
-    /// Reads on, or, if the whole file was read, executes it and does the job.
+    /// If the whole file was read, executes it and does the job; otherwise reads on.
     fn reads_on(&mut self) -> Result<(), Exhausted>
         ensures ok { OnOk result (holder_of D.spot self.new
             ≡ reads_on D.journal (holder_of D.spot self.old)) }
@@ -212,7 +212,8 @@ impl<D: Device> Keeper<D> {
     }
 
     /// Executes a command that has an entry. The keeper then has to write the bytes that the holder
-    /// has not seen synced, followed by the entry; or a new journal that begins with the entry.
+    /// has not seen synced, followed by the entry. If the journal has grown, it has to write a new
+    /// journal that begins with the entry.
     fn enters(&mut self, mut device: D) -> Result<(), Exhausted>
         requires out { self.old.out.items ≡ [] }
         requires response { self.old.response.items ≡ [] }

@@ -1,5 +1,5 @@
-//! Calls of each job, by holders with each word of force. The letters are the tasks that the host
-//! did: lock, look (K), read, put, force, make, name, settle, unlock.
+//! Calls of each job, by holders with each word of force. Each letter stands for a task that the
+//! host did: lock, look (K), read, put, force, make, name, settle, unlock.
 
 use crate::echo::Echo;
 use crate::folder::Folder;
@@ -261,7 +261,7 @@ fn nothing_is_salvaged_of_an_empty_file(rt: HostRuntime) {
     }
 }
 
-// A new journal reports how much of the old one its device executed.
+// The request for a new journal says how much of the old journal the device executed.
 #[test]
 fn a_new_journal_follows_a_whole_one(rt: HostRuntime) {
     let mut folder = Folder::new(rt.alloc());

@@ -19,7 +19,8 @@ use Rattle.tpm_kept_journal.proofs.texts.NextAt.{damage_tells, torn_tells}
 pub none_more : (sum : ℕ) (text : List ℕ) → entry_at sum text ≡ None → entries_size sum text ≡ 0
 none_more sum text none = ap (λ (es : List PlainEntry). length (entries_text sum es)) (entries_again sum [] text tt none)
 
--- If a text begins with an entry, its entries are this one and the entries after it.
+-- If a text begins with an entry, the size of its entries is that of this entry plus that of the
+-- entries after it.
 pub one_more : (sum size : ℕ) (text : List ℕ) (e : PlainEntry) → IsEntry e → size ≤ length text → take size text ≡ entry_text sum e
     → entries_size sum text ≡ size + entries_size (sum_after sum e) (drop size text)
 one_more sum size text e is within front =
@@ -40,7 +41,7 @@ entry_some sum size text e within front =
 
 -- ---- reading a text entry by entry
 
--- The entries in the first `taken` bytes are read; the remaining text contains the later entries.
+-- The first `taken` bytes of a text are entries; the text after them begins with the other entries.
 abbrev pub Takes : (sum after taken : ℕ) → (text : List ℕ) → Type 0
 Takes sum after taken text = entries_size sum text ≡ taken + entries_size after (drop taken text)
 

@@ -1,4 +1,4 @@
--- The device's own results, when it follows a text or writes a head, equal those of the journal's
+-- When the device follows a text or writes a head, its results equal those of the journal's
 -- definitions.
 use Rattle.std.proofs.Common.{◌≡◌, ◌≤◌, ◌+◌, ℕ, false, List, length, Option, Some, None, subst, ap, ◌∙◌, arith}
 use Rattle.tpm_bytes.specs.Reading.{AreBytes}

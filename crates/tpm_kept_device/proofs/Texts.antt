@@ -63,7 +63,7 @@ read_by : (text : List ℕ) (c : KeptCommand) → AreBytes text → command_in t
 unfolding command_of
 read_by text c are is = rw ((are_bytes-Decides text).1 are) is
 
--- ---- commands of the standard
+-- ---- TPM commands
 
 module _ (locality : ℕ) (completes : Bool) (random buffer : List ℕ) (few : locality ≤ 4) (many : length random ≡ 256) (are : AreBytes random) (others : AreBytes buffer) where
   given_bytes : AreBytes (given_text locality completes random buffer)

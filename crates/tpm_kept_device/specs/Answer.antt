@@ -1,4 +1,4 @@
--- The response of a keeper to a command of the standard.
+-- The response of a keeper to a TPM command.
 use Rattle.std.specs.Prelude.{ℕ, List, length, nat_lt, Result, Ok}
 use Rattle.std.specs.Int.{w8, w16, w32}
 use Rattle.tpm_bytes.specs.Reading.{◌>>=◌, refused_if}
@@ -15,7 +15,7 @@ pub record PlainAnswer : Type 0 where
   pub drawn : ℕ
   pub response : List ℕ
 
--- the contents of an answer, as plain values without their memory
+-- an answer of the code, as a value of the definitions
 abbrev pub plain_answer : Answer → PlainAnswer
 plain_answer a =
     record { code = a.code; check = a.check; drawn = a.drawn; response = a.response.now }

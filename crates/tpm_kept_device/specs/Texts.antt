@@ -1,16 +1,16 @@
--- The texts of commands to a kept device, and of the seeds with which a device begins.
+-- The texts of commands to a kept device, and of the seeds from which a device is created.
 use Rattle.std.specs.Prelude.{ℕ, Bool, List, ◌++◌, ◌∷◌}
 use Rattle.std.specs.Int.{w32, w64, to_be_bytes}
 use Rattle.tpm_image_text.specs.Fields.{yes_no_text}
 
--- the part of a command's text after its moment: the locality, whether the completing layer is
--- used, 256 random bytes, and the buffer
+-- the part of a command's text after its arrival time: the locality, whether the completing layer
+-- is used, 256 random bytes, and the buffer
 abbrev pub given_text : (locality : ℕ) → (completes : Bool) → (random buffer : List ℕ) → List ℕ
 given_text locality completes random buffer =
     locality ∷ (yes_no_text completes ++ (random ++ buffer))
 
--- the text of a command of the standard that arrives at a time of the host's clock; and of one that
--- arrives some milliseconds after the previous command
+-- the text of a TPM command that arrives when the host's clock shows `now`; and the text of a
+-- command that arrives some milliseconds after the previous one
 abbrev pub text_at : (now locality : ℕ) → (completes : Bool) → (random buffer : List ℕ) → List ℕ
 text_at now locality completes random buffer =
     0 ∷ (to_be_bytes w64 now ++ given_text locality completes random buffer)

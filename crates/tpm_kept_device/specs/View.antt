@@ -19,14 +19,14 @@ abbrev pub plain_moment : declared_moment.Moment → Moment
 plain_moment (moment.At now) = At now
 plain_moment (moment.After elapsed) = After elapsed
 
--- the contents of a command, as plain values without their memory
+-- a command of the code, as a value of the definitions
 abbrev pub plain_command : Command → KeptCommand
 plain_command (command.Execute moment locality completes random buffer) =
     Executes (plain_moment moment) (locality_number locality) completes random.now buffer.now
 plain_command (command.Cycle now start) = Cycles now start
 plain_command (command.Begin seed) = Begins seed.now
 
--- the contents of a seed, as plain values without their memory
+-- a seed of the code, as a value of the definitions
 abbrev pub plain_seed : declared.Seed → Seed
 plain_seed seed = record {
   kind = seed.kind;
@@ -49,7 +49,7 @@ seen_in parts = seen_of slot_record parts.machine parts.journal.layer parts.outc
 abbrev pub answer_in : Parts → List ℕ
 answer_in parts = reported (seen_in parts)
 
--- A device began in this state; or there is no such state, and no device.
+-- A device was created in this state; or there is neither a state nor a device.
 abbrev pub BeginsAs : {B : Type 0} → (B → Parts) → Option DeviceState → Option B → Type 0
 BeginsAs parts_in state (Some b) = state ≡ Some (state_of (parts_in b))
 BeginsAs parts_in state None = state ≡ None

@@ -1,4 +1,4 @@
-//! A keeper's response to a command of the standard: a report, and the device's response.
+//! A keeper's response to a TPM command: a report, and the device's response.
 
 ghost use Rattle.std.specs.Prelude.{◌≤◌, IfOk, length};
 ghost use Rattle.std.specs.Int.{w16};
@@ -11,7 +11,7 @@ use tpm_bytes::Cursor;
 use tpm_image_text::{Malformed, read_u8, read_u32};
 use tpm_types::BUFFER_LIMIT;
 
-/// The answer to a command of the standard.
+/// The answer to a TPM command.
 #[derive(Clone, Copy)]
 pub struct Answer<'a> {
     /// The command code; 0 if none was found.

@@ -14,7 +14,7 @@ use tpm_bytes::Cursor;
 use tpm_image_text::{Malformed, read_bool, read_u8, read_u32, read_u64};
 use tpm_types::Locality;
 
-/// When a command of the standard arrives, in milliseconds.
+/// When a TPM command arrives, in milliseconds.
 #[derive(Clone, Copy)]
 pub(crate) enum Moment {
     /// At this time of the host's clock.
@@ -39,7 +39,7 @@ impl Moment {
 /// A command to a kept device.
 #[derive(Clone, Copy)]
 pub(crate) enum Command<'a> {
-    /// A command of the standard.
+    /// A TPM command.
     Execute {
         moment: Moment,
         locality: Locality,
@@ -55,7 +55,7 @@ pub(crate) enum Command<'a> {
         now_ms: u64,
         start: u64,
     },
-    /// Replaces the device by one that begins with a seed, for example to restore a snapshot.
+    /// Replaces the device by the device of a seed, for example to restore a snapshot.
     Begin {
         seed: &'a [u8],
     },
@@ -85,8 +85,8 @@ fn read_any<'a>(text: &'a [u8]) -> Result<Command<'a>, Malformed>
     }
 }
 
-/// Reads a command of the standard that arrives at a time of the host's clock. The byte for its
-/// kind was already read.
+/// Reads a TPM command that arrives at a time of the host's clock, from the text after the byte for
+/// the command's kind.
 #[tactic(auto, unfolding(tpm_kept_journal::specs::Command::executed_at_in))]
 fn read_executed_at<'a>(text: &mut Cursor<'a>) -> Result<Command<'a>, Malformed>
     ensures { Gives plain_command (executed_at_in text.old) result }
@@ -95,8 +95,8 @@ fn read_executed_at<'a>(text: &mut Cursor<'a>) -> Result<Command<'a>, Malformed>
     read_executed(Moment::At(now_ms), text)
 }
 
-/// Reads a command of the standard that arrives some milliseconds after the previous one. The byte
-/// for its kind was already read.
+/// Reads a TPM command that arrives some milliseconds after the previous one, from the text after
+/// the byte for the command's kind.
 #[tactic(auto, unfolding(tpm_kept_journal::specs::Command::executed_after_in))]
 fn read_executed_after<'a>(text: &mut Cursor<'a>) -> Result<Command<'a>, Malformed>
     ensures { Gives plain_command (executed_after_in text.old) result }
@@ -105,7 +105,7 @@ fn read_executed_after<'a>(text: &mut Cursor<'a>) -> Result<Command<'a>, Malform
     read_executed(Moment::After(elapsed_ms), text)
 }
 
-/// Reads the rest of a command of the standard that arrives at this moment.
+/// Reads the fields of a TPM command that follow its arrival time.
 #[tactic(auto, unfolding(tpm_kept_journal::specs::Command::executed_in))]
 fn read_executed<'a>(moment: Moment, text: &mut Cursor<'a>) -> Result<Command<'a>, Malformed>
     ensures { Gives plain_command (executed_in (plain_moment moment) text.old) result }
@@ -146,7 +146,7 @@ fn read_random<'a>(text: &mut Cursor<'a>) -> Result<&'a [u8], Malformed>
     }
 }
 
-/// Reads a power cycle. The byte for its kind was already read.
+/// Reads a power cycle, from the text after the byte for the command's kind.
 #[tactic(auto, unfolding(tpm_kept_journal::specs::Command::cycled_in))]
 fn read_cycled<'a>(text: &mut Cursor<'a>) -> Result<Command<'a>, Malformed>
     ensures { Gives plain_command (cycled_in text.old) result }

@@ -21,8 +21,7 @@ pub(crate) fn whole_size(text: &[u8]) -> usize
     head.size + entries_size(head.sum, rest)
 }
 
-/// Returns the size of the entries at the start of a text; `sum` is the checksum of the marks
-/// before them.
+/// Returns the size of the entries at the start of a text; `sum` is the checksum before them.
 fn entries_size(sum: u64, text: &[u8]) -> usize
     ensures value { result ≡ entries_size sum text.now }
     ensures within { result ≤ length text.now }

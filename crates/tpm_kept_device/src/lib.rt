@@ -6,8 +6,7 @@
 //! requires. This crate computes these functions with the real device: each method's contract is
 //! that of `tpm_keeping::device::Device` for that journal. Therefore, what tpm_keeping proves about
 //! a kept device, through kills, failures and crashes, holds for this one. [`writing`] writes the
-//! commands and seeds that a keeper takes, and [`answer`] reads its response to a command of the
-//! standard.
+//! commands and seeds that a keeper takes, and [`answer`] reads its response to a TPM command.
 
 pub mod answer;
 mod command;

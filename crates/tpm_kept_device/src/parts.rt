@@ -82,7 +82,7 @@ impl Parts {
         };
     }
 
-    /// Creates the device that begins with a seed; None if the text is not a valid seed.
+    /// Creates the device of a seed; returns None if the text is not a valid seed.
     #[tactic(auto, unfolding(tpm_kept_journal::specs::Seed::begun_of))]
     pub fn begin(alloc: Global, seed: &[u8]) -> Result<Option<Box<Parts>>, Exhausted>
         ensures { IfOk result (BeginsAs (λ b. b.value) (begun_in seed.now)) }
@@ -139,7 +139,8 @@ impl Parts {
         Ok(Some(parts))
     }
 
-    /// The fields of the device's state fit their integer types. The call changes nothing.
+    /// Proves that the fields of the device's state fit their integer types. The call has no
+    /// effect.
     pub fn read_widths(&self)
         ensures { IsDeviceState (state_of self.now) }
     {
@@ -171,8 +172,8 @@ impl Parts {
         Parts::open(alloc, front)
     }
 
-    /// Turns a new device of zeros into the device of a journal. If the result is None, the device
-    /// is unspecified.
+    /// Turns a new device, whose secrets are zeros, into the device of a journal. If the result is
+    /// None, the device is unspecified.
     fn open_in_place(&mut self, text: &[u8]) -> Option<usize>
         requires { slot_record self.old.machine.keep ≡ manufactured (replicate 256 0) }
         ensures { MatchOption result (opened_text text.now ≡ None)

@@ -1,4 +1,4 @@
-//! The seed with which a device begins, read from its text.
+//! The seed from which a device is created, read from its text.
 
 ghost use Rattle.tpm_bytes.specs.Reading.{Gives};
 ghost use Rattle.tpm_kept_journal.specs.Seed.{seed_in};
@@ -7,7 +7,7 @@ ghost use Rattle.tpm_kept_device.specs.View.{plain_seed};
 use tpm_bytes::Cursor;
 use tpm_image_text::{Malformed, read_u8, read_u64};
 
-/// The seed with which a device begins.
+/// The seed from which a device is created.
 #[derive(Clone, Copy)]
 pub(crate) struct Seed<'a> {
     /// The kind of the content: 0 for random bytes, 1 for an image, 2 for a state text.

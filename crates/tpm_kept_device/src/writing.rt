@@ -1,4 +1,4 @@
-//! Writes the texts of commands to a kept device, and of the seeds with which a device begins.
+//! Writes the texts of commands to a kept device, and of the seeds from which a device is created.
 
 ghost use Rattle.std.specs.Prelude.{◌≡◌, ◌++◌, ◌∷◌, IfOk, Ok, OnOk};
 ghost use Rattle.tpm_kept_journal.specs.Command.{After, At, Begins, Cycles, Executes, command_of};
@@ -9,7 +9,7 @@ ghost use Rattle.tpm_types.specs.Locality.{locality_number};
 use std::alloc::{AllocError, Global};
 use tpm_types::Locality;
 
-/// Writes a command of the standard that arrives at this time of the host's clock, in milliseconds.
+/// Writes a TPM command that arrives at this time of the host's clock, in milliseconds.
 #[tactic(auto, using(crate::proofs::Texts::at_read))]
 pub fn command_at(
     alloc: Global,
@@ -31,7 +31,7 @@ pub fn command_at(
     Ok(text)
 }
 
-/// Writes a command of the standard that arrives this many milliseconds after the previous one.
+/// Writes a TPM command that arrives this many milliseconds after the previous one.
 #[tactic(auto, using(crate::proofs::Texts::after_read))]
 pub fn command_after(
     alloc: Global,
@@ -53,7 +53,7 @@ pub fn command_after(
     Ok(text)
 }
 
-/// Appends the part of a command's text after its moment.
+/// Appends the part of a command's text that follows the arrival time.
 fn put_given(
     text: &mut Vec<u8>,
     locality: Locality,
@@ -82,7 +82,7 @@ pub fn power_cycle(alloc: Global, now_ms: u64, start: u64) -> Result<Vec<u8>, Al
     Ok(text)
 }
 
-/// Writes a command that replaces the device by one that begins with this seed.
+/// Writes a command that replaces the device by the device of this seed.
 #[tactic(auto, using(crate::proofs::Texts::beginning_read))]
 pub fn beginning(alloc: Global, seed: &[u8]) -> Result<Vec<u8>, AllocError>
     ensures text { IfOk result (λ text. text.items ≡ 2 ∷ seed.now) }

@@ -1,4 +1,4 @@
-//! A keeper begins a device, executes commands, is dropped, and opens the device again.
+//! A keeper creates a device, executes commands, is dropped, and opens the device again.
 
 use crate::folder::Folder;
 use crate::words::{cycle, given, given_after, restoring, seed};

@@ -12,7 +12,7 @@ pub fn seed(alloc: Global, now_ms: u64, random: u8) -> Result<Vec<u8>, AllocErro
     Ok(text)
 }
 
-/// A command of the standard from locality 0, with the completing layer and 256 random bytes.
+/// A TPM command from locality 0, with the completing layer and 256 random bytes.
 pub fn given(alloc: Global, now_ms: u64, random: u8, buffer: &[u8]) -> Result<Vec<u8>, AllocError> {
     let mut text = Vec::new(alloc);
     text.push(0)?;
@@ -23,7 +23,7 @@ pub fn given(alloc: Global, now_ms: u64, random: u8, buffer: &[u8]) -> Result<Ve
     Ok(text)
 }
 
-/// A command of the standard that arrives this many milliseconds after the previous one.
+/// A TPM command that arrives this many milliseconds after the previous one.
 pub fn given_after(
     alloc: Global,
     elapsed_ms: u32,

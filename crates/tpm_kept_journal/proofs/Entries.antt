@@ -1,4 +1,4 @@
--- A command of the standard that is decoded from a text has an entry.
+-- A TPM command that is decoded from a text has an entry.
 use Rattle.std.proofs.Common.{◌≡◌, ◌<◌, ◌^◌, ◌==◌, ℕ, Bool, true, false, List, [], ◌∷◌, length, Result, Ok, Err, refl, subst, ap, ◌∙◌, cond, arith}
 use Rattle.std.specs.Prelude.{not}
 use Rattle.std.specs.Int.{w8, w32, w64}

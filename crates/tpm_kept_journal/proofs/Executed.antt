@@ -22,7 +22,7 @@ module _ (j : Journal) (r : Record) (is : IsDeviceState (state_in j r)) (text : 
   abbrev s : DeviceState
   s = state_in j r
 
-  -- A function of the decoded state and command is applied to this state and this command.
+  -- `with_both` applies the function `f` to this state and this command.
   said : {X : Type 0} (other : X) (f : DeviceState → KeptCommand → X) → with_both (state_of_bytes (bytes_of s)) (command_of text) other f ≡ f s c
   said other f =
       ap (λ (o : Option DeviceState). with_both o (command_of text) other f) (state_told s is)
@@ -42,10 +42,9 @@ module _ (j : Journal) (r : Record) (is : IsDeviceState (state_in j r)) (text : 
       ap (λ (b : List ℕ). spot_made b (sum_if j.sum (entered s c))) after_is
       ∙ ap (λ (o : Option PlainEntry). spot_made (device_journal.after (spot_of j r).state text) (sum_if j.sum o)) entry_is
 
--- ---- a command of the standard
+-- ---- a TPM command
 
--- A command of the standard arrived at this moment, and was executed when the host's clock showed
--- `clock`.
+-- A TPM command arrived at this moment, and was executed when the host's clock showed `clock`.
 module _ (j : Journal) (r : Record) (is : IsDeviceState (state_in j r)) (text : List ℕ) (moment : Moment) (locality : ℕ) (completes : Bool)
     (random buffer : List ℕ) (read : command_of text ≡ Ok (kept.Executes moment locality completes random buffer)) (seen : Seen) (clock : ℕ)
     (told : clock ≡ clock_at moment j.time)

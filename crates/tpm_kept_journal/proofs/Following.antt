@@ -233,7 +233,8 @@ abbrev pub Tells : Option FollowFault → Option (Spot × ℕ) → Spot → (tak
 Tells None found p taken = found ≡ Some (p, taken)
 Tells (Some fault) found p taken = found ≡ None
 
--- The walk over these entries and a rest agrees with the fault that was found, if any.
+-- The walk over these entries and the bytes after them fails if there is a fault, and otherwise
+-- ends at the position after the entries.
 told_by : (fault : Option FollowFault) (performances : List Performance) (before : Journal) (old : Record) (after : Journal) (new : Record) (taken : ℕ)
     (left text : List ℕ) → IsDeviceState (state_in before old) → AllByRecursion IsEntry (map entry_in performances)
     → LeadsBy false before old performances after new → AnswersAre fault (map response_sum performances) (map answer_said performances)

@@ -110,7 +110,7 @@ pub head_starts : (h : PlainHead) (rest : List ℕ) → HasHead h.kind h.clock h
     → started_at (text_of_head h ++ rest) ≡ spot_by (length (text_of_head h)) (start_by h.kind h.clock h.content)
 head_starts h rest has = head_first h.kind h.clock h.content rest ∙ ap started_by (head_again h rest has)
 
--- The head of a text's state starts the device in that state.
+-- The head that contains a text's state starts the device in that state.
 state_starts : (text : List ℕ) (is : IsWritable text)
     → spot_by (length (head_text State (time_in text) (content_in text))) (start_by State (time_in text) (content_in text))
     ≡ Some (spot_made text (head_sum (time_in text) (content_in text)), length (head_text State (time_in text) (content_in text)))

@@ -1,4 +1,4 @@
--- All numbers that a completing layer stores fit 64 bits, also after each command.
+-- All numbers that a completing layer stores fit in 64 bits, before and after each command.
 use Rattle.std.proofs.Common.{◌≡◌, ◌<◌, ◌+◌, ◌-◌, ◌^◌, ◌==◌, ℕ, zero, suc, Bool, true, false, cond, List, length, replicate, get_or, Option, Some, None, Result, Ok, Err, refl, subst, sym, ◌∙◌, arith, inl, inr, length-set, ltb-true}
 use Rattle.std.specs.Prelude.{nat_lt}
 use Rattle.std.specs.List.{All}
@@ -36,7 +36,7 @@ use Rattle.tpm_completion.specs.declared.capability.Asked.{Asked}
 use Rattle.tpm_completion.specs.declared.completion.Completion.{Completion}
 use Rattle.tpm_completion.specs.declared.context.Token.{Token}
 
--- A layer is valid: it has a slot for each session, and its numbers fit 64 bits.
+-- A layer is valid: it has a slot for each session, and its numbers fit in 64 bits.
 abbrev pub IsFine : Completion → Type 0
 IsFine c = IsLayer (layer_of c)
 
@@ -103,7 +103,7 @@ counted_fine c number is small = record {
 abbrev LeavesFine : Reply → Type 0
 LeavesFine x = IsFine x.after
 
--- If there is a number, it fits 64 bits.
+-- If there is a number, it fits in 64 bits.
 abbrev IsSmall : Option ℕ → Type 0
 IsSmall (Some number) = number < 2 ^ 64
 IsSmall None = Unit {0}

@@ -39,7 +39,7 @@ drawn_told : (r : Record) (random : List ℕ) (a : Result Accepted RefusedComman
 drawn_told r random (Ok a) = refl
 drawn_told r random (Err e) = refl
 
--- A command draws at most as many random bytes as there are.
+-- A command draws at most as many random bytes as are available.
 drawn_of_those : (random : List ℕ) (a : Result Accepted RefusedCommand) → drawn_by_command random a 0 ≤ length random
 drawn_of_those random (Ok a) = omega arith
 drawn_of_those random (Err e) = omega arith
@@ -72,7 +72,7 @@ module _ (c : Completion) (old : Record) (buffer : List ℕ) (locality elapsed :
       ap (seen_made c here) (steps_alike old buffer locality elapsed random other agree false)
       ∙ ap (λ (n : ℕ). seen_made c (λ (x : Stepped). n) (step old (event random))) draws
 
-  -- Zeros after the drawn bytes leave those bytes as they are.
+  -- Replacing the random bytes after the drawn ones by zeros does not change the drawn bytes.
   zeros_agree : length random ≡ 256 → AgreeOnDrawn old buffer locality elapsed random (zeros_behind drawn random)
   zeros_agree all = (
     length-append (take drawn random) (replicate (256 - drawn) 0)
@@ -90,7 +90,8 @@ module _ (c : Completion) (old : Record) (buffer : List ℕ) (locality elapsed :
   pub few_drawn : (passed c old (event random)).drawn ≤ length random
   few_drawn = omega (arith, passed_drawn, drawn_few)
 
-  -- If a command draws no random bytes, any others of the same number have the same effect.
+  -- If a command draws no random bytes, its effect is the same with other random bytes of the same
+  -- number.
   pub passed_anyhow : (other : List ℕ) → drawn ≡ 0 → length other ≡ length random → passed c old (event other) ≡ passed c old (event random)
   passed_anyhow other none as_long =
       passed_alike other (as_long, ap (λ (n : ℕ). take n other) none ∙ ap (λ (n : ℕ). take n random) (sym none))
@@ -149,7 +150,7 @@ module _ (c : Completion) (old : Record) (buffer : List ℕ) (locality elapsed :
   abbrev first : Seen
   first = passed c old (Given buffer locality elapsed random)
 
-  -- Loading a context, or refusing it, draws at most as many random bytes as there are.
+  -- Loading a context, or refusing it, draws at most as many random bytes as are available.
   few_content : (content : Result Object ContextFault) → (loaded_behind first content).drawn ≤ length random
   few_content (Ok object) = omega arith
   few_content (Err fault) = few_drawn c old buffer locality elapsed random
@@ -158,7 +159,8 @@ module _ (c : Completion) (old : Record) (buffer : List ℕ) (locality elapsed :
   few_behind (Some context) = few_content (opened_behind first context)
   few_behind None = few_drawn c old buffer locality elapsed random
 
-  -- The device's effect stays the same with zeros after the bytes that the whole command draws.
+  -- The device's effect stays the same if zeros replace the random bytes after those that the whole
+  -- command draws.
   first_again : (asked : Option (List ℕ)) → asked_behind first buffer ≡ asked
       → passed c old (Given buffer locality elapsed (zeros_behind (done_behind first buffer asked).drawn random)) ≡ first
   first_again None is = passed_again c old buffer locality elapsed random first.drawn refl all

@@ -79,7 +79,7 @@ front_ends bound p q taken n text leads ends =
     nothing (suc more) less here =
         walk_ends more p taken [] (found_torn p [] ((is_torn_text-Decides p.chain []).1 (torn_nothing p.chain))) ∙ here
 
--- If the text begins with an entry, that entry is executed too.
+-- If the text begins with an entry, the executed bytes begin with that entry.
 front_goes : (p q s : Spot) (taken n : ℕ) (e : PlainEntry) (rest text : List ℕ) → IsEntry e → text ≡ entry_text p.chain e ++ rest
     → performed_on p.chain e (state_of_bytes p.state) ≡ Some s → IsFront s q (taken + length (entry_text p.chain e)) n rest
     → IsFront p q taken n text

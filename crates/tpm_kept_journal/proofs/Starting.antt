@@ -61,7 +61,7 @@ powered_record kept is = record {
   restart_count = is.state.restart_count;
 }
 
--- A time of 64 bits, a valid layer and a valid record form a state.
+-- A time of 64 bits, a valid layer and a valid record form a valid state.
 pub device_is : (time : ℕ) (layer : Completion) (device : Record) → time < 2 ^ 64 → IsFine layer → IsRecord device
     → IsDeviceState (record { time = time; layer = layer; device = device })
 device_is time layer device small fine is = record {
@@ -115,7 +115,7 @@ module _ (text : List ℕ) (kind : HeadKind) (clock : ℕ) (content rest : List 
   behind found is =
       ap (opened_behind text) (ap started_at begins.is ∙ head_starts head_of_text rest begins.has ∙ is)
 
-  -- If the head starts a device, opening the text executes the rest from it.
+  -- If the head starts a device, opening the text makes this device execute the rest.
   pub opens_by : (start : Start) → start_by kind clock content ≡ Ok start
       → opened_text text ≡ walked (spot_of start.journal start.device) (length head) rest
   opens_by start is =
@@ -144,7 +144,7 @@ opens_none text are none = ap (opened_behind text) (started_none text are none)
 
 -- ---- the result of opening a text
 
--- If executing a text's entries had this result, `opened_text` agrees with it.
+-- `opened_text` agrees with the result of executing the text's entries.
 read_so : (text : List ℕ) (followed : Followed) (journal : Journal) (new : Record) (reads : Reads text followed journal new)
     → Tells followed.fault (opened_text text) (spot_of journal new) (length (head_text reads.starts.kind reads.starts.clock reads.starts.content) + followed.taken)
 read_so text followed journal new reads =

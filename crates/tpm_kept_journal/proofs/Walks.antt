@@ -98,7 +98,8 @@ module _ (p : Spot) (c : List ℕ) (found : IsEntered c) where
   abbrev entry : DeviceState → PlainEntry
   entry s = entry_of (command s) (effect s (command s))
 
-  -- the result if the position's text encodes a state, and if it does not
+  -- `with_both` applies the function `f` if the position's text encodes a state, and otherwise
+  -- returns `other`
   said : {X : Type 0} (other : X) (f : DeviceState → KeptCommand → X) (s : DeviceState) → state_of_bytes p.state ≡ Some s
       → with_both (state_of_bytes p.state) (command_of c) other f ≡ f s given_command
   said other f s is =
@@ -154,8 +155,8 @@ all p cs = entries device_journal p cs
 abbrev pub end_of : Spot → List (List ℕ) → Spot
 end_of p cs = trail device_journal p cs
 
--- If a walk over the entries of later commands is right, so is a walk that begins with an earlier
--- one.
+-- If walking over the entries of `cs` gives the right position, so does walking over the entry of
+-- `c` and then those of `cs`.
 walk_led : (c : List ℕ) (cs : List (List ℕ)) (bound : ℕ) (p : Spot) (taken : ℕ) (tail : List ℕ)
     → ((bound taken : ℕ) → length (all (stepped device_journal p c) cs ++ tail) < bound
     → walk bound (stepped device_journal p c) taken (all (stepped device_journal p c) cs ++ tail)

@@ -12,10 +12,10 @@ pub data Moment : Type 0 where
   At : (now : ℕ) → Moment
   After : (elapsed : ℕ) → Moment
 
--- A command. `Executes`: a command of the standard, with its moment, its locality, whether the
--- completing layer is used, 256 random bytes, and its buffer. `Cycles`: a power cycle at this time
--- of the host's clock; `start` has no effect, since the completing layer keeps its start number.
--- `Begins`: the device is replaced by one with this seed, for example to restore a snapshot.
+-- A command. `Executes`: a TPM command, with its moment, its locality, whether the completing layer
+-- is used, 256 random bytes, and its buffer. `Cycles`: a power cycle at this time of the host's
+-- clock; `start` has no effect, since the completing layer keeps its start number. `Begins`: the
+-- device is replaced by one with this seed, for example to restore a snapshot.
 pub data KeptCommand : Type 0 where
   Executes : Moment → (locality : ℕ) → (completes : Bool) → (random buffer : List ℕ) → KeptCommand
   Cycles : (now start : ℕ) → KeptCommand
@@ -24,8 +24,8 @@ pub data KeptCommand : Type 0 where
 abbrev pub is_locality : ℕ → Bool
 is_locality number = nat_le number 4
 
--- the command of the standard that a text encodes, without its moment: a byte for the locality, a
--- byte for the completing layer, the random bytes, and the buffer
+-- the TPM command that a text encodes, without its moment: a byte for the locality, a byte for the
+-- completing layer, the random bytes, and the buffer
 unfoldable pub executed_in : Moment → List ℕ → Result KeptCommand Malformed
 executed_in moment text = do
   locality ← passing is_locality (number_in w8) text
@@ -82,7 +82,7 @@ abbrev pub is_entered_read : Result KeptCommand Malformed → Bool
 is_entered_read (Ok (Executes moment locality completes random buffer)) = true
 is_entered_read c = false
 
--- A command of the standard has a locality from 0 to 4, 256 random bytes, and a buffer of bytes.
+-- A TPM command has a locality from 0 to 4, 256 random bytes, and a buffer of bytes.
 abbrev pub IsGiven : KeptCommand → Type 0
 IsGiven (Executes moment locality completes random buffer) =
     (locality ≤ 4) × (length random ≡ 256) × AreBytes random × AreBytes buffer

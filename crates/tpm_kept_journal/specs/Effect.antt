@@ -16,8 +16,8 @@ use Rattle.tpm_kept_journal.specs.State.{DeviceState, bytes_of, state_of_bytes}
 
 -- ---- the effect of a command on a state
 
--- the time on the host's clock when a command arrives; `time` is that of the previous command. It
--- fits 64 bits
+-- the time on the host's clock when a command arrives, if the previous command arrived at `time`.
+-- It fits in 64 bits
 abbrev pub clock_at : Moment → (time : ℕ) → ℕ
 clock_at (At now) time = now
 clock_at (After elapsed) time = time_after time elapsed
@@ -28,8 +28,7 @@ abbrev pub command_on : DeviceState → Moment → (locality : ℕ) → (complet
 command_on s moment locality completes random buffer =
     command_at buffer locality (elapsed_of (clock_at moment s.time) s.time) completes random
 
--- the effect of a command of the standard, with or without the completing layer, if no allocation
--- fails
+-- the effect of a TPM command, with or without the completing layer, if no allocation fails
 abbrev pub effect : DeviceState → Command → Seen
 effect s c = completed c.completes s.layer s.device (given c)
 
@@ -51,8 +50,8 @@ abbrev pub begun_or : Option DeviceState → DeviceState → DeviceState
 begun_or (Some begun) s = begun
 begun_or None s = s
 
--- the state after a command of the standard, a power cycle, or the replacement of the device. If
--- the replacement is refused, the state stays the same
+-- the state after a TPM command, a power cycle, or the replacement of the device. If the
+-- replacement is refused, the state stays the same
 abbrev pub moved : DeviceState → KeptCommand → DeviceState
 moved s (Executes moment locality completes random buffer) =
     let c = command_on s moment locality completes random buffer in
@@ -69,8 +68,8 @@ report_of seen =
 abbrev pub reported : Seen → List ℕ
 reported seen = report_of seen ++ seen.step.response
 
--- the response: for a command of the standard, its report and the device's response; for a power
--- cycle, nothing; for the replacement of the device, one byte, which is 1 if it succeeded
+-- the response: for a TPM command, its report and the device's response; for a power cycle,
+-- nothing; for the replacement of the device, one byte, which is 1 if it succeeded
 abbrev pub answer : DeviceState → KeptCommand → List ℕ
 answer s (Executes moment locality completes random buffer) =
     reported (effect s (command_on s moment locality completes random buffer))
@@ -86,7 +85,7 @@ entered s c = None
 
 -- ---- the effect of a command, as functions of texts
 
--- the result of a function of the decoded state and command; `other` if either of them was not
+-- the result of a function of the decoded state and command; `other` if either of them could not be
 -- decoded
 abbrev pub with_both : {X : Type 0} → Option DeviceState → Result KeptCommand Malformed → (other : X)
     → (DeviceState → KeptCommand → X) → X
@@ -104,8 +103,8 @@ response_to state command = with_both (state_of_bytes state) (command_of command
 abbrev pub entry_at_spot : Spot → (command : List ℕ) → Option PlainEntry
 entry_at_spot p command = with_both (state_of_bytes p.state) (command_of command) None entered
 
--- the text of an entry, and the checksum after it; without an entry, no text and the checksum
--- before
+-- the text of an entry, and the checksum after it; if there is no entry, the text is empty and the
+-- checksum stays the same
 abbrev pub text_if : (sum : ℕ) → Option PlainEntry → List ℕ
 text_if sum (Some e) = entry_text sum e
 text_if sum None = []

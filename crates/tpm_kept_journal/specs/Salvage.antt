@@ -7,7 +7,7 @@ use Rattle.tpm_kept_journal.specs.Opening.{opened_text}
 use Rattle.tpm_kept_journal.specs.texts.EntriesAt.{entries_at}
 use Rattle.tpm_kept_journal.specs.texts.HeadAt.{PlainHead, head_at, text_of_head}
 
--- the size of the entries at the start of a text; `sum` is the checksum of the marks before them
+-- the size of the entries at the start of a text; `sum` is the checksum before them
 abbrev pub entries_size : (sum : ℕ) → List ℕ → ℕ
 entries_size sum text = length (entries_text sum (entries_at sum text))
 

@@ -1,4 +1,4 @@
--- The seed with which a device begins, as a text: random bytes, an image, or a state text.
+-- The seed from which a device is created, as a text: random bytes, an image, or a state text.
 use Rattle.std.specs.Prelude.{ℕ, ◌==◌, List, length, if◌then◌else◌, Option, Some, None, Result, Ok, Err}
 use Rattle.std.specs.Int.{w8, w64}
 use Rattle.tpm_bytes.specs.Reading.{◌>>=◌}
@@ -52,7 +52,7 @@ state_opened seed (Err why) = None
 
 -- the layer of a device that is restored from a state text. It gets a new start number, because the
 -- original device may have made more contexts since, with sequence numbers that this device uses
--- again. So contexts that were made before do not load
+-- again. Therefore, contexts that were made before do not load
 abbrev pub layer_restored : (start : ℕ) → Option Layer → Completion
 layer_restored start (Some layer) = record (completion_of (Some layer)) { start = start }
 layer_restored start None = new_completion start

@@ -103,8 +103,8 @@ pub fn entries_at_laws()
         ≡ entries ++ entries_at (sum_after_all sum entries) rest }
 {}
 
-/// If a text starts a journal, `start_at` returns the start that its head determines. If it does
-/// not, `start_at` returns the fault that prevents it.
+/// If a text starts a journal, `start_at` returns the device and the journal that its head
+/// determines. If it does not, `start_at` returns the fault that prevents it.
 #[inline(always)]
 pub fn start_at_laws()
     ensures starts { (text : List ℕ) (start : Start) (rest : List ℕ)

@@ -226,8 +226,8 @@ fn create(rt: &HostRuntime, path: &str) -> io::Result<File> {
 }
 
 /// Syncs the parent of this folder to the disk, and returns whether it did. If the user may not
-/// read the parent, it cannot be opened, and so not synced. This is a failure only if this process
-/// created the folder.
+/// read the parent, the parent cannot be opened and therefore not synced. This is a failure only if
+/// this process created the folder.
 fn force_above(rt: &HostRuntime, path: &str, was_made: bool) -> io::Result<bool> {
     let above = format!(in rt.alloc(); "{path}/..")?;
     match fs::open(rt, above.as_str()) {

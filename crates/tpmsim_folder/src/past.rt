@@ -7,7 +7,7 @@ use std::io::ErrorKind;
 use std::{fs, io};
 
 /// Links the journal, which is about to be replaced, as journal.1. Before that, each journal below
-/// the first free number is renamed to the next number. So at most `count` journals stay.
+/// the first free number is renamed to the next number. Therefore, at most `count` journals stay.
 pub(crate) fn keep_past(rt: &HostRuntime, folder: &Folder, count: u32) -> Result<(), KeptFault> {
     if count == 0 || !is_unlinked(rt, folder)? {
         return Ok(());

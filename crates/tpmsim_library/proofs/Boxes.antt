@@ -17,7 +17,7 @@ pub mod Words
 pub mod Calls
 pub mod Held
 
--- a device, as the argument of a generic function
+-- the type of a device, as an argument of a generic function
 abbrev pub Content : RattleType
 Content = arg (bare (layout device.the_row)) no device.the_row
 

@@ -22,8 +22,8 @@ use Rattle.tpmsim_library.specs.declared.device.Answered.{Answered}
 use Rattle.tpmsim_library.specs.declared.keeper.DeviceKeeper.{DeviceKeeper}
 use Rattle.tpmsim_library.specs.declared.request.Request.{Request}
 
--- the state of a keeper in the definitions of tpm_keeping: with the call that begins again after a
--- cut; and without that call
+-- the state of a keeper in the definitions of tpm_keeping: `call_of` includes the call that begins
+-- again after a cut, and `view_of` does not
 abbrev pub call_of : DeviceKeeper → Caller
 call_of keeper = caller_of (λ device. spot_in device.parts.value) keeper.keeper
 
@@ -114,8 +114,8 @@ abbrev pub drops_damage : Job → Bool
 drops_damage Cut = true
 drops_damage job = false
 
--- the response that may be sent if the job executed a command; and if the job returned the state
--- text
+-- the response that may be sent: of a job that executes a command (`if_executed`), and of one that
+-- returns the state text (`if_shown`)
 abbrev pub if_executed : Job → List ℕ → List ℕ
 if_executed Execute response = response
 if_executed job response = []
@@ -138,14 +138,14 @@ content_of None = []
 abbrev pub content_at : List ℕ → List ℕ
 content_at text = content_of (head_at text)
 
--- An answer to a command of the standard: its code, check and number of random bytes are reported,
--- and its response is at the start of a buffer.
+-- An answer to a TPM command: its code, check and number of random bytes are reported, and its
+-- response is at the start of a buffer.
 abbrev pub IsAnswer : PlainAnswer → (buffer : List ℕ) → Answered → Type 0
 IsAnswer a buffer answered =
     (answered.code ≡ a.code) × (answered.check ≡ a.check) × (answered.drawn ≡ a.drawn)
     × (take answered.size buffer ≡ a.response)
 
--- the request for a task that needs only its number
+-- the request for a task that has no parameters
 abbrev pub task_of : (task : ℕ) → Request
 task_of task = record { cut = 0; at = 0; size = 0; task = task; fault = 0; drops = 0 }
 
@@ -174,7 +174,7 @@ abbrev pub request_of : Holder → Request
 request_of k =
     request_by (ask_of k) (drops_damage k.job) (length (text_of k)) (length (response_of k))
 
--- the request if there is no keeper: no task, and a fault that reports this
+-- the request for the case that there is no keeper: it has no task, and a fault that reports this
 abbrev pub no_request : Request
 no_request = record (task_of 0) { fault = 15 }
 

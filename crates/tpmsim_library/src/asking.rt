@@ -21,8 +21,8 @@ use std::alloc::Global;
 use tpm_kept_device::answer::read_answer;
 use tpm_types::Locality;
 
-/// Begins the execution of a command of the standard at this time of the host's clock. If
-/// `completes` is not 0, the completing layer is used. On failure nothing changes.
+/// Begins the execution of a TPM command at this time of the host's clock. If `completes` is not 0,
+/// the completing layer is used. On failure nothing changes.
 #[unsafe(no_mangle)]
 pub extern "C" fn tpmsim_keeper_execute(
     alloc: Global,
@@ -119,7 +119,7 @@ pub extern "C" fn tpmsim_keeper_seed(
 }
 
 /// Begins to restore a state text. Since the state replaces the device, damage in the old journal
-/// is cut. On failure nothing changes.
+/// is cut off. On failure nothing changes.
 #[unsafe(no_mangle)]
 pub extern "C" fn tpmsim_keeper_restore(
     alloc: Global,
@@ -148,8 +148,8 @@ pub extern "C" fn tpmsim_keeper_restore(
     }
 }
 
-/// Writes the response to a command of the standard to the start of a buffer. Returns NO_ANSWER,
-/// and writes nothing, if the latest call executed no command or is not done.
+/// Writes the response to a TPM command to the start of a buffer. Returns NO_ANSWER, and writes
+/// nothing, if the latest call executed no command or is not done.
 #[unsafe(no_mangle)]
 pub extern "C" fn tpmsim_keeper_answer(
     alloc: Global,

@@ -178,8 +178,8 @@ impl Device {
             .snapshot_into(&self.machine, Some(&layer), buffer)
     }
 
-    /// Restores the device of a state text, or returns the first error in the text; NoMemory if an
-    /// allocation fails, for any text.
+    /// Restores the device of a state text, or returns the first error in the text. Returns
+    /// NoMemory if an allocation fails, whatever the text is.
     pub fn restored(alloc: Global, text: &[u8]) -> Result<Box<Device>, RestoreFault>
         ensures { RestoresDevice (λ b. b.value) text.now result }
     {
@@ -190,8 +190,8 @@ impl Device {
         Ok(device)
     }
 
-    /// Turns a new device of zeros into the device of a state text. On error the device is
-    /// unspecified.
+    /// Turns a new device, whose secrets are zeros, into the device of a state text. On error the
+    /// device is unspecified.
     fn restore(&mut self, text: &[u8]) -> Result<(), RestoreFault>
         requires { record_of self.old ≡ manufactured (replicate 256 0) }
         ensures { RestoresDevice (λ done. self.new) text.now result }
@@ -216,7 +216,7 @@ impl Device {
             .begin(&mut self.machine, now_ms, &mut self.outcome, room)
     }
 
-    /// Returns the clock for a checkpoint at this time: the journal's clock, or the host's if no
+    /// Returns the clock for a checkpoint at this time: the journal's clock, or `now_ms` if no
     /// journal has been started yet.
     fn checkpoint_clock(&self, now_ms: u64) -> u64
         ensures { result ≡ checkpoint_clock self.now now_ms }
@@ -258,8 +258,8 @@ impl Device {
         }
     }
 
-    /// Turns a new device of zeros into the device of a journal; returns the size of the head and
-    /// the entries in the text. On error the device is unspecified.
+    /// Turns a new device, whose secrets are zeros, into the device of a journal; returns the size
+    /// of the head and the entries in the text. On error the device is unspecified.
     fn open_in_place(&mut self, text: &[u8]) -> Result<usize, OpenFault>
         requires { record_of self.old ≡ manufactured (replicate 256 0) }
         ensures opens { IfOk result (λ taken. IsOfJournal text.now taken self.new) }

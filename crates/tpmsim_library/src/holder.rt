@@ -71,5 +71,5 @@ impl Holder {
     }
 }
 
-/// The device may be used and freed by another thread than the one that created it.
+/// The device may be used and freed by a thread other than the one that created it.
 unsafe impl Send for Holder {}

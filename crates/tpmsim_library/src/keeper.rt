@@ -27,7 +27,7 @@ use tpm_types::Locality;
 #[derive(Drop)]
 pub struct DeviceKeeper {
     keeper: CuttingKeeper<KeptDevice>,
-    /// Whether calls cut damage in the journal.
+    /// Whether calls cut off damage in the journal.
     cuts: bool,
 }
 
@@ -43,7 +43,7 @@ impl DeviceKeeper {
         }
     }
 
-    /// Sets whether later calls cut damage in the journal, or refuse a damaged journal.
+    /// Sets whether later calls cut off damage in the journal, or refuse a damaged journal.
     pub fn set_cuts(&mut self, cuts: bool)
         ensures { self.new ≡ record self.old { cuts = cuts } }
     {
@@ -61,7 +61,7 @@ impl DeviceKeeper {
         self.keeper.begin(self.cuts, job, text)
     }
 
-    /// Begins the execution of a command of the standard at this time of the host's clock.
+    /// Begins the execution of a TPM command at this time of the host's clock.
     pub fn execute(
         &mut self,
         alloc: Global,
@@ -114,7 +114,7 @@ impl DeviceKeeper {
     }
 
     /// Begins to restore a state text. Since the state replaces the device, damage in the old
-    /// journal is cut.
+    /// journal is cut off.
     pub fn restore(
         &mut self,
         alloc: Global,
@@ -183,8 +183,8 @@ impl DeviceKeeper {
         put_whole(self.response(), buffer)
     }
 
-    /// Returns the response to a command, if the latest call executed one and is done; otherwise no
-    /// bytes.
+    /// Returns the response to a command, if the latest call executed one and is done; otherwise an
+    /// empty slice.
     pub fn executed(&self) -> &[u8]
         ensures { result.now ≡ executed_by self.now }
     {

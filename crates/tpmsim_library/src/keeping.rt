@@ -83,7 +83,7 @@ pub extern "C" fn tpmsim_keeper_begin(
     }
 }
 
-/// Sets whether later calls cut damage in the journal (if `cuts` is not 0), or refuse a damaged
+/// If `cuts` is not 0, later calls cut off damage in the journal. If it is 0, they refuse a damaged
 /// journal.
 #[unsafe(no_mangle)]
 pub extern "C" fn tpmsim_keeper_cuts(alloc: Global, holder: &mut KeeperHolder, cuts: u8) -> u8

@@ -7,11 +7,12 @@
 //! `library/tpmsim.h` declares the exports for C, and documents what a caller must ensure.
 //!
 //! A [`Holder`](holder::Holder) is one pointer, null if there is no device, so zeroed memory is a
-//! valid holder. Each call accepts every holder, and most return a [number](told). If it is not 0,
-//! the call did nothing and left the holder unchanged, except that `tpmsim_journal_follow` has
-//! executed the entries before the error. A caller must only ensure that its buffers are where it
-//! says. A [`KeeperHolder`](keeper_holder::KeeperHolder) is the same for a keeper. Both consist of
-//! an [`Owner`](owner::Owner), which converts a box to a pointer and back.
+//! valid holder. Each call accepts every holder, and most return a [number](told). If this number
+//! is not 0, the call did nothing and left the holder unchanged, except that
+//! `tpmsim_journal_follow` has executed the entries before the error. A caller must only ensure
+//! that its pointers and sizes describe its buffers. A
+//! [`KeeperHolder`](keeper_holder::KeeperHolder) is the same for a keeper. Both consist of an
+//! [`Owner`](owner::Owner), which converts a box to a pointer and back.
 //!
 //! The contracts for commands and power cycles are those of tpm_machine, for images those of
 //! tpm_image, and for state texts those of tpm_snapshot. A keeper's steps are those of

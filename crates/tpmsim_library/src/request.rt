@@ -102,7 +102,7 @@ pub fn fault_of(number: u8) -> Option<Fault>
 }
 
 impl Request {
-    /// Returns the request for a task that needs only its number.
+    /// Returns the request for a task that has no parameters.
     fn task(task: u8) -> Request
         ensures { result ≡ task_of task }
     {
@@ -116,7 +116,8 @@ impl Request {
         }
     }
 
-    /// Returns the request if there is no keeper: no task, and a fault that reports this.
+    /// Returns the request for the case that there is no keeper: it has no task, and a fault that
+    /// reports this.
     pub fn none() -> Request
         ensures { result ≡ no_request }
     {

@@ -1,4 +1,5 @@
-//! The buffer in which a device's texts are written, before they are copied to the caller's buffer.
+//! The buffer into which a device's texts are written before they are copied to the caller's
+//! buffer.
 
 ghost use Rattle.std.specs.Prelude.{◌≡◌, ◌≤◌, option_copied};
 ghost use Rattle.tpm_image_text.specs.Image.{image_text};
@@ -20,7 +21,7 @@ use tpm_snapshot::Layer;
 use tpm_state_text::write_state;
 
 /// A buffer that is allocated once, because it is almost as large as a device. Each use clears it.
-/// It is no part of the device's state, so contracts do not mention its bytes.
+/// It is not part of the device's state, so contracts do not mention its bytes.
 #[derive(Drop)]
 pub struct Scratch {
     text: Text,

@@ -1,4 +1,4 @@
-//! Writes what a keeper returns to C's buffers.
+//! Writes to C's buffers what a keeper returns.
 
 ghost use Rattle.std.specs.Prelude.{◌≡◌, ◌≤◌, drop, length};
 ghost use Rattle.tpm_image_text.specs.Saving.{PutsFront};

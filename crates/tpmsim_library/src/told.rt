@@ -23,7 +23,7 @@ pub const NO_MEMORY: u8 = 3;
 /// No `Force`, or no `Job`, has the number that was passed.
 pub const NO_WORD: u8 = 19;
 
-/// The keeper has no answer to a command of the standard.
+/// The keeper has no answer to a TPM command.
 pub const NO_ANSWER: u8 = 20;
 
 /// Returns the error number for an image that cannot be opened.
@@ -66,7 +66,7 @@ pub fn restore_number(fault: RestoreFault) -> u8
     }
 }
 
-/// Returns DONE if a text was executed to its end, or the number of this error.
+/// Returns DONE if a text was executed to its end, and otherwise the number of the error.
 pub fn follow_number(fault: Option<FollowFault>) -> u8
     ensures { result ≡ follow_number fault }
 {

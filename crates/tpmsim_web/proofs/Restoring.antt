@@ -1,5 +1,5 @@
--- Restoring from the state text of a device yields that device, with its layer and its history.
--- From other texts, the reported error is the first one.
+-- Restoring from the state text of a device yields that device, with its layer and its history. For
+-- other texts, the reported error is the first one in the text.
 use Rattle.std.proofs.Common.{◌≡◌, ℕ, List, Err, sym, ap, subst, ◌∙◌}
 use Rattle.tpm_machine.specs.Follows.{Follows}
 use Rattle.tpm_machine.specs.History.{History}

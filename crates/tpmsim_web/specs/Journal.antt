@@ -29,7 +29,7 @@ use Rattle.tpmsim_web.specs.declared.device.Device.{Device}
 abbrev pub image_at_power : Device → List ℕ
 image_at_power device = image_text Two (kept_of (cycled (record_of device)))
 
--- The device was power-cycled, and its new journal starts at this clock.
+-- The device was power-cycled, and its new journal starts at the time `now`.
 pub record BeginsJournal (before : Device) (now : ℕ) (after : Device) : Type 0 where
   pub executes : Executes false (record_of before) Cycled (cycle_seen after)
   pub history : After Follows (record_of before) Cycled (cycle_seen after)
@@ -45,8 +45,8 @@ abbrev pub BeginsIfRoom : (before : Device) → (now room size : ℕ) → (after
 BeginsIfRoom before now room size after =
     (size ≤ room → BeginsJournal before now after) × (room < size → IsAsBefore before after)
 
--- the clock of a checkpoint at this time: the journal's clock, so that no time is lost; or the
--- host's if no journal has been started yet (its checksum is then 0)
+-- the clock that a checkpoint stores at the time `now`: the journal's clock, so that no time is
+-- lost; or `now` if no journal has been started yet (the checksum is then 0)
 abbrev pub checkpoint_clock : Device → (now : ℕ) → ℕ
 checkpoint_clock device now = if device.journal.sum == 0 then now else device.journal.time
 
@@ -92,8 +92,8 @@ abbrev pub journal_with : Journal → Completion → Journal
 journal_with journal layer = record journal { layer = layer }
 
 -- A device executed a command, with or without its completing layer. Its response is at the start
--- of one buffer, and its entry, `size` bytes long, at the start of another. The execution states
--- what the device executed, and which history it then follows.
+-- of one buffer, and its entry, `size` bytes long, at the start of another. `executes` states what
+-- the device executed, and which history it then follows.
 pub record Records (before : Device) (c : Command) (response : List ℕ) (answered : Answered)
     (size : ℕ) (entry : List ℕ) (after : Device) : Type 0
   where
@@ -105,7 +105,8 @@ pub record Records (before : Device) (c : Command) (response : List ℕ) (answer
     pub journal : after.journal ≡ journal_after before.journal
         (entry_of c (seen_in response answered after)) after.journal.layer
 
--- A device is that of a journal whose head and entries are `taken` bytes long.
+-- Opening this text as a journal gives this device. The journal's head and entries are `taken`
+-- bytes long.
 abbrev pub IsOfJournal : List ℕ → (taken : ℕ) → Device → Type 0
 IsOfJournal text taken device =
     IsJournal text (record { journal = device.journal; taken = taken }) (record_of device)

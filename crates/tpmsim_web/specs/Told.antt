@@ -49,7 +49,7 @@ abbrev pub restore_number : RestoreFault → ℕ
 restore_number (restore.Text fault) = state_number fault
 restore_number restore.NoMemory = no_memory
 
--- `done` if a text was executed to its end, or the number of this error
+-- `done` if a text was executed to its end, and otherwise the number of the error
 abbrev pub follow_number : Option FollowFault → ℕ
 follow_number None = done
 follow_number (Some follow.Damaged) = 11

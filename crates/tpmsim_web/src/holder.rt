@@ -94,7 +94,7 @@ impl Holder {
         mem::replace(self, Holder::empty(Lent)).into_box()
     }
 
-    /// Puts a device in.
+    /// Puts a device into the holder.
     pub fn put(&mut self, device: Box<Device, Lent>)
         ensures { self.new.device ≡ Some device.value }
     {

@@ -30,7 +30,7 @@ impl Device {
             .begin(&mut self.machine, now_ms, &mut self.outcome, buffer)
     }
 
-    /// Returns the clock for a checkpoint at this time: the journal's clock, or the host's if no
+    /// Returns the clock for a checkpoint at this time: the journal's clock, or `now_ms` if no
     /// journal has been started yet.
     fn checkpoint_clock(&self, now_ms: u64) -> u64
         ensures { result ≡ checkpoint_clock self.now now_ms }

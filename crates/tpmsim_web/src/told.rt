@@ -60,7 +60,7 @@ pub fn restore_number(fault: RestoreFault) -> u8
     }
 }
 
-/// Returns DONE if a text was executed to its end, or the number of this error.
+/// Returns DONE if a text was executed to its end, and otherwise the number of the error.
 pub fn follow_number(fault: Option<FollowFault>) -> u8
     ensures { result ≡ follow_number fault }
 {

@@ -22,7 +22,7 @@ pub fn wanted_text(bad: BadLine, line: &[u8]) -> &'static str
     }
 }
 
-/// Returns the words after `do` and its space.
+/// Returns the words after `do` and the space that follows it.
 fn words_of(line: &[u8]) -> &[u8]
     ensures { result.now ≡ drop 3 line.now }
 {

@@ -47,7 +47,7 @@ entries_again sum entries rest are last =
 
 -- ---- entries that were read
 
--- A text begins with these entries, and the rest begins with no entry.
+-- A text begins with these entries, and the rest does not begin with an entry.
 abbrev AreAt : (sum : ℕ) → List ℕ → List PlainEntry → Type 0
 AreAt sum text entries =
     AllByRecursion IsEntry entries × (text ≡ entries_text sum entries ++ after_entries sum entries text)

@@ -1,4 +1,4 @@
--- Lemmas about parts of a text and tests on it.
+-- Lemmas about reading and testing parts of a text.
 use Rattle.std.proofs.Common.{◌≡◌, ℕ, zero, suc, ◌*◌, ◌<◌, ◌≤◌, Bool, true, false, List, [], ◌∷◌, ◌++◌, length, take, drop, Option, Some, None, Result, Ok, Err, refl, ap, sym, ◌∙◌, arith}
 use Rattle.std.specs.Prelude.{Decides, nat_le, nat_lt}
 use Rattle.std.proofs.lemmas.Bool.{leb-true, le-leb}
@@ -66,7 +66,7 @@ read_are_bytes digits (Err fault) is = bytes_nil
 pub spelled_are_bytes : (digits : List ℕ) → AreBytes (spelled digits)
 spelled_are_bytes digits = read_are_bytes digits (decode_of digits) refl
 
--- If the digits of these bytes are at an offset of a text, `hex_at` reads these bytes.
+-- If the hex digits of these bytes are at an offset in a text, `hex_at` reads these bytes there.
 pub hex_is_at : (place count : ℕ) (text bytes : List ℕ) → AreBytes bytes → count ≡ length bytes
     → take (2 * length bytes) (drop place text) ≡ encode_lower bytes → hex_at place count text ≡ bytes
 hex_is_at place count text bytes are many at =

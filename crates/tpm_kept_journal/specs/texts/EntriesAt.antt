@@ -4,7 +4,7 @@ use Rattle.tpm_journal_text.specs.Entry.{PlainEntry, entry_text, sum_after}
 use Rattle.tpm_journal_text.specs.Journal.{entries_text}
 use Rattle.tpm_kept_journal.specs.texts.EntryAt.{entry_at}
 
--- the list of an entry and those after it; empty if there is no entry
+-- an entry and the entries after it; the empty list if there is no entry
 abbrev pub with_next : Option PlainEntry → (PlainEntry → List PlainEntry) → List PlainEntry
 with_next (Some e) following = e ∷ following e
 with_next None following = []
@@ -20,8 +20,8 @@ entries_up_to (suc most) sum text =
     with_next (entry_at sum text)
     (λ e. entries_up_to most (sum_after sum e) (after_entry sum e text))
 
--- the entries at the start of a text; `sum` is the checksum of the marks before the text. There are
--- at most as many entries as bytes
+-- the entries at the start of a text; `sum` is the checksum before the text. There are at most as
+-- many entries as bytes
 unfoldable pub entries_at : (sum : ℕ) → List ℕ → List PlainEntry
 entries_at sum text = entries_up_to (length text) sum text
 

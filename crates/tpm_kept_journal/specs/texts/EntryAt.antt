@@ -12,7 +12,7 @@ is_entry e =
     && ((nat_le (length e.drawn) 256 && are_bytes e.drawn)
     && (nat_le (length e.buffer) entry_limit && are_bytes e.buffer))
 
--- the mark of the entry at the start of a text, after the first word of its line
+-- the mark on the first line of a text that begins with an entry; it follows the line's first word
 unfoldable pub mark_in : List ℕ → List ℕ
 mark_in text = hex_at 2 mark_size text
 
@@ -27,8 +27,7 @@ entry_by mark text = record {
   answered = from_be_bytes w64 (take 8 (drop 18 mark));
 }
 
--- whether a text begins with exactly the text of this entry; `sum` is the checksum of the marks
--- before the text
+-- whether a text begins with exactly the text of this entry; `sum` is the checksum before the text
 abbrev pub begins_with_entry : (sum : ℕ) → List ℕ → PlainEntry → Bool
 begins_with_entry sum text e = is_entry e && begins_with text (entry_text sum e)
 

@@ -26,7 +26,7 @@ is_head h =
 unfoldable pub kind_in : List ℕ → HeadKind
 kind_in text = cond (begins_with text (head_word State)) State Image
 
--- the mark of the head at the start of a text, after the first word of its line
+-- the mark on the first line of a text that begins with a head; it follows the line's first word
 unfoldable pub head_mark_in : List ℕ → List ℕ
 head_mark_in text = hex_at 19 20 text
 

@@ -12,7 +12,7 @@ pub data PlainNext : Type 0 where
   Torn : PlainNext
   Damaged : PlainNext
 
--- what the code found, as plain values without their memory
+-- what the code found, as a value of the definitions
 abbrev pub plain_next : Next → PlainNext
 plain_next (next.Whole entry size sum) = Whole (plain_entry entry)
 plain_next next.Torn = Torn
@@ -24,7 +24,7 @@ next_by (Some e) is_torn = Whole e
 next_by None true = Torn
 next_by None false = Damaged
 
--- the entry at the start of a text, or why there is none; `sum` is the checksum of the marks before
+-- the entry at the start of a text, or why there is none; `sum` is the checksum before the text
 unfoldable pub next_at : (sum : ℕ) → List ℕ → PlainNext
 next_at sum text = next_by (entry_at sum text) (is_torn_text sum text)
 

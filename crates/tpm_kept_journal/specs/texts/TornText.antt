@@ -14,8 +14,7 @@ unfoldable pub without_zeros : List ℕ → List ℕ
 without_zeros [] = []
 without_zeros (byte ∷ text) = cond (are_zeros (byte ∷ text)) [] (byte ∷ without_zeros text)
 
--- whether a text begins with the line of its own mark; `sum` is the checksum of the marks before
--- the text
+-- whether a text begins with the line of its own mark; `sum` is the checksum before the text
 abbrev pub begins_with_mark : (sum : ℕ) → List ℕ → Bool
 begins_with_mark sum text = bytes_eq (take mark_line_size text) (mark_line sum (mark_in text))
 

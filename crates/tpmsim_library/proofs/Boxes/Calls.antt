@@ -53,7 +53,7 @@ use Rattle.tpmsim_library.specs.Held.{held}
 abbrev pub plain_drop : RattleType → Dict
 plain_drop R = impl ("tpmsim_library::Destruct++none::drop" ∷ []) (tcons (layout R) tnil) dnil
 
--- the two type arguments of a call, and the tables that accompany them
+-- the two type arguments of a call, and the dictionaries of their traits
 abbrev types_of : RattleType → Dicts → Args
 types_of T = bounded (a_type ∷ a_type ∷ []) (T, (Heap, tt))
 

@@ -1,5 +1,5 @@
--- A holder owns nothing if it is null, and otherwise the box of its device. Proofs about holders
--- use these lemmas to open and to make them.
+-- A holder owns nothing if it is null, and otherwise the box of its device. With these lemmas,
+-- proofs take holders apart and make them.
 use mathlib.Core.List.{List, [], ◌∷◌}
 use mathlib.Core.Path.{◌≡◌, refl}
 use Prim.Native.Nat.{ℕ}
@@ -32,7 +32,7 @@ abbrev pub owns_at : (T : RattleType) → Global → Ptr → Option T.Denot → 
 owns_at T alloc at found = held T alloc at found
 
 module _ (T : RattleType) {M : Type 1} {𝓤 : Ura M} (𝓛 : Logic 𝓤) where
-  -- What an opened holder owns is what its pointer owns, because its fields own nothing.
+  -- A holder owns what its pointer owns, because its fields themselves own nothing.
   pub owner_opened : (h : (OwnerRow T).Denot) (words : List Val) → ent 𝓤 (sem 𝓛 ((OwnerRow T).own_val h words)) (sem 𝓛 (owns_at T h.alloc h.at h.value))
   owner_opened h words = qed 𝓛 (‵ ((OwnerRow T).own_val h words) ∷ []) ∵ fsplit ! $ drop ! $ done !
 

@@ -22,7 +22,7 @@ use Rattle.std.proofs.alloc.Global.TheLaws as global_laws
 use Rattle.std.specs.contracts.alloc.Global as global
 use Rattle.std.specs.declared.alloc.Global.{Global}
 
--- the allocator, as the argument of a generic function
+-- the type of the allocator, as an argument of a generic function
 abbrev pub Heap : RattleType
 Heap = arg (bare (layout global.the_row)) no global.the_row
 
@@ -46,7 +46,7 @@ heap_told alloc words is = global_laws.the_told.tells alloc words is
 pub heap_typed : (alloc : Global) → T (has_ty (layout Heap) (heap_word alloc)) × WT (heap_word alloc)
 heap_typed alloc = (tt, ((tt, tt), tt))
 
--- a pointer has its type, whether it is null or not
+-- a pointer value has the type of pointers, whether it is null or not
 pub pointer_typed : (at : Ptr) → T (has_ty ty_ptr (ptr_val at)) × WT (ptr_val at)
 pointer_typed (block_ptr b o) = (tt, tt)
 pointer_typed null_ptr = (tt, record { fits = lit< tt })

@@ -54,7 +54,7 @@ use Rattle.tpmsim_web.specs.declared.device.Device.{Device}
 abbrev pub plain_drop : RattleType → Dict
 plain_drop R = impl ("tpmsim_web::Destruct++none::drop" ∷ []) (tcons (layout R) tnil) dnil
 
--- the two type arguments of a call, and the tables that accompany them
+-- the two type arguments of a call, and the dictionaries of their traits
 abbrev types_of : Dicts → Args
 types_of = bounded (a_type ∷ a_type ∷ []) (Content, (Source, tt))
 

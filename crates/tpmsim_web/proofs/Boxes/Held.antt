@@ -1,5 +1,5 @@
--- A holder owns nothing if it is null, and otherwise the box of its device. Proofs about holders
--- use these lemmas to open and to make them.
+-- A holder owns nothing if it is null, and otherwise the box of its device. With these lemmas,
+-- proofs take holders apart and make them.
 use mathlib.Core.List.{List, [], ◌∷◌}
 use mathlib.Core.Path.{◌≡◌, refl}
 use Prim.Native.Nat.{ℕ}
@@ -30,7 +30,7 @@ abbrev pub HolderRow : RattleType
 HolderRow = holder.the_row
 
 module _ {M : Type 1} {𝓤 : Ura M} (𝓛 : Logic 𝓤) where
-  -- What an opened holder owns is what its pointer owns, because its fields own nothing.
+  -- A holder owns what its pointer owns, because its fields themselves own nothing.
   pub holder_opened : (h : Holder) (words : List Val) → ent 𝓤 (sem 𝓛 (HolderRow.own_val h words)) (sem 𝓛 (held device.the_row h.alloc h.at h.device))
   holder_opened h words = qed 𝓛 (‵ (HolderRow.own_val h words) ∷ []) ∵ fsplit ! $ drop ! $ done !
 

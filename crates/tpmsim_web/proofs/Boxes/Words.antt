@@ -24,7 +24,7 @@ use Rattle.tpmsim_web.specs.declared.lent.Lent.{Lent}
 use Rattle.tpmsim_web.proofs.device.Device.TheLaws as device_laws
 use Rattle.tpmsim_web.specs.contracts.device.Device as device
 
--- the allocator and the device, as the arguments of a generic function
+-- the types of the allocator and the device, as arguments of a generic function
 abbrev pub Source : RattleType
 Source = arg (bare (layout lent.the_row)) no lent.the_row
 
@@ -54,7 +54,7 @@ source_told alloc words is = lent_laws.the_told.tells alloc words is
 pub source_typed : (alloc : Lent) → T (has_ty (layout Source) (source_word alloc)) × WT (source_word alloc)
 source_typed alloc = (tt, tt)
 
--- a pointer has its type, whether it is null or not
+-- a pointer value has the type of pointers, whether it is null or not
 pub pointer_typed : (at : Ptr) → T (has_ty ty_ptr (ptr_val at)) × WT (ptr_val at)
 pointer_typed (block_ptr b o) = (tt, tt)
 pointer_typed null_ptr = (tt, record { fits = lit< tt })

@@ -8,7 +8,7 @@ use Rattle.tpm_step.specs.Step.{Stepped}
 use Rattle.tpmsim_library.specs.State.{command_seen, record_of}
 use Rattle.tpmsim_library.proofs.calls.tpmsim_execute.Goals as goal
 
--- The event is that of the command, from the locality with this number.
+-- The executed event is the command, sent from the locality with this number.
 pub returns-clause-executes : goal.returns-clause-executes
 returns-clause-executes c =
     let before = c.deref_mut.result.now in

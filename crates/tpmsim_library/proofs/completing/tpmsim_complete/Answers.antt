@@ -6,7 +6,7 @@ use Rattle.tpmsim_library.specs.Journal.{seen_in}
 use Rattle.tpmsim_library.specs.State.{record_of}
 use Rattle.tpmsim_library.proofs.completing.tpmsim_complete.Goals as goal
 
--- The event is that of the command, from the locality with this number.
+-- The executed event is the command, sent from the locality with this number.
 pub returns-clause-completes : goal.returns-clause-completes
 returns-clause-completes c =
     let before = c.deref_mut.result.now in

@@ -11,7 +11,7 @@ use Rattle.std.specs.Prelude.{take}
 use Rattle.tpmsim_web.specs.State.{command_seen, record_of}
 use Rattle.tpmsim_web.proofs.calls.device_execute.Goals as goal
 
--- The event is that of the command, from the locality with this number.
+-- The executed event is the command, sent from the locality with this number.
 pub returns-clause-executes : goal.returns-clause-executes
 returns-clause-executes c =
     let before = c.deref_mut.result.now in

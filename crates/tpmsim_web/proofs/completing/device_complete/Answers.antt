@@ -6,7 +6,7 @@ use Rattle.tpmsim_web.specs.Journal.{seen_in}
 use Rattle.tpmsim_web.specs.State.{record_of}
 use Rattle.tpmsim_web.proofs.completing.device_complete.Goals as goal
 
--- The event is that of the command, from the locality with this number.
+-- The executed event is the command, sent from the locality with this number.
 pub returns-clause-completes : goal.returns-clause-completes
 returns-clause-completes c =
     let before = c.deref_mut.result.now in

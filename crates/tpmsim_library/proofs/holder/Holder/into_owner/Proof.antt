@@ -29,7 +29,7 @@ Passed = device_holder.the_row
 abbrev Given : RattleType
 Given = OwnerRow device.the_row
 
--- nothing remains of the holder that was passed
+-- the holder that was passed is consumed
 abbrev stays : Stays promise.ended.signature.params promise.ended.kept
 stays = (stay_dropped (plain (λ _. Passed)) yes, tt)
 
@@ -41,7 +41,7 @@ into_owner_spec 𝓤 𝓛 𝓜 𝓡 wired =
     let h = a.0 in let w : Val = word h.at h.alloc in
     let y : (walk_of 𝓛 promise.ended stays clauses).Ghost = ((κs, qs, bounds, a, (w ∷ [], tt)), tt) in
     let made : Given.Denot = record { at = h.at; alloc = h.alloc; value = h.device } in
-    -- Context: what the holder owned.
+    -- The context contains what the holder owned.
     qed 𝓛 ((‵ ftrue ⊛ ‵ (fsep (Passed.own_val h (w ∷ [])) ftrue)) ∷ raw ((clauses κs a).requires tt) ∷ []) ∵ split ! $ drop ! $ fsplit ! $ keep ! (0 ∷ []) $
     fsplit ! $ drop ! $
     enter ! _ _ _ _ _ $ alloc_all ! (λ l. pass_all ! refl (word_typed h.at h.alloc, tt) $

@@ -20,7 +20,7 @@ use Rattle.tpmsim_web.proofs.holder.Holder.empty.Code as code
 use Rattle.tpmsim_web.proofs.holder.Holder.empty.Statement.{statement}
 use Rattle.tpmsim_web.specs.contracts.holder.Holder.empty as promise
 
--- nothing remains of the allocator that was passed
+-- the allocator that was passed is consumed
 abbrev stays : Stays promise.ended.signature.params promise.ended.kept
 stays = (stay_dropped (plain (λ _. lent.the_row)) yes, tt)
 

@@ -34,7 +34,7 @@ use Rattle.tpmsim_web.specs.Held.{held}
 use Rattle.tpmsim_web.specs.contracts.device.Device as device
 use Rattle.tpmsim_web.specs.contracts.holder.Holder.into_box as promise
 
--- nothing remains of the holder that was passed
+-- the holder that was passed is consumed
 abbrev stays : Stays promise.ended.signature.params promise.ended.kept
 stays = (stay_dropped (plain (λ _. HolderRow)) yes, tt)
 
@@ -53,7 +53,7 @@ into_box_spec 𝓤 𝓛 𝓜 𝓡 wired =
     (code.unfolded 𝓤 𝓛.H 𝓜 𝓡 wired) (λ κs. ((λ h. word h.at h.alloc ∷ []), tt)) (λ κs. ((λ h ws is. word_told h.at h.alloc ws is.0), tt)) (λ κs qs bounds a _ are.
     let h = a.0 in let w : Val = word h.at h.alloc in let W = walk_of 𝓛 promise.ended stays clauses in let Out : RattleType = type_at promise.ended.signature.result κs in
     let y : W.Ghost = ((κs, qs, bounds, a, (w ∷ [], tt)), tt) in
-    -- Context: what the holder owned.
+    -- The context contains what the holder owned.
     qed 𝓛 ((‵ ftrue ⊛ ‵ (fsep (HolderRow.own_val h (w ∷ [])) ftrue)) ∷ raw ((clauses κs a).requires tt) ∷ []) ∵ split ! $ drop ! $ fsplit ! $ keep ! (0 ∷ []) $
     use1 𝓛 (‵ (held device.the_row h.alloc h.at h.device)) (holder_opened 𝓛 h (w ∷ [])) $
     by_device ! h.alloc h.at h.device
@@ -65,7 +65,7 @@ into_box_spec 𝓤 𝓛 𝓜 𝓡 wired =
     first ! $ branches ! (get ! refl)
     (λ _. sets ! (agg ! (and_then ! (lit ! tt) (no_more !))) refl (tt, (record { fits = lit< tt }, tt)) $
     returns_within ! (W.post y) refl (look_at ! 0 refl) $ free_all ! refl $
-    -- Context: nothing, which is all that None owns.
+    -- The context is empty, because None owns nothing.
     use0 𝓛 (‵ (Out.own_val None (live 0 vnil ∷ []))) (none_of 𝓛 BoxRow) $
     suffices ! _ (ends_at 𝓛 promise.ended stays clauses y (live 0 vnil) None (tt, tt) (tt, tt)) $ says ! none $
     nothing ! $ nothing ! $ join ! $ nothing ! $ group ! 3 $ done !)

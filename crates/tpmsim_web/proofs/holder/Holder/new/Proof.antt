@@ -42,7 +42,7 @@ DeviceRow = device.the_row
 abbrev PlaceRow : RattleType
 PlaceRow = place.the_row
 
--- nothing remains of the place and the device that were passed
+-- the place and the device that were passed are consumed
 abbrev stays : Stays promise.ended.signature.params promise.ended.kept
 stays = (stay_dropped (plain (λ _. PlaceRow)) yes, (stay_dropped (plain (λ _. DeviceRow)) yes, tt))
 
@@ -74,7 +74,8 @@ new_spec 𝓤 𝓛 𝓜 𝓡 wired =
     let typed : T (has_ty (layout DeviceRow) w) × WT w = (subst (Typed (layout DeviceRow ∷ [])) device_is ((content_laws.lawful 𝓛).typed device y.0.4.1.0 are.1.0)).0 in
     subst (λ (us : List Val). Goes us y.0.4.1.0) (sym place_is) (subst (Goes (place_words at)) (sym device_is) (
     qed 𝓛 ((‵ ftrue ⊛ ‵ (fsep (PlaceRow.own_val a.0 (place_words at)) (fsep (DeviceRow.own_val device (w ∷ [])) ftrue))) ∷ raw ((clauses y.0.0 a).requires y.1) ∷ []) ∵
-    -- Context: the memory; its address may be compared with null; what the device owns.
+    -- The context contains the memory, whose address may be compared with null, and what the device
+    -- owns.
     split ! $ drop ! $ fsplit ! $ fsplit ! $ drop ! $ fsplit ! $ move ! (2 ∷ []) $ fsplit ! $ keep ! (2 ∷ 0 ∷ 3 ∷ []) $
     in_a_block ! at (λ s. room_at DeviceRow s) (id⊢ 𝓤 (never 𝓤)) (λ b o lies.
     regoal ! (λ p. prop (WpFn 𝓤 𝓛.H 𝓣.C 𝓣.Λ code.function (place_words p ++ (w ∷ [])) (W.post (At (place_words at) (w ∷ []))))) lies refl $

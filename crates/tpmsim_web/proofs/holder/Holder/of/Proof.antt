@@ -27,7 +27,7 @@ use Rattle.tpmsim_web.specs.Held.{held}
 use Rattle.tpmsim_web.specs.contracts.device.Device as device
 use Rattle.tpmsim_web.specs.contracts.holder.Holder.of as promise
 
--- nothing remains of the box that was passed
+-- the box that was passed is consumed
 abbrev stays : Stays promise.ended.signature.params promise.ended.kept
 stays = (stay_dropped (plain (λ _. BoxRow)) yes, tt)
 
@@ -46,13 +46,13 @@ of_spec 𝓤 𝓛 𝓜 𝓡 wired =
     (code.unfolded 𝓤 𝓛.H 𝓜 𝓡 wired) (λ κs. ((λ b. word b.ptr b.alloc ∷ []), tt)) (λ κs. ((λ b ws is. word_told b.ptr b.alloc ws is.0), tt)) (λ κs qs bounds a _ are.
     let b = a.0 in let w : Val = word b.ptr b.alloc in
     let y : (walk_of 𝓛 promise.ended stays clauses).Ghost = ((κs, qs, bounds, a, (w ∷ [], tt)), tt) in
-    -- Context: the box, which the call requires.
+    -- The context contains the box, which the call requires.
     qed 𝓛 ((‵ ftrue ⊛ ‵ (fsep (BoxRow.own_val b (w ∷ [])) ftrue)) ∷ raw ((clauses κs a).requires tt) ∷ []) ∵ split ! $ drop ! $ fsplit ! $ keep ! (0 ∷ []) $
     use1 𝓛 (raw ((Apart 𝓛 𝓜.mem 𝓡.returns).pre (at_apart 𝓛 𝓜.mem 𝓡.returns b (w ∷ [])))) (apart_asks 𝓛 𝓜.mem 𝓡.returns b (w ∷ [])) $
     enter ! _ _ _ _ _ $ alloc_all ! (λ l. pass_all ! refl (word_typed b.ptr b.alloc, tt) $
     sets ! (of_opd ! (get ! refl)) refl (word_typed b.ptr b.alloc) $
     calls_at ! (framed 𝓤 𝓛.H 𝓜 (tables 𝓤 𝓛.H 𝓜 𝓡 𝓡.env)) (Apart 𝓛 𝓜.mem 𝓡.returns) met (at_apart 𝓛 𝓜.mem 𝓡.returns b (w ∷ [])) (and_then ! (get ! refl) (no_more !)) (λ u.
-    -- Context: what the box owned, at the pointer.
+    -- The context contains what the box owned, now at the pointer.
     use1 𝓛 (later (some (λ (at : Ptr). given (u ≡ word at b.alloc) (‵ (held device.the_row b.alloc at (Some b.value)))))) (apart_gives 𝓛 𝓜.mem 𝓡.returns b (w ∷ []) u) $
     await ! tt $ pick ! (λ at. learn ! (λ is.
     lands_as ! is refl (word_typed at b.alloc) $

@@ -29,7 +29,7 @@ use Rattle.tpmsim_web.specs.contracts.lent.LentAllocator.allocate as promise
 abbrev self : Slot 1
 self = RefOf (0 ∷ []) tt (plain (λ _. lent.the_row)) (λ _. tt)
 
--- nothing remains of the arguments that were passed
+-- the arguments that were passed are consumed
 abbrev stays : Stays promise.ended.signature.params promise.ended.kept
 stays = (
   stay_dropped self yes,
