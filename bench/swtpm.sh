@@ -17,5 +17,5 @@ trap 'rm -rf "$work"' EXIT
 attached=${ATTACHED:-$work/attached}
 [ -n "${ATTACHED:-}" ] || "$top/hosts/build.sh" libtpms "$attached"
 cd "$work"
-# shellcheck disable=SC2086 # they are words
+# shellcheck disable=SC2086 # word splitting is intended
 PYTHONDONTWRITEBYTECODE=1 python3 "$top/bench/swtpm.py" "$attached" ${OTHERS:-}

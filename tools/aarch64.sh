@@ -36,7 +36,7 @@ compile_here() {
 # Compiles the nine functions that the kit has only for x86-64.
 compile_glue() {
     for source in glue/*.c; do
-        # shellcheck disable=SC2086 # they are words
+        # shellcheck disable=SC2086 # word splitting is intended
         "${prefix}gcc" $flags -c "$source" -o "$work/$(basename "$source" .c).o" >>"$log" 2>&1 ||
             return 1
     done
@@ -79,7 +79,7 @@ for tool in rt rattle "${prefix}gcc" "${prefix}ar" "${prefix}strip"; do
 done
 kit_version=$(rt version) && program_sources=$(sources_checksum) &&
     library_sources=$(sources_checksum tpmsim_library) || exit 1
-# shellcheck disable=SC2046 # no name of a crate has a space
+# shellcheck disable=SC2046 # crate names have no spaces
 are_built $(crates_below tpmsim tpmsim_library) ||
     fail 'a crate is not built here, or a source is newer: tools/build.sh builds them'
 (compile_here tpmsim program.o || fail 'the program is not compiled') &

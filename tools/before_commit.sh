@@ -52,7 +52,7 @@ lay_out() {
 }
 
 follow_links() {
-    # shellcheck disable=SC2046 # no name of a document has a space
+    # shellcheck disable=SC2046 # document names have no spaces
     python3 tests/common/links.py . $(git ls-files '*.md')
 }
 
@@ -68,7 +68,7 @@ read_shell() {
 }
 
 read_python() {
-    # shellcheck disable=SC2046 # no name of a program has a space
+    # shellcheck disable=SC2046 # program names have no spaces
     "$@" $(git ls-files '*.py')
 }
 

@@ -77,7 +77,7 @@ done
 kit=$(kit_folder) || exit 1
 made_of=$(sources_checksum "$exports") || exit 1
 repository=$top
-# shellcheck disable=SC2086 # no name of a crate has a space
+# shellcheck disable=SC2086 # crate names have no spaces
 are_built $below || { repository=$work/copy && prove; }
 compile "$repository" "$exports" "$work/exports.a" >>"$log" 2>&1 ||
     fail 'the exports are not compiled'

@@ -1,4 +1,5 @@
-# A full disk, and a process without free file descriptors: attached/limits.c is the caller.
+# Tests a kept device on a full disk, and in a process without free file descriptors. The test program is
+# attached/limits.c.
 tests=$(cd "$(dirname "$0")/.." && pwd -P)
 . "$tests/common/cases.sh"
 . "$tests/common/library.sh"

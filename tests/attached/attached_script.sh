@@ -1,4 +1,5 @@
-# `tpmsim replay` of a kept device's journal prints the same responses as the device. attached/ask.c is the caller.
+# Checks that `tpmsim replay` prints the same responses for a kept device's journal as the device. The test
+# program is attached/ask.c.
 tests=$(cd "$(dirname "$0")/.." && pwd -P)
 . "$tests/common/cases.sh"
 . "$tests/common/library.sh"

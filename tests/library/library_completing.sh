@@ -6,7 +6,7 @@ needs cc
 
 compile plain completing "$archive"
 "$room/plain"
-# shellcheck disable=SC2086 # they are words
+# shellcheck disable=SC2086 # word splitting is intended
 compile checked completing "$archive" $sanitizers
 "$room/checked" >"$room/told"
 "$room/plain" | cmp - "$room/told"

@@ -1,5 +1,5 @@
-# Which command lines are valid: `run [--trace] SCRIPT`, with `-` for standard input; `asm LINE`, whose line
-# is one word; and `line HEX`. kept_scripts.sh tests those of `run --image`, and check.sh those of `check`.
+# Tests which command lines are valid: `run [--trace] SCRIPT`, with `-` for standard input; `asm LINE`, where
+# the line is one argument; and `line HEX`. kept_scripts.sh tests `run --image`, and check.sh tests `check`.
 # Help and the version are printed on standard output. All other command lines are refused, although the files
 # that they name exist and are scripts.
 tests=$(cd "$(dirname "$0")/.." && pwd -P)
@@ -18,7 +18,7 @@ words() {
     echo cmd | run "tpmsim${*:+ $*}" "$@"
 }
 
-# The script is read from the file, although standard input has another script.
+# The script is read from the file, although there is another script on standard input.
 words run a
 words run ./-
 
@@ -78,7 +78,7 @@ run "tpmsim asm 'Startup 0'" asm 'Startup 0'
 run "tpmsim asm Bogus" asm Bogus
 run "tpmsim asm ''" asm ''
 
-# `asm` without a word, or with more than one.
+# `asm` without an argument, or with more than one.
 words asm
 run "tpmsim asm Startup 0" asm Startup 0
 run "tpmsim asm 'Startup 0' a" asm 'Startup 0' a
@@ -103,7 +103,7 @@ words -h
 words --version
 words -V
 
-# Words that are not commands.
+# Words that are not subcommands.
 words a
 words walk a
 words ru a

@@ -1,5 +1,5 @@
-# `serve --state DIR --complete`: the completing layer answers the commands that the device in the folder does not
-# support.
+# Tests `serve --state DIR --complete`: the completing layer answers commands that the device in the folder
+# does not support.
 tests=$(cd "$(dirname "$0")/.." && pwd -P)
 . "$tests/common/cases.sh"
 . "$tests/common/served.sh"
@@ -37,7 +37,7 @@ serve 'with the layer, and each response forced to the disk' --save-each --compl
 sed 's/^/    /' again
 "$program" replay without | grep -v '[^0-9a-f]' | sed 's/^/    /'
 
-# An image has no place for the layer.
+# An image cannot store the state of the completing layer.
 run 'an image' serve --socket socket --image image --complete --connections 0
 run 'neither' serve --socket socket --complete --connections 0
 run 'a script' run --state state --complete -

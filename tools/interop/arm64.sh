@@ -45,7 +45,7 @@ foreign() {
 fetch() {
     mkdir -p "$folder/state/lists/partial" "$folder/cache/archives/partial" && : >"$folder/status" &&
         foreign update || return 1
-    # shellcheck disable=SC2086 # they are words
+    # shellcheck disable=SC2086 # word splitting is intended
     foreign --no-install-recommends --download-only install $packages &&
         (cd "$folder" && apt-get -q download qemu-user-static) >>"$log" 2>&1
 }

@@ -129,7 +129,7 @@ fapi() {
  "tcti": "$TPM2TOOLS_TCTI", "system_pcrs": [], "ek_cert_less": "yes"}
 END
     for tool in 'tss2_provision' 'tss2_getinfo --info fapi/info'; do
-        # shellcheck disable=SC2086 # they are words
+        # shellcheck disable=SC2086 # word splitting is intended
         if TSS2_FAPICONF=$folder/fapi/config timeout 60 $tool >output 2>error; then
             echo "FAPI: $tool: it goes"
         else

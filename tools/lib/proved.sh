@@ -61,7 +61,7 @@ sources() {
 
 # is_newest FILE [CRATE]: whether a file exists, and no source or folder of sources is newer.
 is_newest() {
-    # shellcheck disable=SC2086 # no name of a source has a space
+    # shellcheck disable=SC2086 # source names have no spaces
     [ -e "$1" ] && sources=$(sources "${2:-tpmsim}") &&
         newer=$(find $sources -newer "$1" -print -quit 2>/dev/null) && [ -z "$newer" ]
 }
@@ -71,7 +71,7 @@ is_newest() {
 are_built() {
     for crate do
         if grep -q "^$crate staticlib" crates.txt; then
-            # shellcheck disable=SC2046 # no name of a crate has a space
+            # shellcheck disable=SC2046 # crate names have no spaces
             are_built $(crates_below "$crate") || return 1
             continue
         fi
@@ -90,7 +90,7 @@ checksum() {
 # for the files, in the order of their paths in the repository.
 sources_checksum() {
     sources=$(sources "$@") || return 1
-    # shellcheck disable=SC2086 # as above
+    # shellcheck disable=SC2086 # source names have no spaces
     checksum_of $sources
 }
 

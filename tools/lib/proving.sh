@@ -7,7 +7,7 @@
 # tries.
 copy_crates() {
     mkdir -p "$1/crates" && cp HANDLES "$1" || return 1
-    # shellcheck disable=SC2086 # they are words
+    # shellcheck disable=SC2086 # word splitting is intended
     tar cf - -C crates --exclude=out --exclude=must-fail $crates | (cd "$1/crates" && tar xf -) ||
         return 1
     for crate in $crates; do

@@ -25,7 +25,7 @@ trap 'rm -rf "$room" ${in_memory:+"$in_memory"}' EXIT
 . "$tests/common/attached.sh"
 needs cc python3
 
-# shellcheck disable=SC2086 # they are words
+# shellcheck disable=SC2086 # word splitting is intended
 attach crashes crashes $wrapped_calls
 extended 4000 >"$room/values"
 "$room/crashes" "$room/values" "$seconds" "$seed" 2>&1

@@ -36,7 +36,7 @@ fail() {
 play() {
     as=
     [ "$2" = root ] || as='setpriv --reuid 1000 --regid 1000 --clear-groups env HOME=/home/user'
-    # shellcheck disable=SC2086 # they are words
+    # shellcheck disable=SC2086 # word splitting is intended
     in_machine "$1" $as timeout 1800 sh -c 'cd /home/user/tpmsim && tools/scripts.sh' >"$work/said" 2>&1
 }
 
@@ -68,7 +68,7 @@ play_machine() {
     judge "$name" "$status"
     packages=$(named)
     if [ -n "$packages" ]; then
-        # shellcheck disable=SC2086 # they are words
+        # shellcheck disable=SC2086 # word splitting is intended
         apt install $packages
         status=0
         play "$shm" "$user" || status=$?
@@ -86,11 +86,11 @@ trap 'exit 130' INT TERM
 failed=0
 make_base
 machine=$work/machine
-# shellcheck disable=SC2046 # they are words
+# shellcheck disable=SC2046 # word splitting is intended
 [ "$#" -gt 0 ] || set -- $(echo "$machines" | awk 'NF { print $1 }')
 for wanted do
     echo "$machines" | grep -q "^$wanted " || fail "$wanted is no machine"
-    # shellcheck disable=SC2046 # they are words
+    # shellcheck disable=SC2046 # word splitting is intended
     play_machine $(echo "$machines" | grep "^$wanted ")
 done
 echo "$failed failed"

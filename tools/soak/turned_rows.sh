@@ -157,7 +157,7 @@ group() {
 : >"$room/refused"
 group "$@"
 while read -r together; do
-    # shellcheck disable=SC2086 # as above
+    # shellcheck disable=SC2086 # names have no spaces
     try_together $together </dev/null
 done <"$room/groups"
 refused=$(wc -l <"$room/refused")
