@@ -187,8 +187,8 @@ static void tell_forced(const char *label) {
     forced = forced_data = 0;
 }
 
-/* For each value of the option `force`, counts how often fsync is called, and how often fdatasync.
-   */
+/* For each value of the option `force`, counts how often fsync is called, and how often
+ * fdatasync. */
 static void count_forced(void) {
     static const char *const labels[] = {"power", "never", "always"};
     static const uint8_t forces[] = {TPMSIM_FORCE_POWER, TPMSIM_FORCE_NEVER, TPMSIM_FORCE_ALWAYS};

@@ -7,8 +7,8 @@
 
 static const char FOLDER[] = "state";
 
-/* The maximum number of extends that a process makes, since its killer may have to wait for a CPU.
-   */
+/* The maximum number of extends that a process makes, since its killer may have to wait for a
+ * CPU. */
 enum { MOST_EXTENDS = 2000 };
 
 /* Extends again and again, writes a byte for each response, and waits to be killed. */

@@ -206,8 +206,8 @@ static void killed(void) {
     show("a process that was killed");
 }
 
-/* If handles no longer exist when the process ends, they are not flushed, and no fault is reported.
- * */
+/* If handles no longer exist when the process ends, they are not flushed, and no fault is
+ * reported. */
 static void gone(void) {
     TSS2_TCTI_CONTEXT *context = begun(RM);
     object(context);

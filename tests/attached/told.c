@@ -1,6 +1,6 @@
 /* Checks the messages of the kept device about a damaged journal, for each return code of the
- * library's function that opens a journal. The file stays unchanged. The test wraps that function.
- * */
+ * library's function that opens a journal. The file stays unchanged. The test wraps that
+ * function. */
 #include "common.h"
 
 static const char FOLDER[] = "state", JOURNAL[] = "state/journal";

@@ -229,8 +229,8 @@ static void check_leaps(void) {
     tpmsim_keeper_free(&alive.keeper);
 }
 
-/* Makes each task of a call fail. The host then discards its device in memory, and opens it again.
- * */
+/* Makes each task of a call fail. The host then discards its device in memory, and opens it
+ * again. */
 static void check_failures(void) {
     int count = 0;
     uint8_t fault = KILLED;

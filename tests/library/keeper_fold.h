@@ -62,8 +62,8 @@ static inline void fold_opens(const uint8_t *head, size_t size) {
          "a head is not opened");
 }
 
-/* Writes the head of a checkpoint, which contains the device's whole state, and returns its size.
- * */
+/* Writes the head of a checkpoint, which contains the device's whole state, and returns its
+ * size. */
 static inline size_t fold_shows(void) {
     size_t size = tpmsim_journal_checkpoint(&fold.device, 0, head_text, sizeof head_text);
     must(size <= sizeof head_text, "a head's size");

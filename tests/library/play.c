@@ -61,8 +61,8 @@ static void execute(struct player *player, const char *hex) {
            (unsigned)answered.drawn);
 }
 
-/* Returns the image of a device. The library writes an image only to a buffer that is large enough.
- * */
+/* Returns the image of a device. The library writes an image only to a buffer that is large
+ * enough. */
 static uint8_t *image_of(struct tpmsim *device, size_t *size) {
     uint8_t none = 0;
     *size = tpmsim_save(device, &none, 0);
