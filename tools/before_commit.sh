@@ -12,12 +12,12 @@ passed=0
 failed=0
 skipped=0
 
-# has TOOL: whether a tool is installed.
+# has TOOL: succeeds if a tool is installed.
 has() {
     command -v "$1" >/dev/null
 }
 
-# check NAME COMMAND..: counts a check, and prints what its command says if it fails.
+# check NAME COMMAND..: runs and counts a check. If its command fails, prints the command's output.
 check() {
     name=$1
     shift
@@ -36,7 +36,7 @@ skip() {
     skipped=$((skipped + 1))
 }
 
-# Lays out the crates that differ from the last commit; fails if that changes a file.
+# Formats the crates that differ from the last commit, and fails if this changes a file.
 lay_out() {
     status=0
     for crate in $(git diff --name-only HEAD -- crates | cut -d/ -f2 | sort -u); do

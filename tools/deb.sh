@@ -37,7 +37,7 @@ control() {
         -e "s|@PURPOSE@|$purpose|" -e "s|@ARCHITECTURE@|$architecture|" packaging/control
 }
 
-# Adds the files that Debian requires in each package.
+# Adds the files that Debian requires in every package.
 describe() {
     documents=$root/usr/share/doc/tpmsim
     mkdir "$root/DEBIAN" || return 1
@@ -57,7 +57,7 @@ describe() {
         >"$root/DEBIAN/md5sums"
 }
 
-# for_aarch64: selects the tools for ARM64. Their compiler does not search the folder of Debian's headers
+# for_aarch64: selects the tools for ARM64. Their compiler does not search the folder with Debian's headers
 # for all machines.
 for_aarch64() {
     architecture=arm64

@@ -80,7 +80,7 @@ def box_at(x: int, y: int, width: int, fill: str) -> str:
 
 
 def row_at(y: int, number: int, row: list[Crate], groups: int) -> tuple[list[str], int]:
-    """Draws a row of crates; returns also the offset below it."""
+    """Draws a row of crates. Also returns the vertical offset below the row."""
     lines = -(-len(row) // COLUMNS)
     height, width = lines * (LINE + GAP) + GAP, COLUMNS * (BOX + GAP) + GAP
     left = MARGIN + ROW_NUMBER
@@ -97,7 +97,7 @@ def row_at(y: int, number: int, row: list[Crate], groups: int) -> tuple[list[str
 
 
 def legend_at(y: int, groups: list[str]) -> tuple[list[str], int]:
-    """Draws what each colour means; returns also the offset below it."""
+    """Draws the legend of the colours. Also returns the vertical offset below the legend."""
     drawn = []
     for at, group in enumerate(groups):
         top = y + at * (LINE + GAP)
@@ -123,7 +123,7 @@ def picture() -> str:
 
 
 def main() -> int:
-    """Compares the picture, or writes it."""
+    """Compares the picture with the file, or writes it."""
     made = picture()
     if sys.argv[1:] == ["--write"]:
         PICTURE.write_text(made, "utf-8")

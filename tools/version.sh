@@ -1,5 +1,5 @@
 #!/bin/sh
-# Prints the version at each place that states it, one per line. The status is 1 if they differ.
+# Prints the version that each file states, one per line. The status is 1 if they differ.
 #
 #   tools/version.sh [PROGRAM]   of this program; else of dist/tpmsim
 set -u
@@ -17,7 +17,7 @@ of_header() {
     [ -z "$number" ] || echo "$((0x${number%????})).$((0x${rest%??})).$((0x${rest#??}))"
 }
 
-# Prints each version and its place.
+# Prints each version and the file that states it.
 versions() {
     echo "$("$program" --version | sed -n 's/^tpmsim //p') the program"
     echo "$(sed -n '/^## /{s/^## \(Unreleased (\)\{0,1\}\([0-9.]*\).*/\2/p;q;}' CHANGELOG.md) CHANGELOG.md"

@@ -1,7 +1,8 @@
 #!/bin/busybox sh
 # shellcheck shell=dash
-# The work of a guest of tools/interop/guest.sh, whose Linux starts this as its first process. Lines that begin
-# with RESULT are for tools/interop/guest.sh. `guest=` on the kernel's command line says what to do:
+# The work of a guest of tools/interop/guest.sh, whose kernel starts this script as the first process.
+# tools/interop/guest.sh reads the lines that begin with RESULT. `guest=` on the kernel's command line says
+# what to do:
 #
 #   pcrs   prints the PCRs that firmware and kernel left
 #   move   extends PCR 20 from locality 2 and PCR 15 from locality 0, waits while its machine moves to another
@@ -47,8 +48,8 @@ off() {
     poweroff -f
 }
 
-# at_locality_2 HEX: sends a command by the registers of tpm-tis, which stays at locality 2, and prints
-# the response code.
+# at_locality_2 HEX: sends a command through the registers of tpm-tis, and prints the response code. tpm-tis
+# then stays at locality 2.
 at_locality_2() {
     base=0xFED42
     devmem ${base}000 8 2

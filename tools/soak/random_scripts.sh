@@ -1,5 +1,5 @@
 #!/bin/sh
-# Writes random scripts, runs them, and compares the program's answers with those of the device in plain
+# Writes random scripts, runs them, and compares the program's responses with those of the device in plain
 # Python under python/tpmsim/model. It is not part of the gate. Needs python3.
 #
 #   tools/soak/random_scripts.sh                 the scripts of the seeds 1 to 20, of 1,000 commands each
