@@ -1,4 +1,4 @@
-# The most frequent tasks. Only `dist` needs `rt`.
+# The most frequent tasks. Only the `dist` targets need `rt`.
 #
 #   make check                      runs the quick checks of a change, and all tests that are scripts
 #   make dist                       proves and builds the contents of dist/; half an hour to an hour
