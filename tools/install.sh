@@ -12,9 +12,9 @@
 #     FUNCTIONS  the folder of zsh's functions in PREFIX; share/zsh/site-functions
 #
 # The modules for libtss2 and for swtpm, and tpmsim-simulator, are built if the headers that they need are
-# installed. Otherwise the script prints a line that says what is not installed. Without DESTDIR, root's
-# ldconfig adds the libraries to the loader's cache. If the loader or python3 does not find the installed
-# files, the script prints the variables that a user has to set. Needs python3.
+# installed. Otherwise a line says what is not installed. Without DESTDIR, root's ldconfig adds the libraries
+# to the loader's cache. If the loader or python3 does not find the installed files, the script prints the
+# variables that a user has to set. Needs python3.
 set -u
 umask 022
 cd "$(dirname "$0")/.." || exit 1
@@ -116,8 +116,7 @@ put_modules() {
     fi
 }
 
-# tell_loader: makes the loader find the libraries if possible, and otherwise prints the variable that the
-# user has to set.
+# tell_loader: makes the loader find the libraries, or prints the variable that the user has to set.
 tell_loader() {
     PATH=$PATH:/usr/sbin:/sbin
     if [ "$(id -u)" -eq 0 ] && command -v ldconfig >"$work/told"; then
@@ -127,7 +126,7 @@ tell_loader() {
         echo "The loader finds the libraries by LD_LIBRARY_PATH=$prefix/$libraries"
 }
 
-# tell_python: if python3 does not find the package, prints the variable that the user has to set.
+# tell_python: prints the variable that the user has to set, if python3 does not find the package.
 tell_python() {
     (cd / && python3 -B -c '
 import sys, tpmsim

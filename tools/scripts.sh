@@ -156,8 +156,8 @@ for name do
     [ -n "$found" ] || say "FAILED: $name: there is no such test"
 done
 
-# make_scripts TEST..: generates those of these tests that are scripts and not stored. If all scripts that are
-# not stored are among them, the tests that play all scripts need not generate them again.
+# make_scripts TEST..: generates the scripts among these tests that are not stored. If these are all such
+# scripts, the tests that play all scripts need not generate them again.
 make_scripts() {
     for test do
         shift

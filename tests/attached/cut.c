@@ -1,7 +1,6 @@
-/* Checks which part of a journal is cut off. The next record or a power cycle cuts off an
- * incomplete record at the end. If the caller requests it, the next call drops damage and restarts
- * the journal. A message reports each cut. The argument is the file with the expected PCR
- * values. */
+/* The next record or a power cycle cuts off an incomplete record at the end of a journal. If the
+ * caller requests it, the next call drops damage and restarts the journal. A message reports each
+ * cut. The argument is the file with the expected PCR values. */
 #include "old_journal.h"
 #include <inttypes.h>
 

@@ -1,6 +1,6 @@
 /* A process with the process ID 1 uses one device together with its forked child, which also has
- * the process ID 1, in another namespace. This is tested with a page that a fork wipes, and as on a
- * kernel without such pages. The argument is the file with the expected PCR values. */
+ * the process ID 1, in another namespace. This is tested with a page that a fork wipes, and without
+ * such pages. The argument is the file with the expected PCR values. */
 #include "common.h"
 #include <errno.h>
 #include <poll.h>
@@ -8,8 +8,8 @@
 #include <sys/mman.h>
 #include <sys/wait.h>
 
-/* WITHIN_MS is the time for which the parent pauses within a command, so that its child can begin
-   another command. */
+/* WITHIN_MS: the parent pauses within a command for this time, so that its child can begin another
+   one. */
 enum { EXTENDS = 500, RANDOM_BYTES = 64, WITHIN_MS = 100 };
 
 static const char FOLDER[] = "state";

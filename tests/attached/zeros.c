@@ -36,8 +36,8 @@ static struct kept *opened_to(bool cuts, struct reason *reason) {
     return kept_open(&options, reason);
 }
 
-/* Extends the PCR of a device whose journal has this size, and checks the file. If `begins` is
-   true, the journal may be restarted. */
+/* Extends the PCR of a device whose journal has this size, and checks the file. If `begins`, the
+   journal may be restarted. */
 static void extend_and_look(struct kept *kept, size_t size, const char *behind, bool begins,
                             const struct values *values) {
     extend(kept);

@@ -1,5 +1,4 @@
-/* Compares state texts. A restored device has the state of its text, except that its completing
- * layer has a new start number. */
+/* Compares state texts. The completing layer of a restored device has a new start number. */
 #ifndef SAME_STATE_H
 #define SAME_STATE_H
 #include <stddef.h>

@@ -1,6 +1,6 @@
 # Checks that only one run at a time can use an image. Another run ends with `tpmsim: file`, and changes
-# nothing. A run that cannot use its image or its random bytes reports that at once, even if it would
-# otherwise wait for input.
+# nothing. A run that cannot use its image or its random bytes reports that at once, without waiting for
+# input.
 tests=$(cd "$(dirname "$0")/.." && pwd -P)
 . "$tests/common/cases.sh"
 . "$tests/common/served.sh"
@@ -46,8 +46,8 @@ serve() {
     [ ! -e own ] || echo '    its socket is there'
 }
 
-# others LABEL: prints the results of other runs on the image while one run is using it. They must not disturb
-# that run, nor change the file image.new.
+# others LABEL: prints the results of other runs on the image while one run uses it. They must change neither
+# that run nor the file image.new.
 others() {
     echo left >image.new
     [ ! -e image ] || stat -c '%i %y' image >"$room/before"

@@ -13,7 +13,7 @@ static memory folder, other_folder;
 static files disk;
 static host alive;
 
-/* Adds zeros to the end of the journal, as a crash may. */
+/* Adds zeros to the journal, as a crash may. */
 static void litter(void) {
     memset(folder.journal.bytes + folder.journal.size, 0, 100);
     folder.journal.size += 100;
@@ -46,8 +46,8 @@ static void kill_at_each(uint8_t force, extent how_much, int has_litter) {
     tpmsim_keeper_free(&alive.keeper);
 }
 
-/* Kills a host at each task while it makes a device. After that there is either a complete device
- * or none, and the next host can make one. */
+/* Kills a host at each task while it makes a device. Then there is a complete device or none, and
+ * the next host can make one. */
 static void kill_beginnings(void) {
     uint8_t fault = KILLED;
     for (int task = 0; fault == KILLED; task++) {
@@ -249,8 +249,8 @@ static void check_failures(void) {
     tpmsim_keeper_free(&alive.keeper);
 }
 
-/* The number of the task at which the host forks; the number of EXTENDs that were executed by then;
-   and the child. */
+/* The task of a call at which the host forks; the number of EXTENDs executed by then; and the
+   child. */
 static int forked_at, expected;
 static pid_t child;
 

@@ -1,6 +1,5 @@
 /* Computes the device that executed a world's history, as the definition does: by a fold over the
- * commands. It uses the library's journals and devices, and a keeper only to write the head for a
- * new device. */
+ * commands. A keeper is used only to write the head for a new device. */
 #ifndef KEEPER_FOLD_H
 #define KEEPER_FOLD_H
 #include "../common/same_state.h"
@@ -100,8 +99,8 @@ static inline void fold_goes_back(int commands) {
     fold.time = it->time;
 }
 
-/* Returns the clock at the moment of a command, and advances the journal's time. The time before a
- * command is at least 0 and at most 2^32 - 1 milliseconds. */
+/* Returns the clock at the moment of a command, and advances the journal's time by 0 to 2^32 - 1
+ * milliseconds. */
 static inline uint64_t fold_clock(const uint8_t *text) {
     int is_by_clock = text[0] == BY_CLOCK;
     uint64_t told = number_at(text + MOMENT_AT, is_by_clock ? 8 : 4);
@@ -130,8 +129,8 @@ static inline size_t fold_executes(const uint8_t *text, size_t size, uint8_t *re
     return answered.size + TPMSIM_REPORT_SIZE;
 }
 
-/* Lets the completing layer forget the contexts of sessions that have ended, with an empty command.
- * The layer does so after every command, and an empty command changes nothing else. */
+/* Executes an empty command, after which the completing layer forgets the contexts of sessions that
+ * have ended. It changes nothing else. */
 static inline void fold_forgets_sessions(void) {
     static const uint8_t random[RANDOM_BYTES];
     uint8_t response[RESPONSE_BYTES];
@@ -178,7 +177,7 @@ static inline void fold_steps(executed *next) {
     fold.commands++;
 }
 
-/* Executes those commands of the history that the device has not executed yet. */
+/* Executes the commands of the history that are left. */
 static inline void fold_follows(void) {
     if (fold.origin != all->origin) {
         fold_forgets();

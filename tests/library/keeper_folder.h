@@ -1,18 +1,15 @@
-/* The folder as defined in specs/World.antt of tpm_keeping, in memory that forked processes share.
- * It contains the files as all processes see them, and the contents that a crash of the host may
- * leave. */
+/* The folder of specs/World.antt of tpm_keeping, in memory that forked processes share: the files
+ * as all processes see them, and the contents that a crash of the host may leave. */
 #ifndef KEEPER_FOLDER_H
 #define KEEPER_FOLDER_H
 #include "keeper_host.h"
 #include <sys/mman.h>
 
-/* The definition allows any number of earlier contents and earlier files. Here a random one is
- * dropped if there are more than PAST or OLDER, so that a crash has fewer choices. COMMANDS is the
- * maximum length of the history. */
+/* The definition allows any number of earlier contents and files. Here a random one is dropped if
+ * there are more than PAST or OLDER. COMMANDS is the maximum length of the history. */
 enum { PAST = 4, OLDER = 4, CONTENT_BYTES = 192 * 1024, COMMANDS = 2000, ARENA_BYTES = 4 << 20 };
 
-/* `commands` is the length of the history up to the last command whose entry is complete in this
- * content. */
+/* `commands` counts the commands of the history up to the last one whose entry is complete here. */
 typedef struct content {
     size_t size;
     int commands;
@@ -36,8 +33,7 @@ typedef struct executed {
     size_t size, response_size;
 } executed;
 
-/* files[names[0]] is the journal. The files of the other names had the journal's name since the
- * folder was last synced. */
+/* files[names[0]] is the journal. The others had its name since the last sync of the folder. */
 typedef struct world {
     file files[1 + OLDER];
     int names[1 + OLDER], olders;
@@ -47,7 +43,7 @@ typedef struct world {
     int is_locked, locker;
     executed history[COMMANDS];
     int commands, promised, is_lasting;
-    /* The number of commands that were executed when a holder with force=always last answered. */
+    /* The length of the history when a holder with force=always last answered. */
     int always;
     /* The seed of the device, and the number of seeds used so far. */
     const uint8_t *seed;
@@ -106,7 +102,7 @@ static inline void world_begins(uint64_t seed) {
     all->draws = seed * 0x9e3779b97f4a7c15u + 1;
 }
 
-/* Stores the file's present content as a past one, which may be on the disk after a crash. */
+/* Stores the present content as a past one, which a crash may leave on the disk. */
 static inline void remember(file *it) {
     int at = it->pasts < PAST ? it->pasts++ : (int)rolled(PAST);
     copy_content(&it->past[at], &it->now);
@@ -119,7 +115,7 @@ static inline void history_adds(const uint8_t *command, size_t size) {
 }
 
 /* Cuts the file to `cut` bytes, then writes the first `count` bytes of a text of `size` bytes at
- * the offset `at`. If the whole text is written and covers everything after the synced bytes, no
+ * the offset `at`. If the whole text is written at or before the end of the synced bytes, no
  * dropped bytes are missing. `adds` says whether the text ends with a command's entry. */
 static inline void file_puts(file *it, size_t cut, size_t at, const uint8_t *text, size_t count,
                              size_t size, int adds) {
@@ -159,8 +155,7 @@ static inline void file_named(int whole) {
     it->ends[0] = it->now.size;
 }
 
-/* Returns the length of the history up to the last command whose entry is complete in the first
- * `size` bytes of a content. */
+/* Returns `commands` for the first `size` bytes of a content. */
 static inline int whole_in(const file *it, const content *from, size_t size) {
     int count = 0, most = from->commands - it->before;
     while (count < most && it->ends[count] <= size) count++;

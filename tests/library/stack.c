@@ -3,10 +3,10 @@
  *
  *     stack <SCRIPTS
  *
- * The scripts have the same form as for play.c. Each call runs on a stack that was filled with a
- * pattern before. The result is the number of pattern bytes that the call overwrites, minus the
- * number that an empty call overwrites. The stack is twice as large as a call's limit. An
- * inaccessible page at its far end ends the program. */
+ * The scripts have the same form as for play.c. Each call runs on a stack that is filled with a
+ * pattern. The result is the number of bytes that the call overwrites, minus those that an empty
+ * call overwrites. The stack is twice as large as a call's limit. An inaccessible page at its far
+ * end ends the program. */
 #define _DEFAULT_SOURCE
 #include "common.h"
 #include <sys/mman.h>

@@ -38,7 +38,7 @@ for bytes in 4067 4068 4096 32767 40000; do
     assembled "PCR_Event and $bytes bytes" "PCR_Event 00000000 pw:- $data"
 done
 
-# Any other fault, wherever it is in the line, takes precedence over the fault that the command is too large.
+# Any other fault in the line is reported rather than the command's size.
 data=$(zeros 8192)
 assembled 'NV_Write of 4096 bytes' "NV_Write OWNER 01000000 pw:- $data 0"
 assembled 'NV_Write of 4096 bytes without an offset' "NV_Write OWNER 01000000 pw:- $data"

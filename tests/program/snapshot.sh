@@ -34,9 +34,8 @@ same() {
     if cmp "$2" "$3"; then echo "$1: the same"; else echo "$1: NOT THE SAME"; fi
 }
 
-# same_device LABEL FILE FILE: prints whether two state texts are the same, except for the completing layer's
-# start number, which is new for a restored device, and the digest. The start number begins 176 bytes before
-# the end, and the digest is at the end.
+# same_device LABEL FILE FILE: prints whether two state texts are the same, except for the layer's start
+# number, 176 bytes before the end, which is new for a restored device, and the digest at the end.
 same_device() {
     for text in "$2" "$3"; do
         head -c -176 "$text" >"$text.before"

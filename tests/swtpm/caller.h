@@ -19,8 +19,8 @@ void must(int condition, const char *reason);
 unsigned char *read_file(const char *path, size_t *size);
 void write_file(const char *path, const unsigned char *bytes, size_t size);
 
-/* Opens a file to which a library may log, and returns its descriptor. The second function counts
- * the file's lines, and empties it. */
+/* Returns the descriptor of a file for a library's log. The second function counts its lines, and
+ * empties it. */
 int log_to_file(void);
 size_t logged_lines(void);
 
@@ -58,8 +58,8 @@ void tell_locality(const char *number);
 void let_stores_fail(int fail);
 void let_loads_fail(int fail);
 
-/* Sets whether the disk of a record works, or fills up while a text is written. It can also break,
- * so that truncation fails too. */
+/* Sets whether the disk of a record works, fills up while a text is written, or also fails to
+ * truncate a file. */
 void tell_disk(const char *state);
 
 #endif

@@ -137,8 +137,8 @@ check() {
     fi
 }
 
-# replays NAME: executes the commands again that were recorded while the guest booted, and checks that the
-# responses are the same.
+# replays NAME: executes the recorded commands of a run's boots again, and checks that the responses are the
+# same.
 replays() {
     for record in "$folder/$1"/record/*.tpm; do
         if python3 - "$attached/libtpms.so.0" "$record" <<'END'; then
@@ -214,8 +214,7 @@ told() {
     return 1
 }
 
-# moved NAME: checks that the PCR values that the guest printed last are those after two extends of PCR 20 and
-# PCR 15.
+# moved NAME: checks that the last printed PCR values are those after two extends of PCR 20 and one of PCR 15.
 moved() {
     tr -d '\r' <"$run/serial" | sed -n 's/^.*RESULT MOVE //p' | tail -n 2 >"$run/pcrs"
     if cmp -s "$run/pcrs" "$folder/moved_pcrs"; then ok "$1"; else fail "$1: $(cat "$run/pcrs")"; fi

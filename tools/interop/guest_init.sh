@@ -5,9 +5,9 @@
 # what to do:
 #
 #   pcrs   prints the PCRs that firmware and kernel left
-#   move   extends PCR 20 from locality 2 and PCR 15 from locality 0, waits while its machine moves to another
-#          QEMU, and does the same again there
-#   work   prints the PCRs too; then it makes an NV index and a sealed object, and reboots. If they exist
+#   move   extends PCR 20 from locality 2, waits while its machine moves to another QEMU, extends PCR 20 again,
+#          and extends PCR 15 from locality 0
+#   work   prints the PCRs too. Then it makes an NV index and a sealed object, and reboots. If they exist
 #          already, it opens them. With `sleep` it sleeps in between (S3)
 /bin/busybox mkdir -p /proc /sys /dev /tmp /bin /sbin
 /bin/busybox --install -s /bin

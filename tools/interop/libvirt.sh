@@ -2,8 +2,8 @@
 # Uses libvirt to start, save, restore and end a guest, and to revert it to a snapshot. One guest has a TPM of
 # type `emulator`, with the swtpm and swtpm_setup of `hosts/build.sh libtpms`, which come first on the
 # daemon's path. Another guest has a TPM of type `external`, whose swtpm is already running. The daemon runs
-# in a session of the present user, or of the user nobody if the present user is root. Not part of the gate.
-# It installs nothing, and leaves no files.
+# as the present user, or as nobody if that is root. Not part of the gate. It installs nothing, and leaves no
+# files.
 #
 #   tools/interop/libvirt.sh
 #

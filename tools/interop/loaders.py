@@ -131,8 +131,8 @@ def spoken_with(machine: subprocess.Popen[bytes], loader: Loader) -> Boot:
 
 
 def shared_part(command: bytes) -> str:
-    """Returns the PCR of a PCR_Extend, and its SHA-1 and SHA-256 digests, in hex. Other digests are
-    ignored, since only swtpm's own libtpms has SHA-384 and SHA-512 banks.
+    """Returns the PCR of a PCR_Extend, and its SHA-1 and SHA-256 digests, in hex. Only swtpm's own
+    libtpms also has SHA-384 and SHA-512 banks.
     """
     pcr = command[HEAD_BYTES : HEAD_BYTES + 4]
     at = HEAD_BYTES + 8 + int.from_bytes(command[HEAD_BYTES + 4 : HEAD_BYTES + 8]) + 4

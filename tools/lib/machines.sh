@@ -19,8 +19,8 @@ make_base() {
     apt update
 }
 
-# in_machine SHM WORDS..: runs a command in the machine, as root. /dev/shm has the size SHM, or does not exist
-# if SHM is `none`. The machine's mounts end with the command.
+# in_machine SHM WORDS..: runs a command in the machine, as root, with a /dev/shm of this size (or `none`).
+# The machine's mounts end with the command.
 in_machine() {
     # shellcheck disable=SC2016 # the inner shell expands the variables
     unshare --mount --propagation private --pid --fork --kill-child sh -c '

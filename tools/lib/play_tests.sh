@@ -53,8 +53,7 @@ name_program() {
     esac
 }
 
-# is_skipped TEST STATUS: succeeds if this is a shell test that ended with status 77, which means that it was
-# skipped, and printed one line with the reason.
+# is_skipped TEST STATUS: succeeds if a shell test ended with status 77 (skipped), and printed a reason.
 is_skipped() {
     case $1,$2 in
     *.sh,77) [ "$(grep -c . "$output")" -eq 1 ] && [ "$(wc -l <"$output")" -eq 1 ] ;;

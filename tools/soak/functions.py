@@ -29,8 +29,8 @@ class Function:
     name: str
     # whether no other function of the file has this name
     is_alone: bool
-    # the type or the trait of the block that contains the function, as the prover writes it; empty
-    # outside of a block, and None if it cannot be determined
+    # the type or the trait of its block, as the prover writes it; empty outside of a block, and
+    # None if it cannot be determined
     owner: str | None
 
     def fails_in(self, said: list[str]) -> str | None:
@@ -58,16 +58,16 @@ class Function:
         return re.sub(r"src/(lib$|main$)?", "", self.file[: -len(".rt")]).replace("/", "::")
 
     def path(self) -> str:
-        """Returns the last segments of the function's path within the crate: its owner or module,
-        and its name. If the owner cannot be determined, returns the module.
+        """Returns the end of the function's path within the crate: its owner or module, and its
+        name. If the owner is unknown, returns the module.
         """
         if self.owner is None:
             return self.module()
         return "::".join(filter(None, [self.owner or self.module(), self.name]))
 
     def told_in(self, said: list[str]) -> dict[str, str]:
-        """Returns the messages about this function, by its path within the crate. If its owner
-        cannot be determined, includes the messages about every function of this name in this file.
+        """Returns the messages about this function, by its path. If its owner is unknown, includes
+        those about every function of this name in the file.
         """
         paths = rf"{self.module()}\S*\b{self.name}" if self.owner is None else self.path()
         told = re.compile(rf"fn \w+::({'(?:[^ ]+::)?' if self.owner else ''}{paths}): (.*)")

@@ -1,8 +1,7 @@
 #!/usr/bin/env python3
 """Tries the wrong bodies (mutants) under wrong/: each changes the meaning of one function or
-definition, and the prover must refuse it. They are like the wrong bodies in the crates' must-fail/,
-which every run of the gate tries. All wrong bodies under wrong/ are tried before a piece of work is
-declared done (docs/gate.json names its commit).
+definition, and the prover must refuse it. The gate tries only those in the crates' must-fail/. All
+others are tried before a piece of work is declared done (docs/gate.json names its commit).
 
     tools/soak/wrong_bodies.py                       all of them
     tools/soak/wrong_bodies.py tpm_pcr               those of one crate, or of several
@@ -16,14 +15,14 @@ The prover checks each function against the contracts of its callees, and report
 have failing goals of their own. Therefore wrong bodies of different functions share one check of
 only these functions: a body is refused if a function that it changes has a failing goal. A wrong
 body is tried by itself if the shared check does not decide it, or if it changes a constant or a
-definition. Then the functions that name the constant are checked and, if they are proved
-nevertheless, the whole crate. Each check continues from an earlier check of the same crate, and the
-first one from the results in the crate's out/.
+definition. Then the functions that name the constant are checked and, if these are proved
+nevertheless, the whole crate. Each check continues from an earlier one, and the first from the
+results in the crate's out/.
 
 It prints a line for each body, and at the end `N of M wrong bodies refused`. The status is 0 if all
-are refused. It is 1 if a body is not refused, or if it is bad: if it cannot be applied, compiled or
-parsed, or is refused only because a proof file names something that it removed. Such a refusal
-shows nothing about a contract. It needs rt.
+are refused. It is 1 if a body is not refused, or is bad: it cannot be applied, compiled or parsed,
+or is refused only because a proof file names something that it removed. Such a refusal shows
+nothing about a contract. It needs rt.
 """
 
 from __future__ import annotations
@@ -108,9 +107,7 @@ class Edit:
     text: str
 
     def turns(self) -> tuple[Turn, ...]:
-        """Returns the edits, which are written as a line `file: `, followed by pairs of lines `old:
-        ` and `new: `.
-        """
+        """Returns the edits: lines `file: `, followed by pairs of lines `old: ` and `new: `."""
         turns, file, old = [], "", ""
         for line in self.text.split("\n"):
             word, _, rest = line.partition(":")
@@ -214,8 +211,8 @@ class Crate:
         return ran.returncode, ran.stdout.split("\n")
 
     def _paths(self, bodies: list[WrongBody]) -> list[str]:
-        """Returns the paths of the functions that must be checked for wrong bodies, as reported by
-        an earlier check, if there was one. An empty list stands for the whole crate.
+        """Returns the paths of the functions to check for these bodies, as reported by an earlier
+        check, if any. An empty list means the whole crate.
         """
         functions: set[Function] = set().union(*(body.to_check() for body in bodies))
         paths = [*itertools.chain(*([*it.told_in(self.said)] or [it.path()] for it in functions))]
@@ -239,9 +236,8 @@ class Crate:
         return WrongBody(edit.name, turns, frozenset(), frozenset(naming))
 
     def _naming(self, file: str, lines: list[str]) -> set[Function]:
-        """Returns the functions that name an item, or that belong to it. In src/, it is the item in
-        which these lines, the first ones of a file, end. In specs/, it is any definition of the
-        file that clauses use.
+        """Returns the functions that name an item or belong to it: the last item in these first
+        lines of a file in src/, or any definition of a file in specs/ that clauses use.
         """
         if file.startswith("src/"):
             names = [match[1] for line in lines if (match := ITEM.match(line))][-1:]
@@ -263,9 +259,8 @@ class Crate:
         }
 
     def begin(self, group: list[WrongBody], others: list[WrongBody]) -> tuple[int, list[str]]:
-        """Makes the first check, on a copy with the wrong bodies of a group. It checks their
-        functions, and those of the other wrong bodies. Returns the exit status and the message
-        lines.
+        """Makes the first check, on a copy with the wrong bodies of a group, of their functions and
+        those of the other bodies. Returns the exit status and the message lines.
         """
         every = [*group, *others]
         with self._turned(group) as folder:
@@ -280,8 +275,8 @@ class Crate:
         return status, said
 
     def check(self, bodies: list[WrongBody], is_whole: bool) -> tuple[int, list[str]]:
-        """Checks a copy of the crate with these wrong bodies: the whole crate, or only the
-        functions that must be checked for them. Returns the exit status and the message lines.
+        """Checks a copy with these wrong bodies, either the whole crate or only their functions.
+        Returns the exit status and the message lines.
         """
         start = self.keep() if is_whole else self.kept
         with self._turned(bodies) as folder:
@@ -385,9 +380,7 @@ def linked(one: str, other: str) -> None:
 
 
 def unread_in(said: list[str]) -> str | None:
-    """Returns the message line that says that a text of the crate cannot be compiled or parsed, or
-    None.
-    """
+    """Returns the message line about a text that cannot be compiled or parsed, or None."""
     for line in said:
         place = PLACE.match(line)
         words = re.sub(r"`[^`]*`", "", place[3]) if place else ""
@@ -441,13 +434,12 @@ def refusal_alone(crate: Crate, body: WrongBody) -> str:
 
 
 def refusals_told(group: Group, status: int, said: list[str]) -> dict[WrongBody, str]:
-    """Returns the bodies of a group that a check of the whole group refuses, each with the message.
-    Returns none if that is unclear.
+    """Returns the bodies that a check of the whole group refuses, with the messages; none if that
+    is unclear.
     """
     if not is_not_proved(status, said):
         return {}
-    # A changed function that is proved nevertheless may have no contract. Then other functions may
-    # fail because of it.
+    # A changed function that is proved may have no contract. Then others may fail because of it.
     if any(it.is_proved_in(said) for body in group for it in body.functions):
         return {}
     counted = [line for line in said if not GONE.match(line)]
@@ -460,8 +452,8 @@ def tell(crate: Crate, body: WrongBody, line: str) -> None:
 
 
 def left_of(crate: Crate, group: Group, refused: dict[WrongBody, str]) -> Tried:
-    """Prints the bodies of a group that one check refused, and returns their number and the other
-    bodies, in groups.
+    """Prints the bodies of a group that one check refused. Returns their number, and the others in
+    groups.
     """
     for body, line in refused.items():
         tell(crate, body, line)
@@ -578,9 +570,8 @@ def parsed() -> argparse.Namespace:
 
 
 def begin(crate: Crate, groups: list[Group]) -> Tried:
-    """Makes the first check of a crate. It is a check of the first group if that group changes
-    functions and no wrong body needs a check of the whole crate, and otherwise a check of the
-    unchanged crate.
+    """Makes the first check of a crate: of its first group, if that group changes functions and no
+    body needs a check of the whole crate, and otherwise of the unchanged crate.
     """
     first, *others = groups
     has_functions = all(body.to_check() for group in groups for body in group)
@@ -597,8 +588,7 @@ def begin(crate: Crate, groups: list[Group]) -> Tried:
 
 def try_crate(crate: Crate, groups: list[Group]) -> Tried:
     """Tries those groups of a crate that change functions, in sequence, because each check
-    continues from the previous one. Returns the number of refused bodies, and the groups that
-    change constants and definitions.
+    continues from the previous one. Returns the number of refused bodies, and the other groups.
     """
     refused, left = begin(crate, groups)
     others = [group for group in left if not group[0].functions]
