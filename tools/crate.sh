@@ -2,7 +2,7 @@
 # Makes the Rust package, tpmsim-VERSION.crate, with the library for each machine for which dist/ contains it,
 # and prints the package's path. It uses no network.
 #
-#   tools/crate.sh [FOLDER]   in FOLDER; else in out/
+#   tools/crate.sh [FOLDER]   in FOLDER; by default in out/
 #
 # Needs cargo, which builds the packed crate.
 set -u

@@ -2,7 +2,7 @@
 # Builds the package for Debian and its derivatives, tpmsim_VERSION_amd64.deb, and prints its path.
 # The same commit and the same tools make the same bytes.
 #
-#   tools/deb.sh [--machine aarch64] [FOLDER]   in FOLDER; else in out/
+#   tools/deb.sh [--machine aarch64] [FOLDER]   in FOLDER; by default in out/
 #
 # With --machine aarch64 it builds tpmsim_VERSION_arm64.deb from dist/aarch64, and needs Debian's
 # gcc-aarch64-linux-gnu. TPMSIM_MAINTAINER is the package's maintainer, by default the author of the last

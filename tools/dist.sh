@@ -5,10 +5,10 @@
 # for web pages.
 #
 #   tools/dist.sh           copies the program, unless a source is newer than the one built here
-#   tools/dist.sh --check   says whether dist/ was made of the current sources and, if it was made by
-#                           the kit that is installed here, whether the program has the bytes of the
-#                           one built here. The library is not built again: its bytes have to be those
-#                           that PROVED names
+#   tools/dist.sh --check   checks that dist/ was built from the current sources and, if the same kit is
+#                           installed here, that the program has the same bytes as the one built
+#                           here. The library is not built again: its checksums must be those in
+#                           PROVED
 set -u
 cd "$(dirname "$0")/.." || exit 1
 . tools/lib/proved.sh

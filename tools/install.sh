@@ -2,14 +2,14 @@
 # Installs the shipped program and everything that belongs to it. It proves nothing, and takes the program and
 # the library from dist/.
 #
-#   tools/install.sh    with these variables:
-#     PREFIX     the folder of the installation; /usr/local
-#     DESTDIR    a folder in front of PREFIX, as for a package; nothing
-#     LIBRARIES  the folder of libraries in PREFIX; lib
-#     PACKAGES   the folder of Python packages in PREFIX; the one where python3 looks, if it is in
-#                PREFIX, else lib/tpmsim/python
-#     TPMSIM_MACHINE  the machine of the installation, x86_64 or aarch64; this one
-#     FUNCTIONS  the folder of zsh's functions in PREFIX; share/zsh/site-functions
+#   tools/install.sh    with these environment variables:
+#     PREFIX     the folder of the installation; by default /usr/local
+#     DESTDIR    a folder that precedes PREFIX, as for a package; by default empty
+#     LIBRARIES  the folder of libraries in PREFIX; by default lib
+#     PACKAGES   the folder of Python packages in PREFIX; by default the one where python3 looks, if
+#                that is in PREFIX, or else lib/tpmsim/python
+#     TPMSIM_MACHINE  the machine of the installation, x86_64 or aarch64; by default this one
+#     FUNCTIONS  the folder of zsh's functions in PREFIX; by default share/zsh/site-functions
 #
 # The modules for libtss2 and for swtpm, and tpmsim-simulator, are built if the headers that they need are
 # installed. Otherwise a line says what is not installed. Without DESTDIR, root's ldconfig adds the libraries

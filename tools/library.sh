@@ -7,8 +7,8 @@
 # source is newer, those crates are first proved in a copy. Needs `rt`, git, a C compiler and Debian's
 # binutils.
 #
-# tools/library.sh                    the files for x86-64
-#   tools/library.sh --target aarch64   what is for ARM64, with the program (tools/aarch64.sh)
+#   tools/library.sh                    the files for x86-64
+#   tools/library.sh --target aarch64   the contents of dist/aarch64, with the program (tools/aarch64.sh)
 set -u
 cd "$(dirname "$0")/.." && top=$(pwd -P) || exit 1
 case $* in

@@ -3,7 +3,7 @@
 # package for Debian, the sources, dist/PROVED, the version's section of CHANGELOG.md, and SHA256SUMS with the
 # checksums of these files. It uploads nothing.
 #
-#   tools/release.sh [FOLDER]   in FOLDER; else in out/vVERSION
+#   tools/release.sh [FOLDER]   in FOLDER; by default in out/vVERSION
 #
 # CHANGELOG.md must begin with the version's section, `## VERSION, DATE`; the working tree must equal the last
 # commit; and dist/ must be built from its sources. Needs git, dpkg-deb, tar, gzip and python3.

@@ -7,12 +7,12 @@
 # come the shell tests of that program, of the library in dist/, and of the hosts that use the library. If
 # nothing was built here, only the files in dist/ are tested, which needs no `rt`.
 #
-#   tools/scripts.sh                   all of them
-#   tools/scripts.sh --shipped         those of what is in dist/ alone
-#   tools/scripts.sh --built           the others: those of programs built here that have other bytes
-#   tools/scripts.sh pcr_extend files  these
-#   tools/scripts.sh 'nv/*' 'torn*'    those of the folder tests/nv, and those whose names begin so
-#   JOBS=1 tools/scripts.sh            one after another, and not one on each processor
+#   tools/scripts.sh                   all tests
+#   tools/scripts.sh --shipped         only the tests of the files in dist/
+#   tools/scripts.sh --built           only the tests of programs that were built here and have other bytes
+#   tools/scripts.sh pcr_extend files  the tests with these names
+#   tools/scripts.sh 'nv/*' 'torn*'    the tests in tests/nv, and those whose names begin with torn
+#   JOBS=1 tools/scripts.sh            one test after another, instead of one on each processor
 #
 # The tests work in folders in memory, if there is enough memory, or in TMPDIR, if that is set.
 #

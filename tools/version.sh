@@ -1,7 +1,7 @@
 #!/bin/sh
 # Prints the version that each file states, one per line. The status is 1 if they differ.
 #
-#   tools/version.sh [PROGRAM]   of this program; else of dist/tpmsim
+#   tools/version.sh [PROGRAM]   with this program; by default with dist/tpmsim
 set -u
 program=${1:-dist/tpmsim}
 case $program in

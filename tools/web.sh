@@ -8,8 +8,8 @@
 # Neither binaryen nor the linker is part of the proof.
 #
 #   tools/web.sh           builds it
-#   tools/web.sh --check   builds it again, and compares it with dist/tpmsim.wasm: its bytes, if kit and
-#                          binaryen are those that PROVED names, and otherwise only its checksums
+#   tools/web.sh --check   checks dist/tpmsim.wasm: builds it again and compares the bytes, if kit and
+#                          binaryen are those that PROVED names; otherwise checks only its checksums
 #
 # The crates below the module's crate must have been built here by `rt ci`, and no source may be newer.
 # tools/build.sh builds them. Needs `rt`, and Debian's binaryen.

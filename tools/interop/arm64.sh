@@ -4,8 +4,8 @@
 # changes nothing on this machine: apt works in its own folder, nothing is installed, and the root file system
 # and the kernel's entry for qemu are visible only in their own namespaces. Not part of the gate.
 #
-#   tools/interop/arm64.sh FOLDER              plays the package there (arm64_package.sh)
-#   tools/interop/arm64.sh FOLDER COMMAND..    runs this there, in a clone of the last commit, for example
+#   tools/interop/arm64.sh FOLDER              tests the package there (arm64_package.sh)
+#   tools/interop/arm64.sh FOLDER COMMAND..    runs a command there, in a clone of the last commit, for example
 #                                              tools/scripts.sh 'nv/*'
 #
 # The root file system stays in FOLDER for the next run: 700 MB, of which 180 MB are downloaded. Needs what

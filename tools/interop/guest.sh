@@ -5,9 +5,9 @@
 # too. Then a running guest is saved with its TPM, and continues in another QEMU. Not part of the gate, since
 # it takes minutes. It installs nothing, and leaves only its folder, if one is named.
 #
-#   tools/interop/guest.sh [FOLDER]                   all of that
-#   tools/interop/guest.sh FOLDER FIRMWARE DEVICE     one of the four, as seabios tpm-tis
-#   tools/interop/guest.sh FOLDER moves               the guest that is saved while it runs
+#   tools/interop/guest.sh [FOLDER]                   all of these tests
+#   tools/interop/guest.sh FOLDER FIRMWARE DEVICE     one combination, for example seabios tpm-tis
+#   tools/interop/guest.sh FOLDER moves               only the guest that is saved while it runs
 #
 # Needs Debian's qemu-system-x86, qemu-utils, ovmf, swtpm, libtpms-dev, busybox-static, tpm2-tools, socat, and a
 # kernel with the TPM's drivers built in: the file that $KERNEL names, or Debian's cloud kernel, which apt-get

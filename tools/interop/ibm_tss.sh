@@ -4,7 +4,7 @@
 # TPM_ALG_XOR, and stay loaded from one tool to the next. Not part of the gate. It installs nothing, and
 # leaves no files. Needs tss2 and socat, and rt if the program is not built yet.
 #
-#   tools/interop/ibm_tss.sh [PORT]    on this port of 127.0.0.1, or on 2321
+#   tools/interop/ibm_tss.sh [PORT]    on this port of 127.0.0.1; by default 2321
 set -u
 
 top=$(CDPATH='' cd "$(dirname "$0")/../.." && pwd -P)

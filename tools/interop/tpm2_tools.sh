@@ -2,14 +2,14 @@
 # Uses a device with Debian's tpm2-tools, each tool in its own process, and reports for each tool whether
 # it succeeded. Not part of the gate. It installs nothing, and leaves no files.
 #
-#   tools/interop/tpm2_tools.sh            by each of the three ways
-#   tools/interop/tpm2_tools.sh WAY..      by these:
+#   tools/interop/tpm2_tools.sh            in each of these three ways
+#   tools/interop/tpm2_tools.sh WAY..      in these ways:
 #
-#   socket    a served device, which the tools reach by their `cmd` transport and socat. Needs
+#   socket    a served device, which the tools access through their `cmd` transport and socat. Needs
 #             tpm2-tools and socat, and rt if the program is not built yet
-#   module    a kept device alone, by the module that hosts/build.sh makes. Needs tpm2-tools and what
-#             that script needs; TPMSIM_ARCHIVE names another archive here too
-#   complete  the same with the completing layer, and with tools that pass contexts on
+#   module    a kept device without the completing layer, through the module that hosts/build.sh makes.
+#             Needs tpm2-tools and what that script needs; TPMSIM_ARCHIVE may name another archive
+#   complete  a kept device with the completing layer, and tools that pass contexts to each other
 set -u
 
 top=$(CDPATH='' cd "$(dirname "$0")/../.." && pwd -P)

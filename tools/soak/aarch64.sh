@@ -8,8 +8,8 @@
 # The other tests of hosts/ need features that qemu 7.2 lacks: sanitizers, adopting orphaned processes, and
 # memory that is wiped in a forked child, with which the module detects a fork.
 #
-#   tools/soak/aarch64.sh           all of these
-#   tools/soak/aarch64.sh NAME..    these: scripts, library, and the tests of hosts/ by their names
+#   tools/soak/aarch64.sh           all tests
+#   tools/soak/aarch64.sh NAME..    only these: scripts, library, or tests of hosts/ by name
 set -u
 top=$(CDPATH='' cd "$(dirname "$0")/../.." && pwd -P) || exit 1
 cd "$top" || exit 1

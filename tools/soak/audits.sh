@@ -3,8 +3,8 @@
 # random script of 400 commands. The log of each random script is checked again from a power cycle on, with
 # the device's image, and once more with altered lines. Needs python3.
 #
-#   tools/soak/audits.sh 1000     1,000 random ones, of the seeds from 1 on: about six minutes
-#   tools/soak/audits.sh 50 7     50, from seed 7 on
+#   tools/soak/audits.sh 1000     1,000 random scripts, from seed 1 on: about six minutes
+#   tools/soak/audits.sh 50 7     50 random scripts, from seed 7 on
 #   tools/soak/audits.sh 0        only the scripts of tests/ and examples/
 #
 # It runs PROGRAM, or the one that tools/lib/program.sh names. It keeps the random scripts in whose logs the

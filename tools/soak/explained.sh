@@ -4,7 +4,7 @@
 # it explains all scripts of tests/ and examples/ in the same way, with the responses of dist/tpmsim. Needs
 # python3.
 #
-#   tools/soak/explained.sh            all
+#   tools/soak/explained.sh            all tests
 #   tools/soak/explained.sh attached_cut 'swtpm/*'
 #
 # The status is 1 if the explanation of an undamaged log differs from its responses.

@@ -4,7 +4,7 @@
 # No test may fail there. Then it installs the packages that the line before the last one names, and runs the
 # tests again: now that line must be missing. It takes half an hour or more, and is not part of the gate.
 #   tools/soak/fresh_machines.sh           each machine of the list below
-#   tools/soak/fresh_machines.sh NAME..    these
+#   tools/soak/fresh_machines.sh NAME..    only these machines
 #
 # Needs root, Debian's debootstrap and util-linux, some 5 GB in TMPDIR, and a mirror: MIRROR, or else
 # deb.debian.org. It mounts only in its own namespace, which ends with the script, and removes its folder.

@@ -5,10 +5,10 @@
 # device, in several runs with the same image. Some of its buffers are incomplete or have wrong sizes, and
 # some images are altered. A round depends only on its seed.
 #
-#   tools/soak/fuzz.sh 600             rounds for 600 seconds, from a seed by the clock on, which it prints
-#   tools/soak/fuzz.sh 600 7           from seed 7 on, then 8, and so on
-#   tools/soak/fuzz.sh --rounds 60 1   those of the seeds 1 to 60, the same each time: about a minute
-#   tools/soak/fuzz.sh --replay FILE   a script or a stream that an earlier run left
+#   tools/soak/fuzz.sh 600             rounds for 600 seconds, from a seed on that is taken from the clock and printed
+#   tools/soak/fuzz.sh 600 7           the same, with the seeds 7, 8, and so on
+#   tools/soak/fuzz.sh --rounds 60 1   the rounds of the seeds 1 to 60, always the same: about a minute
+#   tools/soak/fuzz.sh --replay FILE   plays a script or a stream that an earlier run kept
 #
 # It runs PROGRAM, or the one that tools/lib/program.sh names. If a response differs, it prints the seed and
 # the line of the difference, and keeps the script or the stream. The first one is also kept in a reduced

@@ -7,8 +7,8 @@
 #   crate    Debian's cargo tests the unpacked crate, and README's example in Rust runs.
 #   module   Debian's go tests the folder go/ of a clone, and README's example in Go runs.
 #
-#   tools/soak/installed_machines.sh           each of these
-#   tools/soak/installed_machines.sh NAME..    these
+#   tools/soak/installed_machines.sh           all four packages
+#   tools/soak/installed_machines.sh NAME..    only these
 #
 # It prints a line for each check, with the output if the check fails. The status is 1 if a check fails. Needs
 # root, what tools/deb.sh and tools/crate.sh need, Debian's debootstrap and util-linux, 3 GB in TMPDIR, and a

@@ -2,8 +2,8 @@
 # Drives the compiled keeper with the folder and the crashes that the theorem on kept devices defines, like
 # tests/library/library_keeper_world.sh, but for more events. It is not part of the gate. Needs cc.
 #
-#   tools/soak/keeper_world.sh               a million events, of seed 1
-#   tools/soak/keeper_world.sh 5000000 7     five million, of seed 7
+#   tools/soak/keeper_world.sh               a million events, with seed 1
+#   tools/soak/keeper_world.sh 5000000 7     five million events, with seed 7
 #
 # It prints that each response and each journal agreed with the history, or which of them did not, and the
 # numbers of events of each kind.

@@ -5,8 +5,8 @@
 # and fork. It is not part of the gate. Needs cc, libtss2-dev and python3.
 #
 #   tools/soak/kept_hosts.sh             all calls, and ten minutes of processes
-#   tools/soak/kept_hosts.sh 60 7        all calls, and one minute of seed 7
-#   tools/soak/kept_hosts.sh 60 7 1      one call in 1; 10: one in ten
+#   tools/soak/kept_hosts.sh 60 7        all calls, and one minute of processes, with seed 7
+#   tools/soak/kept_hosts.sh 60 7 1      the same; with 10 instead of 1, only every tenth call
 #
 # At the end it prints what was tried. If something was wrong, it prints that, and the status is 1.
 set -u

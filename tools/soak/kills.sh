@@ -4,8 +4,8 @@
 # number of times, and kills it immediately after a response, as tests/serving/save_each.sh does. It is not
 # part of the gate. Needs python3.
 #
-#   tools/soak/kills.sh               1,000 kills, of seed 1
-#   tools/soak/kills.sh 5000 7        5,000 kills, of seed 7
+#   tools/soak/kills.sh               1,000 kills, with seed 1
+#   tools/soak/kills.sh 5000 7        5,000 kills, with seed 7
 #
 # Its first line says that everything was right, or what was wrong. In the latter case it keeps the last
 # image, and prints its path. The second line says when the kills happened, which differs from run to run. The

@@ -3,7 +3,7 @@
 # tests/serving/serve_clients.sh does with five million bytes. It is not part of the gate. Needs python3.
 #
 #   tools/soak/long_stream.sh          100 million bytes of commands
-#   tools/soak/long_stream.sh 500      500 million
+#   tools/soak/long_stream.sh 500      500 million bytes
 #
 # Each command must be answered with SUCCESS. The last line says how the program ended.
 set -u

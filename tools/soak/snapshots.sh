@@ -6,8 +6,8 @@
 # part of the gate, and needs python3, a C compiler and the library in dist/.
 #
 #   tools/soak/snapshots.sh                 the scripts of the seeds 1 to 100, of 1,000 commands each
-#   tools/soak/snapshots.sh 7               that of seed 7
-#   tools/soak/snapshots.sh 1 200 2000      those of the seeds 1 to 200, of 2,000 commands each
+#   tools/soak/snapshots.sh 7               the script of seed 7
+#   tools/soak/snapshots.sh 1 200 2000      the scripts of the seeds 1 to 200, of 2,000 commands each
 #
 # If the devices differ, it keeps the script, and prints its path. Its last line is `N agree, M differ`.
 set -u

@@ -4,7 +4,7 @@
 # and libtss2-dev. Not part of the gate.
 #
 #   tools/soak/swtpm_states.sh       all calls
-#   tools/soak/swtpm_states.sh 10    one call in ten
+#   tools/soak/swtpm_states.sh 10    every tenth call
 #
 # At the end it prints the number of runs. If something was wrong, it prints that, and the status is 1.
 set -u

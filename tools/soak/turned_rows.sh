@@ -6,8 +6,8 @@
 # that name different laws of one crate are tried in one copy of that crate and of the crates below it. `rt
 # ci` proves the copy, from scratch if the kit has stored no proofs. Needs rt, and git.
 #
-#   tools/soak/turned_rows.sh                    all of them
-#   tools/soak/turned_rows.sh pcr_16_restored    one of them, or several
+#   tools/soak/turned_rows.sh                    all patches
+#   tools/soak/turned_rows.sh pcr_16_restored    one patch, or several
 #
 # A patch begins with a description of the wrong behaviour, and with one or two lines:
 #
