@@ -1,4 +1,4 @@
-# Makes each system call of a kept device fail in turn. The test program is attached/calls.c.
+# Makes each system call of a kept device fail in turn. See attached/calls.c.
 tests=$(cd "$(dirname "$0")/.." && pwd -P)
 . "$tests/common/cases.sh"
 . "$tests/common/library.sh"

@@ -1,5 +1,4 @@
-# Tests a kept device while the host's clock runs, stops, goes back and jumps. The test program is
-# attached/clock.c.
+# Tests a kept device while the host's clock runs, stops, goes back and jumps. See attached/clock.c.
 tests=$(cd "$(dirname "$0")/.." && pwd -P)
 . "$tests/common/cases.sh"
 . "$tests/common/library.sh"

@@ -1,7 +1,6 @@
 # Tests the completing layer of a kept device. Until the next power cycle, a process can load a context that
 # another process saved: a session's context once, an object's context any number of times, even after the
-# object was flushed. A process that disables the layer uses only the device. The test program is
-# attached/ask.c.
+# object was flushed. A process that disables the layer uses only the device. See attached/ask.c.
 tests=$(cd "$(dirname "$0")/.." && pwd -P)
 . "$tests/common/cases.sh"
 . "$tests/common/library.sh"

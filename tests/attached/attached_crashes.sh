@@ -1,5 +1,5 @@
 # Before each system call in turn, kills a process that holds a device with force=always. Then the host
-# crashes, and its disk contains only what was synced. The test program is attached/crashes.c.
+# crashes, and its disk contains only what was synced. See attached/crashes.c.
 tests=$(cd "$(dirname "$0")/.." && pwd -P)
 . "$tests/common/cases.sh"
 . "$tests/common/library.sh"

@@ -1,5 +1,4 @@
-# Changes or cuts the bytes of journals; removes, duplicates and swaps their records. The test program is
-# attached/damage.c.
+# Changes or cuts the bytes of journals; removes, duplicates and swaps their records. See attached/damage.c.
 tests=$(cd "$(dirname "$0")/.." && pwd -P)
 . "$tests/common/cases.sh"
 . "$tests/common/library.sh"

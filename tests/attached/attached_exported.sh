@@ -1,4 +1,4 @@
-# Uses a kept device through the public header tpmsim_kept.h. The test program is attached/exported.c.
+# Uses a kept device through the public header tpmsim_kept.h. See attached/exported.c.
 tests=$(cd "$(dirname "$0")/.." && pwd -P)
 . "$tests/common/cases.sh"
 . "$tests/common/library.sh"

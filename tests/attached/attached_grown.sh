@@ -1,5 +1,4 @@
-# Checks that journals that have grown are restarted, with and without keep=N. The test program is
-# attached/grown.c.
+# Checks that journals that have grown are restarted, with and without keep=N. See attached/grown.c.
 tests=$(cd "$(dirname "$0")/.." && pwd -P)
 . "$tests/common/cases.sh"
 . "$tests/common/library.sh"

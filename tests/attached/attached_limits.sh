@@ -1,5 +1,4 @@
-# Tests a kept device on a full disk, and in a process without free file descriptors. The test program is
-# attached/limits.c.
+# Tests a kept device on a full disk, and in a process without free file descriptors. See attached/limits.c.
 tests=$(cd "$(dirname "$0")/.." && pwd -P)
 . "$tests/common/cases.sh"
 . "$tests/common/library.sh"

@@ -1,5 +1,5 @@
 # Puts files of another user at each path of a kept device. They are refused, and stay unchanged. Only root
-# can give files to another user. The test program is attached/ask.c.
+# can give files to another user. See attached/ask.c.
 tests=$(cd "$(dirname "$0")/.." && pwd -P)
 . "$tests/common/cases.sh"
 . "$tests/common/library.sh"

@@ -1,5 +1,5 @@
 # Puts links, pipes, folders and sockets at the paths of a kept device. They are refused, and stay unchanged.
-# The test program is attached/ask.c.
+# See attached/ask.c.
 tests=$(cd "$(dirname "$0")/.." && pwd -P)
 . "$tests/common/cases.sh"
 . "$tests/common/library.sh"

@@ -1,5 +1,5 @@
-# Forks a child that has the same process ID as its parent, in another namespace. The test program is
-# attached/pids.c. Only root, or a user who may be root in a namespace, can make these namespaces.
+# Forks a child that has the same process ID as its parent, in another namespace. See attached/pids.c. Only
+# root, or a user who may be root in a namespace, can make these namespaces.
 if [ -z "${own_numbers:-}" ]; then
     for user in '' '--user --map-root-user'; do
         # shellcheck disable=SC2086 # word splitting is intended

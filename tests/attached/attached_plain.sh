@@ -1,5 +1,5 @@
 # Tests a kept device of a user who is not root. The umask denies the user access to the folder, or the parent
-# folder is unreadable. The test program is attached/ask.c.
+# folder is unreadable. See attached/ask.c.
 tests=$(cd "$(dirname "$0")/.." && pwd -P)
 . "$tests/common/cases.sh"
 . "$tests/common/library.sh"

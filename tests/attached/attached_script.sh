@@ -1,5 +1,5 @@
-# Checks that `tpmsim replay` prints the same responses for a kept device's journal as the device. The test
-# program is attached/ask.c.
+# Checks that `tpmsim replay` prints the same responses for a kept device's journal as the device. See
+# attached/ask.c.
 tests=$(cd "$(dirname "$0")/.." && pwd -P)
 . "$tests/common/cases.sh"
 . "$tests/common/library.sh"

@@ -1,4 +1,4 @@
-# Connects more clients to tpmsim-simulator than it has file descriptors for. The test program is
+# Connects more clients to tpmsim-simulator than it has file descriptors for. See
 # attached/simulator_clients.py.
 tests=$(cd "$(dirname "$0")/.." && pwd -P)
 . "$tests/common/cases.sh"

@@ -1,5 +1,5 @@
 # The program `tpmsim` and the kept device in C use one folder at the same time. Each executes the commands
-# that the other added to the journal. Both report the same errors. The test program is attached/ask.c.
+# that the other added to the journal. Both report the same errors. See attached/ask.c.
 tests=$(cd "$(dirname "$0")/.." && pwd -P)
 . "$tests/common/cases.sh"
 . "$tests/common/library.sh"

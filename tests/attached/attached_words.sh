@@ -1,4 +1,4 @@
-# Tests valid and invalid configuration strings for a kept device. The test program is attached/ask.c.
+# Tests valid and invalid configuration strings for a kept device. See attached/ask.c.
 tests=$(cd "$(dirname "$0")/.." && pwd -P)
 . "$tests/common/cases.sh"
 . "$tests/common/library.sh"

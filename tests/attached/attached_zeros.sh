@@ -1,5 +1,4 @@
-# Tests journals with zeros at the end, which a crash of the host can leave. The test program is
-# attached/zeros.c.
+# Tests journals with zeros at the end, which a crash of the host can leave. See attached/zeros.c.
 tests=$(cd "$(dirname "$0")/.." && pwd -P)
 . "$tests/common/cases.sh"
 . "$tests/common/library.sh"

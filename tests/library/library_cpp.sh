@@ -1,4 +1,4 @@
-# Tests the library from C++, with sanitizers. The test program is library/caller.cpp.
+# Tests the library from C++, with sanitizers. See library/caller.cpp.
 tests=$(cd "$(dirname "$0")/.." && pwd -P)
 . "$tests/common/cases.sh"
 . "$tests/common/library.sh"

@@ -1,5 +1,5 @@
 # Makes many devices in one process, and devices in threads with small stacks, with and without sanitizers.
-# The test programs are library/devices.c and library/threads.c.
+# See library/devices.c and library/threads.c.
 tests=$(cd "$(dirname "$0")/.." && pwd -P)
 . "$tests/common/cases.sh"
 . "$tests/common/library.sh"

@@ -1,4 +1,4 @@
-# Tests the library from Go, through cgo. The test program is caller.go.
+# Tests the library from Go, through cgo. See caller.go.
 tests=$(cd "$(dirname "$0")/.." && pwd -P)
 . "$tests/common/cases.sh"
 . "$tests/common/library.sh"

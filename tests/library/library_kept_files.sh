@@ -1,5 +1,5 @@
-# Tests a device that Python keeps in a folder, with wrong files, in threads, and in forked processes. The
-# test program is library/kept_files.py.
+# Tests a device that Python keeps in a folder, with wrong files, in threads, and in forked processes. See
+# library/kept_files.py.
 tests=$(cd "$(dirname "$0")/.." && pwd -P)
 . "$tests/common/cases.sh"
 . "$tests/common/library.sh"

@@ -1,5 +1,5 @@
-# Tests the command lines of `tpmsim serve`, and the files that it cannot use. The program checks first the
-# command line, then the image, the random bytes and the socket, and at last each connection.
+# Tests the command lines of `tpmsim serve`, and the files that it cannot use. The program first checks the
+# command line, then the image, the random bytes and the socket, and finally each connection.
 common=$(cd "$(dirname "$0")/.." && pwd -P)/common
 tests=$(cd "$(dirname "$0")/.." && pwd -P)
 . "$tests/common/cases.sh"

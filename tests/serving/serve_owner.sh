@@ -27,8 +27,8 @@ talk 'an image that everybody may read' 4096 "$startup"
 ended 'one connection'
 stat -c %A image
 
-# First a file that a killed run left is at the path of the new image, then links are there. The links'
-# targets stay unchanged.
+# At the path of the new image there is a file that a killed run left, and later a link. The link's target
+# stays unchanged.
 echo untouched >target
 echo unfinished >image.new
 begin 1

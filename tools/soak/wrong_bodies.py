@@ -259,8 +259,8 @@ class Crate:
         }
 
     def begin(self, group: list[WrongBody], others: list[WrongBody]) -> tuple[int, list[str]]:
-        """Makes the first check, on a copy with the wrong bodies of a group, of their functions and
-        those of the other bodies. Returns the exit status and the message lines.
+        """Makes the first check, on a copy with the wrong bodies of a group. Checks the functions
+        of all bodies. Returns the exit status and the message lines.
         """
         every = [*group, *others]
         with self._turned(group) as folder:
