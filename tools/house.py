@@ -1,7 +1,7 @@
 #!/usr/bin/env python3
 """Draws docs/house.svg: the crates in layers, from crates.txt. A crate is in the row above the
-highest of the crates that it depends on, so the lowest crates are at the bottom. Its colour is that
-of its group, which is a heading of crates.txt.
+highest of the crates that it depends on, so the lowest crates are at the bottom. Its colour shows
+its group, which is a heading of crates.txt.
 
 `tools/house.py` compares the picture with the new one, and its status is 1 if they differ;
 `tools/house.py --write` writes it.

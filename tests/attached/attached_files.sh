@@ -1,5 +1,5 @@
-# Checks the files that `hosts/build.sh tcti` makes: they have the same bytes each time, and the names that
-# the module exports. Also checks the script's message if something is missing.
+# Checks that `hosts/build.sh tcti` makes the same bytes each time, and which names the module exports. Also
+# checks the script's message if something is missing.
 tests=$(cd "$(dirname "$0")/.." && pwd -P)
 . "$tests/common/cases.sh"
 . "$tests/common/library.sh"

@@ -54,8 +54,8 @@ static void extend_and_look(struct kept *kept, size_t size, const char *behind, 
     free(journal);
 }
 
-/* Writes zeros after the first `front` bytes of the last record. Does so before a device is opened,
-   while it is open, and before a power cycle. */
+/* Writes zeros after the first `front` bytes of the last record: before a device is opened, while
+   it is open, and before a power cycle. */
 static void try_zeros(size_t front, size_t zeros, const struct values *values) {
     size_t size = last + front + zeros;
     struct reason reason;

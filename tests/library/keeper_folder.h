@@ -33,7 +33,8 @@ typedef struct executed {
     size_t size, response_size;
 } executed;
 
-/* files[names[0]] is the journal. The others had its name since the last sync of the folder. */
+/* files[names[0]] is the journal. The other files had its name since the last sync of the
+ * folder. */
 typedef struct world {
     file files[1 + OLDER];
     int names[1 + OLDER], olders;

@@ -81,7 +81,7 @@ third 'power\r'
 third 'poweroff'
 third 'trace'
 
-# Wrong commands in words; assemble.sh has more of them.
+# Wrong commands in words. assemble.sh tests more of them.
 third 'do'
 third 'do '
 third 'do GetRandom'

@@ -73,7 +73,7 @@ words script
 words script a b
 words script --state a
 
-# `asm` with a command in words. assemble.sh has more of them.
+# `asm` with a command in words. assemble.sh tests more commands.
 run "tpmsim asm 'Startup 0'" asm 'Startup 0'
 run "tpmsim asm Bogus" asm Bogus
 run "tpmsim asm ''" asm ''
@@ -85,7 +85,7 @@ run "tpmsim asm 'Startup 0' a" asm 'Startup 0' a
 run "tpmsim asm --trace 'Startup 0'" asm --trace 'Startup 0'
 run "tpmsim --trace asm 'Startup 0'" --trace asm 'Startup 0'
 
-# `line` with a buffer, whose line is printed. line.sh has more of them.
+# `line` with a buffer, whose line is printed. line.sh tests more buffers.
 words line 80010000000c000001440000
 words line 80010000000c00000144
 words line 8

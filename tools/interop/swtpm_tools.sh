@@ -227,7 +227,7 @@ own_state() {
     end_tpm
 }
 
-# Damaged states are refused, and so are those of swtpm's own libtpms; the stored state is
+# Checks that damaged states are refused, and so are states of swtpm's own libtpms. The stored state is
 # unchanged.
 damage() {
     own_state own_volatile
