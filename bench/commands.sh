@@ -18,7 +18,7 @@ trap 'rm -rf "$folder"' EXIT
 # uses one repeated instruction, which callgrind counts once for each byte.
 limits=glibc.cpu.x86_rep_stosb_threshold=1000000:glibc.cpu.x86_rep_movsb_threshold=1000000
 
-# script COMMAND COUNT: prints the script.
+# script COMMAND COUNT: prints a script that executes the command COUNT times.
 script() {
     case $1 in
     PCR_Reset) "$top/tools/python.sh" "$top/bench/commands.py" session reset owner "$2" ;;

@@ -23,7 +23,7 @@ from pathlib import Path
 TOP = Path(__file__).resolve().parent.parent
 STYLE = TOP / "docs" / "STYLE.md"
 LEXICON = re.compile(r"<!-- lexicon -->\n(.*)<!-- end of lexicon -->", re.DOTALL)
-# The comment of a definition or a proof, and the comment of a shell script.
+# Comments of definitions and proofs, and comments of shell scripts.
 DASHES = re.compile(r"(?:^|\s)--\s(.*)$")
 HASH = re.compile(r"^\s*#(?!!)(.*)$")
 # the part of JSDoc that describes a type; the names in it are code

@@ -9,7 +9,7 @@ needs python3
 attach ask ask
 shipped=$dist/tpmsim
 
-# words LINE: prints the buffer of a command in words.
+# words LINE: assembles a command in words, and prints its buffer.
 words() {
     "$shipped" asm "$1"
 }

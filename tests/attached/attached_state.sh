@@ -9,7 +9,7 @@ shipped=$dist/tpmsim
 
 attach ask ask
 
-# words LINE: prints the buffer of a command in words.
+# words LINE: assembles a command in words, and prints its buffer.
 words() {
     "$shipped" asm "$1"
 }

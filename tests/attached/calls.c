@@ -75,8 +75,8 @@ static bool nothing(struct kept *kept, struct reason *reason) {
     return true;
 }
 
-/* A kind of trial: whether a device exists already, the image of a new device, and the calls to make.
- * The device may have been opened before. */
+/* A kind of trial: whether a device exists already, and whether it is already open; the image of a
+ * new device; and the action. */
 struct trial {
     const char *label;
     bool has_state, is_open_before;
@@ -181,7 +181,7 @@ static void try_all(const struct trial *trial, enum fault kind, const struct val
            told && borne ? "; borne:" : borne ? "borne:" : "", names);
 }
 
-/* Prints how often an operation on the device syncs. */
+/* Prints how often an operation on the device synced. */
 static void tell_forced(const char *label) {
     printf("; %s %u and %u", label, forced, forced_data);
     forced = forced_data = 0;

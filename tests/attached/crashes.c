@@ -81,7 +81,7 @@ static bool cycle_telling(struct kept *kept) {
     return true;
 }
 
-/* Returns the number of extends of the device as it is now. */
+/* Returns how often the PCR was extended, or AWAITS_STARTUP. */
 static long extends_there(struct kept *kept, const struct values *values) {
     uint8_t response[RESPONSE_BYTES];
     size_t size = answered_by(kept, PCR_READ, sizeof PCR_READ, response);

@@ -45,7 +45,7 @@ static void extend_at_once(unsigned keep) {
         must(wait(&status) > 0 && status == 0, "a process ended with a fault");
 }
 
-/* Opens a copy of a journal, and returns the number of its device's extends. */
+/* Opens a copy of a journal, and returns how often its device's PCR was extended. */
 static long extends_in(const char *path, const struct values *values) {
     char name[512];
     size_t size;

@@ -5,12 +5,12 @@
 export CGO_ENABLED=1 GOFLAGS=-buildvcs=false GOPROXY=off GOSUMDB=off
 export GOCACHE="${TPMSIM_BUILT:-$room}/go" GOPATH="$room/path" CGO_LDFLAGS="-L$dist"
 
-# copy_module: makes the copy, in the folder `module`.
+# copy_module: copies the Go module to the folder `module`.
 copy_module() {
     cp -rL "$tests/../go" module && rm -rf module/native && cp "$dist/tpmsim.h" module/
 }
 
-# play WORDS..: runs go in the copy, and prints its output if it fails.
+# play WORDS..: runs go in the copied module, and prints its output if it fails.
 play() {
     (cd module && go "$@") >said 2>&1 && return
     echo "go $*: status $?"

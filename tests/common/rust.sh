@@ -8,12 +8,12 @@ CARGO_NET_OFFLINE=true
 TPMSIM_LIB_DIR=$dist
 export CARGO_TARGET_DIR CARGO_NET_OFFLINE TPMSIM_LIB_DIR
 
-# copy_package: makes the copy, in the folder `package`.
+# copy_package: copies the Rust package to the folder `package`.
 copy_package() {
     cp -rL "$tests/../rust" package && rm -rf package/target package/Cargo.lock package/native
 }
 
-# play WORDS..: runs cargo in the copy, and prints its output if it fails.
+# play WORDS..: runs cargo in the copied package, and prints its output if it fails.
 play() {
     (cd package && cargo "$@") >said 2>&1 && return
     echo "cargo $*: status $?"

@@ -3,7 +3,7 @@
 needs python3
 client=$tests/common/client.py
 
-# bytes_of COUNT OCTAL: prints COUNT bytes, each with this value.
+# bytes_of COUNT OCTAL: prints COUNT bytes with the value OCTAL.
 bytes_of() {
     head -c "$1" /dev/zero | tr '\0' "\\$2"
 }
@@ -45,7 +45,7 @@ ended() {
     [ ! -e socket ] || echo '    the socket is still there'
 }
 
-# words LINE: prints the buffer of a command in words.
+# words LINE: assembles a command in words, and prints its buffer.
 words() {
     "$program" asm "$1"
 }

@@ -31,7 +31,7 @@ static void read_pcr(struct tpmsim *device, uint8_t value[DIGEST_BYTES]) {
     memcpy(value, response + VALUE_AT, DIGEST_BYTES);
 }
 
-/* Computes the value of PCR 10 after the same commands on a single device. */
+/* Computes the expected value of PCR 10, with a device that runs alone. */
 static void value_alone(unsigned number, uint8_t value[DIGEST_BYTES]) {
     struct tpmsim alone = {0};
     start_new(&alone, 1);

@@ -1,4 +1,4 @@
-/* The size of the stack that a call uses. */
+/* Measures how much stack a call uses. */
 #ifndef KEEPER_STACK_H
 #define KEEPER_STACK_H
 #include "common.h"

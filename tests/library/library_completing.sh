@@ -1,4 +1,4 @@
-# Tests the completing layer of a device that has a journal: completing.c, with and without sanitizers.
+# Tests the completing layer of a device that has a journal, with and without sanitizers. See completing.c.
 tests=$(cd "$(dirname "$0")/.." && pwd -P)
 . "$tests/common/cases.sh"
 . "$tests/common/library.sh"

@@ -49,7 +49,7 @@ third 'loc 256'
 third 'loc 4294967296'
 third 'loc 18446744073709551616'
 
-# More than 4,294,967,295 milliseconds, or not a decimal number.
+# A wait of more than 4,294,967,295 milliseconds, or that is not a decimal number.
 third 'wait'
 third 'wait '
 third 'wait 4294967296'

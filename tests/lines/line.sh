@@ -1,4 +1,4 @@
-# Checks the lines that `tpmsim line` finds for buffers: for the `do` and `cmd` lines of the scripts, which
+# Checks the lines that `tpmsim line` finds for the buffers of all `do` and `cmd` lines in scripts, which
 # common/line.py passes to it, and for some other buffers.
 tests=$(cd "$(dirname "$0")/.." && pwd -P)
 . "$tests/common/cases.sh"

@@ -38,7 +38,7 @@ printf 'import sys\nprint(sys.path)\n' >good.py
 echo 'fn one() {}' | tee crates/tpm_one/src/lib.rt >crates/tpm_two/src/lib.rt
 git init -q . && git add . && git -c user.name=t -c user.email=t@localhost commit -q -m 'Begin'
 
-# before FOLDER..: runs the script with these folders of tools.
+# before FOLDER..: runs the script with the tools in these folders.
 before() {
     path=$room/folder/tools_there
     for folder do path=$path:$room/folder/$folder; done

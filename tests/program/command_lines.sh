@@ -25,11 +25,11 @@ words run ./-
 # The script is read from standard input, although there is a file with the name `-`.
 words run -
 
-# No words; and `run` without a script.
+# No arguments, and `run` without a script.
 words
 words run
 
-# `run` with a script and one word too many.
+# `run` with a script and one argument too many.
 words run a b
 words run - a
 words run a -
@@ -61,7 +61,7 @@ served --state state --log log
 served --image image --state state --log log
 served --log log
 
-# Commands on a state, which take one folder.
+# Subcommands on a device in a folder, which take one folder.
 words power
 words power a b
 words snapshot
@@ -113,6 +113,6 @@ words help run
 words help line
 words version
 
-# A word that is not UTF-8.
+# An argument that is not UTF-8.
 echo cmd | run 'tpmsim run \377' run "$(printf '\377')"
 run "tpmsim asm 'Startup \377'" asm "$(printf 'Startup \377')"

@@ -80,7 +80,7 @@ journals
 run 'nothing in the way' power --keep 3 state
 journals
 
-# The number is 0 to 99, and needs a folder.
+# The number must be 0 to 99, and the option needs a folder.
 run 'keep 99' power --keep 99 state
 run 'keep 100' power --keep 100 state
 run 'keep -1' power --keep -1 state

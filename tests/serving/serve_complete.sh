@@ -29,7 +29,7 @@ serve 'without the layer'
 cp state/journal without
 "$program" power state || echo 'no power cycle'
 serve 'with the layer' --complete
-# Each command of the journal says whether the layer was on; --save-each does not change that.
+# In the journal, each command says whether the layer was on. --save-each does not change that.
 "$program" power state || echo 'no power cycle'
 serve 'with the layer, and each response forced to the disk' --save-each --complete
 "$program" script state | grep -c '^# completed'

@@ -36,7 +36,7 @@ tool() {
     fi
 }
 
-# same: checks that the unsealed data are the sealed data.
+# same: checks that the unsealed data equal the sealed data.
 same() {
     cmp -s secret unsealed || { echo 'FAILED: other bytes'; failed=$((failed + 1)); }
 }

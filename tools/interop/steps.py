@@ -21,7 +21,7 @@ TOOL = re.compile(r"\btpm2_(\w+)")
 
 @dataclasses.dataclass(frozen=True)
 class Step:
-    """A line of a file of steps."""
+    """A step, which is one line of a file of steps."""
 
     command: str
     # The response code with which the step must be refused, or empty if it must succeed.

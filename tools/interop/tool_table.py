@@ -33,7 +33,7 @@ COLUMNS = 118
 
 @dataclasses.dataclass
 class Results:
-    """The outcomes of all steps on each device, in the same order. The steps of the day come
+    """The outcomes of all steps on each device, in the same order. The steps of day.steps come
     first.
     """
 

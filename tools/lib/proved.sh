@@ -46,8 +46,8 @@ crates_below() {
         }' crates.txt
 }
 
-# sources [CRATE]: prints the files and folders from which a program or the library is made. CRATE is its
-# crate, tpmsim by default.
+# sources [CRATE]: prints the files and folders from which a program or the library is built. CRATE is its
+# crate, by default tpmsim.
 sources() {
     below=$(crates_below "${1:-tpmsim}") || return 1
     echo crates.txt

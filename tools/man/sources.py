@@ -50,7 +50,7 @@ def anchor_of(heading: str) -> str:
 
 
 def headings_of(text: str) -> list[tuple[int, int, str]]:
-    """Returns the line of each heading, its level and its anchor; code contains no headings."""
+    """Returns the offset, the level and the anchor of each heading outside of code."""
     blank = FENCED.sub(lambda found: re.sub(r"[^\n]", " ", found[0]), text)
     return [(each.start(), len(each[1]), anchor_of(each[2])) for each in HEADING.finditer(blank)]
 
