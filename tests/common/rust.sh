@@ -1,6 +1,5 @@
 # Functions for the tests of the Rust package, which read this file after cases.sh and library.sh. The tests
-# use a copy of the package, which is linked with the archive under test. The file also sets the folder in
-# which cargo works.
+# use a copy of the package, linked with the archive under test.
 # shellcheck shell=sh disable=SC2154 # cases.sh has `room` and `tests`, library.sh `dist`
 PATH=$PATH:${HOME:-/root}/.cargo/bin
 CARGO_TARGET_DIR=$room/target

@@ -1,7 +1,7 @@
 /* The common part of the shims for many runs of a program. The process stops before its `main`, and
- * reads turns from a socket, whose number is in the environment variable TURNS. For each turn the
- * process forks. The child continues with `main`, and the process reports how the child ended. This
- * takes half of the time that loading the program again would take. */
+ * reads turns from a socket, whose number is in the environment variable TURNS. For each turn it
+ * forks. The child continues with `main`, and the process reports how the child ended. This halves
+ * the time of a run. */
 #include <stdlib.h>
 #include <sys/mman.h>
 #include <sys/socket.h>
