@@ -1,6 +1,6 @@
 /* Kills processes at random moments while they extend a PCR. No answered extend is lost. At most
- * the extend that was being executed is there in addition. The arguments are the file with the
- * expected PCR values, and the number of kills. */
+ * the one that was being executed is added. The arguments are the file with the expected PCR
+ * values, and the number of kills. */
 #include "common.h"
 #include <signal.h>
 #include <sys/wait.h>
@@ -11,7 +11,7 @@ static const char FOLDER[] = "state";
  * CPU. */
 enum { MOST_EXTENDS = 2000 };
 
-/* Extends again and again, writes a byte for each response, and waits to be killed. */
+/* Extends the PCR again and again, writes a byte for each response, and waits to be killed. */
 static void extend_on(int told) {
     struct kept *kept = opened(FOLDER);
     for (int i = 0; i < MOST_EXTENDS; i++) {

@@ -42,7 +42,7 @@ struct host {
 
 static uint8_t host_text[TEXT_BYTES];
 
-/* Does a part of a task, and kills the host. */
+/* Does nothing, a part, or all of a task, and kills the host. */
 static inline void host_dies(host *it, tpmsim_ask *ask, extent how_much) {
     int is_writing = ask->task == TPMSIM_TASK_PUT || ask->task == TPMSIM_TASK_MAKE;
     if (how_much == A_PART) ask->size /= 2;
