@@ -1,12 +1,12 @@
-# The most frequent tasks. Only `dist` needs `rt`.
+# The most frequent tasks. Only the `dist` targets need `rt`.
 #
 #   make check                      runs the quick checks of a change, and all tests that are scripts
 #   make dist                       proves and builds the contents of dist/; half an hour to an hour
-#   make dist-arm64                 those of dist/aarch64, after make dist
-#   make dist-web                   the module for web pages, after make dist
+#   make dist-arm64                 builds the contents of dist/aarch64, after make dist
+#   make dist-web                   builds the module for web pages, after make dist
 #   make hosts                      builds the modules for libtss2 and swtpm, and the simulator, in out/
-#   make install PREFIX=/usr/local  installs the contents of dist/; DESTDIR is a folder in front of PREFIX
-#   make deb                        makes the package for Debian in out/; deb-arm64 the one for ARM64
+#   make install PREFIX=/usr/local  installs the contents of dist/; DESTDIR is a folder that precedes PREFIX
+#   make deb                        makes the package for Debian in out/; make deb-arm64 makes it for ARM64
 #   make crate, make wheel          make the packages for Rust and Python in out/
 PREFIX = /usr/local
 DESTDIR =

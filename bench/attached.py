@@ -1,4 +1,4 @@
-"""Measures a kept device attached by the module for libtss2, and swtpm, and prints tables:
+"""Measures a kept device, through the module for libtss2, and swtpm, and prints tables:
 
     tools/python.sh bench/attached.py MODULE CLIENT DISK [ROUNDS]
 
@@ -44,7 +44,7 @@ class Swtpm:
     process: subprocess.Popen[bytes] | None = None
 
     def start(self) -> str:
-        """Starts swtpm, and returns the string by which libtss2 connects to it."""
+        """Starts swtpm, and returns libtss2's configuration string for connecting to it."""
         self.folder.mkdir()
         words = ["swtpm", "socket", "--tpm2", "--tpmstate", f"dir={self.folder}"]
         words += ["--server", f"type=tcp,port={self.port}", "--flags", "not-need-init"]
@@ -71,7 +71,7 @@ def run(words: list[str], transport: str) -> None:
 
 
 def tool_time(tools: list[list[str]], transport: str) -> list[float]:
-    """Runs tools one after another, each in its own process; returns how long they took, in
+    """Runs tools one after another, each in its own process. Returns the elapsed time in
     milliseconds.
     """
     before = time.perf_counter()
@@ -90,7 +90,7 @@ def asked(client: str, command: str, count: int, transport: str) -> list[float]:
 def measure_each(
     label: str, ways: dict[str, str], rounds: int, tasks: dict[str, Callable[[str], list[float]]]
 ) -> None:
-    """Prints a table of the time of each task with each transport."""
+    """Prints a table with the time of each task for each transport."""
     print(f"\n| {label} | " + " | ".join(ways) + " |")
     print("|---" * (len(ways) + 1) + "|")
     for name, task in tasks.items():

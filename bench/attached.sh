@@ -1,9 +1,8 @@
 #!/bin/sh
-# Measures a kept device that the module for libtss2 attaches, and swtpm on a socket: tools of tpm2-tools
-# from start to end, commands in one long-running process, each with each way of syncing to the disk, and
-# the opening of a long journal. Needs python3, a C compiler, Debian's tpm2-tools, libtss2-dev, swtpm and
-# swtpm-tools, and the requirements of hosts/build.sh. DISK is a folder on a disk, /var/tmp by default.
-# Not part of the gate.
+# Measures a kept device, through the module for libtss2, and swtpm on a socket: whole runs of tpm2-tools and
+# commands in one long-running process, with each way of syncing to the disk, and the opening of a long
+# journal. Needs python3, a C compiler, Debian's tpm2-tools, libtss2-dev, swtpm and swtpm-tools, and the
+# requirements of hosts/build.sh. DISK is a folder on a disk, /var/tmp by default. Not part of the gate.
 #
 #   bench/attached.sh [ROUNDS]
 set -eu

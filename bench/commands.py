@@ -10,8 +10,8 @@ COUNT times.
                                                   indices, each of SIZE bytes
 
 tools/python.sh runs it. Commands without a session use a password. An object or a session that a
-command makes is flushed. With sessions, all commands get the same random bytes. So the device
-always draws the same nonce, and accepts one prepared buffer each time.
+command makes is flushed. With sessions, all commands get the same random bytes. The device
+therefore always draws the same nonce, and accepts the same prepared buffer each time.
 """
 
 import sys
@@ -29,7 +29,7 @@ PCR = 0x10
 BINDINGS = {"none": RH_NULL, "owner": RH_OWNER, "index": FIRST}
 STARTUP = "do Startup 0"
 
-# OWNERWRITE and OWNERREAD, for an ordinary index and for a counter.
+# The attributes OWNERWRITE and OWNERREAD, for an ordinary index and for a counter.
 ORDINARY, COUNTER = 0x0002_0002, 0x0002_0012
 
 PREPARED = [
@@ -64,8 +64,8 @@ def plain(name):
 
 
 def nv_commands(name, size, indices):
-    """Returns the setup lines and the line to measure, in hex. The setup for a read includes a
-    write.
+    """Returns the setup lines and the line to measure, in hex. Before a read, the setup writes the
+    index.
     """
 
     def define(index, attributes, size):
@@ -84,7 +84,7 @@ def nv_commands(name, size, indices):
 
 
 def begun():
-    """Returns a caller of a device after TPM2_Startup."""
+    """Returns a caller for a new script that begins with TPM2_Startup."""
     tpm = ScriptCaller(Script("bench", ""))
     tpm.script.startup()
     return tpm

@@ -1,12 +1,12 @@
 #!/bin/sh
-# Counts where the instructions of a command go, for twelve commands. It runs a short and a long script under
-# callgrind and subtracts the counts, so that start and end do not count. Needs valgrind, python3, and rt if
-# the program is not built yet. Not part of the gate.
+# Counts the instructions that a command spends on each part of its work, for twelve commands. It runs a short
+# and a long script under callgrind and subtracts the counts, so that start and end do not count. Needs
+# valgrind, python3, and rt if the program is not built yet. Not part of the gate.
 #
-# The device's instructions are those of `Machine::execute_into` and of everything that it calls; the
-# others read and print the script's text. Of the device's instructions, those in the hash crates, tpm_mac
-# and tpm_aes count as hashing and ciphers, and those in the C library as clearing and copying. Inlined
-# code counts for the function that contains it.
+# The device's instructions are those of `Machine::execute_into` and of everything that it calls; the other
+# instructions read and print the script's text. Of the device's instructions, those in the hash crates,
+# tpm_mac and tpm_aes count as hashing and ciphers, and those in the C library as clearing and copying.
+# Inlined code counts as part of the function into which it is inlined.
 set -eu
 
 top=$(CDPATH='' cd "$(dirname "$0")/.." && pwd -P)
@@ -14,11 +14,11 @@ program=$(cd "$top" && . tools/lib/program.sh) || exit 1
 folder=$(mktemp -d)
 trap 'rm -rf "$folder"' EXIT
 
-# Makes the C library clear and copy large blocks with vector instructions, as it does small ones. By default
-# it uses one repeated instruction, which callgrind counts again for each byte.
+# Makes the C library clear and copy large blocks with vector instructions, like small blocks. By default it
+# uses one repeated instruction, which callgrind counts once for each byte.
 limits=glibc.cpu.x86_rep_stosb_threshold=1000000:glibc.cpu.x86_rep_movsb_threshold=1000000
 
-# script COMMAND COUNT: prints the script.
+# script COMMAND COUNT: prints a script that executes the command COUNT times.
 script() {
     case $1 in
     PCR_Reset) "$top/tools/python.sh" "$top/bench/commands.py" session reset owner "$2" ;;
@@ -27,8 +27,8 @@ script() {
     esac
 }
 
-# run_under OPTION..: runs the script under callgrind, and prints how many instructions each function itself
-# executed.
+# run_under OPTION..: runs the script under callgrind, and prints the number of instructions that each
+# function itself executed.
 run_under() {
     GLIBC_TUNABLES=$limits valgrind --tool=callgrind --callgrind-out-file="$folder/calls" "$@" \
         "$program" run "$folder/script" >"$folder/answers" 2>"$folder/log" || {
@@ -38,8 +38,8 @@ run_under() {
     callgrind_annotate --threshold=100 "$folder/calls"
 }
 
-# counts COMMAND COUNT: prints four counts of instructions: all; the device's; those of the device's that
-# hash or cipher; and those of the device's that clear or copy.
+# counts COMMAND COUNT: prints four counts of instructions: all instructions; those of the device; and of
+# these, those for hashing and ciphers, and those for clearing and copying.
 counts() {
     script "$1" "$2" >"$folder/script"
     run_under >"$folder/all"

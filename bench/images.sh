@@ -1,10 +1,10 @@
 #!/bin/sh
 # Measures opening and saving the image of a full device (sixteen persistent objects, 64 NV indices of 16,384
-# bytes, a saved state): the microseconds of the fastest of ten runs, and the instructions per byte of the
-# image, by callgrind. It subtracts the figures of two runs, so that start and end do not count. Then it
-# counts the instructions of a TPM2_GetCapability line that lists all commands. Needs GNU time, valgrind,
-# python3, and rt, which builds a small program on the crates that are built here. It works in a temporary
-# folder. Not part of the gate.
+# bytes, a saved state): the microseconds of the fastest of ten runs and, with callgrind, the instructions per
+# byte of the image. It subtracts the figures of two runs, so that start and end do not count. Then it counts
+# the instructions of a TPM2_GetCapability line that lists all commands. Needs GNU time, valgrind, python3,
+# and rt, which builds a small program on the crates that are built here. It works in a temporary folder. Not
+# part of the gate.
 set -eu
 
 top=$(CDPATH='' cd "$(dirname "$0")/.." && pwd -P)
@@ -14,7 +14,7 @@ trap 'rm -rf "$folder"' EXIT
 
 (cd "$top/crates/tpm_image" && rt lib >"$folder/build" 2>&1) || { cat "$folder/build"; exit 1; }
 
-# The crates of this repository that tpm_image uses, and tpm_image.
+# The crates of this repository that tpm_image uses, and tpm_image itself.
 crates=$(awk -F: '
     function visit(crate, i, count, names) {
         if (!(crate in uses) || crate in needed) return
@@ -98,7 +98,7 @@ measured=$folder/crates/measured/out/measured
     >"$folder/image"
 bytes=$((($(wc -c <"$folder/image") - 1) / 2))
 
-# input WORD LINES: prints the program's input: the image, and LINES lines with the word.
+# input WORD LINES: prints the program's input: the image, followed by LINES lines with the word.
 input() {
     cat "$folder/image"
     awk -v word="$1" -v lines="$2" 'BEGIN { for (i = 0; i < lines; i++) print word }'
@@ -130,7 +130,7 @@ for word in open save; do
         }'
 done
 
-# commands LINES: prints the number of instructions of a script with LINES lines that ask for all commands.
+# commands LINES: prints the number of instructions for a script with LINES lines that list all commands.
 commands() {
     awk -v lines="$1" 'BEGIN {
         print "do Startup 0"

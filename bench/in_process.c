@@ -1,5 +1,5 @@
-/* A device of libtpms and one of libtpmsim in one process, which in_process.py measures. It reads
- * lines:
+/* Executes commands on a device of libtpms and on devices of libtpmsim in one process, which
+ * in_process.py measures. It reads lines:
  *
  *     use DEVICE                      selects the device of the following lines
  *     cmd HEX                         prints the response
@@ -12,9 +12,10 @@
  *     sizes                           prints the bytes of an image, of a state text, and of the
  *                                     volatile state of libtpms
  *
- * DEVICE is tpms; sim, the device of libtpmsim with fresh bytes for those that a command drew; or
- * still, the same device with constant random bytes. The lines from `time` to `volatile` print the
- * nanoseconds that passed. A command that is refused ends the program. */
+ * DEVICE is `tpms`, the device of libtpms; `sim`, the device of libtpmsim, which gets new random
+ * bytes for those that a command drew; or `still`, the same device with constant random bytes. The
+ * lines from `time` to `volatile` print the elapsed nanoseconds. If a command is refused, the
+ * program ends. */
 #define _GNU_SOURCE
 #include "tpmsim.h"
 #include <libtpms/tpm_error.h>
@@ -43,7 +44,7 @@ static uint64_t now(void) {
     return (uint64_t)told.tv_sec * 1000000000u + (uint64_t)told.tv_nsec;
 }
 
-/* The states that libtpms stores by name, in memory. */
+/* The states that libtpms stores, each with its name, in memory. */
 static struct state {
     char name[32];
     unsigned char *bytes;
@@ -132,7 +133,7 @@ static void renew(size_t count) {
 static const unsigned char *response;
 static uint32_t response_size;
 
-/* Executes a command by libtpms. At the first use of an algorithm libtpms runs a self-test, and
+/* Executes a command with libtpms. At the first use of an algorithm libtpms runs a self-test, and
  * the command must be sent again. */
 static void execute_by_libtpms(unsigned char *buffer, uint32_t size) {
     static unsigned char *kept;
@@ -196,7 +197,7 @@ static void time_commands(char *words) {
 }
 
 /* TPM2_PCR_Reset of PCR 16, authorized by an HMAC session with an empty key and nonces of 16 bytes.
- * The time that the caller takes for its HMAC does not count. */
+ * The time in which the caller computes its HMAC does not count. */
 enum { RESET_BYTES = 75, NONCE = 16, CALLER_NONCE_AT = 24, HMAC_AT = 43, TPM_NONCE_AT = 16 };
 
 static void authorize(unsigned char *buffer, const unsigned char *tpm_nonce) {

@@ -2,8 +2,8 @@
 
     tools/python.sh bench/in_process.py PROGRAM [ROUNDS]
 
-PROGRAM is built from in_process.c. Each round measures every row on each device in turn. A figure is the
-median of the rounds, in microseconds; the minimum is in brackets.
+PROGRAM is built from in_process.c. Each round measures every row on each device in turn. A figure
+is the median of the rounds in microseconds, followed by the minimum in brackets.
 """
 
 import itertools
@@ -21,7 +21,7 @@ ROUNDS = 15
 TARGETS = "tpms", "sim", "still"
 SUCCESS = "00000000"
 
-# The largest number of sessions in libtpmsim, and of loaded sessions in libtpms.
+# The maximum number of sessions in libtpmsim, and of loaded sessions in libtpms.
 MOST_SESSIONS, MOST_SESSIONS_OF_LIBTPMS = 16, 3
 
 HMAC_KEY = replace(hmac_key(), attributes=0x0004_0052)
@@ -32,7 +32,7 @@ BOUND = f"StartAuthSession NULL OWNER {'00' * 32} - 0 null sha256"
 BY_SESSION = "PCR_Reset by an HMAC session"
 PARENT, KEY, LOADED = "80000000", "80000001", "80000002"
 
-# TPM2_PCR_Allocate that selects only the banks of libtpmsim, SHA-1 and SHA-256.
+# TPM2_PCR_Allocate, which selects only the banks that libtpmsim has, SHA-1 and SHA-256.
 BANKS = "00000004000403ffffff000b03ffffff000c03000000000d03000000"
 ALLOCATE = f"8002000000370000012b4000000c00000009400000090000000000{BANKS}"
 
@@ -123,7 +123,8 @@ def in_words(name: str, count: int, *commands: str, times_each: int = 1) -> Row:
 
 
 def prepare(program: Program, target: str) -> str:
-    """Prepares the devices for the rows; returns the line that seals, which differs between the devices.
+    """Prepares a device for the rows. Returns the line that seals data, which differs between the
+    devices.
     """
     program.tell(f"use {target}")
     for words in PREPARED:
@@ -153,7 +154,8 @@ def rows(seals: dict[str, str]) -> list[Row]:
 
 
 def next_session(program: Program, target: str) -> str:
-    """Starts an HMAC session, and returns the `session` line for it, with its handle and its nonce."""
+    """Starts an HMAC session, and returns the `session` line with the session's handle and nonce.
+    """
     program.tell(f"use {target}")
     session = program.command(hex_of(SESSION.format(0)))
     return f"session {session[20:28]} {session[32:64]}"
@@ -170,7 +172,7 @@ def measure(program: Program, row: Row, target: str) -> None:
 
 
 def start_sessions(program: Program, target: str, count: int) -> None:
-    """Starts this many HMAC sessions that are bound to the owner."""
+    """Starts a number of HMAC sessions that are bound to the owner."""
     program.tell(f"use {target}")
     for _ in range(count):
         program.command(hex_of(BOUND))

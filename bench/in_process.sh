@@ -1,8 +1,8 @@
 #!/bin/sh
-# Measures the library and libtpms, both in one process: ten rows of commands, with their ratios; the time
-# of a save, an open, a new device and a power cycle; and the stack and memory that the calls take. Needs
-# python3, a C compiler, Debian's libtpms-dev and libssl-dev, and the library in dist/. in_process.c
-# contains the devices, and in_process.py takes the measurements. Not part of the gate.
+# Measures the library and libtpms, both in one process: ten rows of commands, with their ratios; the time of
+# a save, an open, a new device and a power cycle; and the stack and memory that the calls use. Needs python3,
+# a C compiler, Debian's libtpms-dev and libssl-dev, and the library in dist/. in_process.c contains the
+# devices, and in_process.py takes the measurements. Not part of the gate.
 #
 #   bench/in_process.sh [ROUNDS]
 set -eu
@@ -12,7 +12,7 @@ dist=${DIST:-$top/dist}
 folder=$(mktemp -d)
 trap 'rm -rf "$folder"' EXIT
 
-# compile CALLER SOURCE WORDS..: compiles a caller and links it with the static library.
+# compile CALLER SOURCE WORDS..: compiles a program and links it with the static library.
 compile() {
     caller=$folder/$1
     source=$2

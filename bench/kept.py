@@ -2,9 +2,9 @@
 
     tools/python.sh bench/kept.py MODULE CLIENT DISK [ROUNDS]
 
-MODULE is the module for libtss2, CLIENT a program built from attached.c, and DISK a folder on a disk.
-Each row has the median of the elapsed time and of the processor time, in microseconds, and the
-number of instructions that valgrind counts.
+MODULE is the module for libtss2, CLIENT a program built from attached.c, and DISK a folder on a
+disk. Each row contains the medians of the elapsed time and of the processor time, in microseconds,
+and the number of instructions that valgrind counts.
 """
 
 import os
@@ -18,8 +18,8 @@ from dataclasses import dataclass
 from pathlib import Path
 
 ROUNDS = 15
-# How many times a process repeats its task: a command, or the opening of a device, which takes 400
-# times as long as a command.
+# How often a process repeats its task: a command, or opening a device, which takes 400 times as
+# long as a command.
 COMMANDS, OPENINGS = 1000, 20
 # The journal is longest after 1,500 commands. A few commands later the library restarts it.
 OPENED_AFTER = 900, 1_500, 60_000
@@ -35,7 +35,7 @@ class Cost:
 
 
 def run(words: list[str], transport: str) -> Cost:
-    """Runs a program to its end, which has to be a success."""
+    """Runs a program, which must succeed, and returns its cost."""
     environment = os.environ | {"TPM2TOOLS_TCTI": transport}
     nowhere, before = subprocess.DEVNULL, time.perf_counter()
     process = subprocess.Popen(words, env=environment, stdout=nowhere, stderr=nowhere)
@@ -48,7 +48,7 @@ def run(words: list[str], transport: str) -> Cost:
 
 
 def instructions(words: list[str], transport: str) -> int:
-    """Returns how many instructions a program takes from its start to its end."""
+    """Returns the number of instructions that a program executes from its start to its end."""
     counting = ["valgrind", "--tool=callgrind", "--callgrind-out-file=/dev/null"]
     environment = os.environ | {"TPM2TOOLS_TCTI": transport}
     done = subprocess.run(
@@ -78,7 +78,7 @@ def measure_tool(transport: str, rounds: int) -> None:
 
 
 def elapsed_of_one(client: str, transport: str, act: str, count: int) -> float:
-    """Returns the median time of one repetition, if a process repeats a task this many times."""
+    """Returns the median time of one repetition if a process repeats a task `count` times."""
     words = [client, transport, act, str(count)]
     output = subprocess.run(words, check=True, capture_output=True, text=True).stdout
     return float(output.split()[1])
@@ -86,7 +86,7 @@ def elapsed_of_one(client: str, transport: str, act: str, count: int) -> float:
 
 @dataclass(frozen=True)
 class Act:
-    """A task that a client repeats this many times in one process."""
+    """A task that a client repeats `count` times in one process."""
 
     label: str
     name: str
@@ -94,8 +94,8 @@ class Act:
 
 
 def measure_act(act: Act, client: str, transport: str, rounds: int) -> None:
-    """Measures a task. Its processor time and instructions are the difference between a process
-    that repeats the task often and one that does it once.
+    """Measures a task. The processor time and the instructions are the difference between a process
+    that repeats the task and a process that does it once.
     """
     words = [[client, transport, act.name, str(count)] for count in (1, act.count + 1)]
     elapsed = [elapsed_of_one(client, transport, act.name, act.count) for _ in range(rounds)]

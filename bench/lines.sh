@@ -1,8 +1,8 @@
 #!/bin/sh
-# Measures GetRandom lines in words and the same commands in hex: the time of a million of each, the
-# fastest of ten runs in turn; the instructions of a line; and the allocations, whose number must not
-# grow with the script. Needs GNU time, valgrind, and rt if the program is not built yet. Not part of
-# the gate.
+# Measures GetRandom lines in words and the same commands in hex: the time of a million lines of each kind, as
+# the fastest of ten alternating runs; the instructions of a line; and the number of allocations, which must
+# not grow with the script. Needs GNU time, valgrind, and rt if the program is not built yet. Not part of the
+# gate.
 set -eu
 
 top=$(CDPATH='' cd "$(dirname "$0")/.." && pwd -P)

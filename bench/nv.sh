@@ -1,7 +1,7 @@
 #!/bin/sh
-# Counts the instructions of TPM2_NV_Read, TPM2_NV_Write and TPM2_NV_Increment with one NV index, with 32
-# and with 64. It runs a short and a long script under callgrind and subtracts the counts, so that start and
-# end do not count. Needs valgrind, python3, and rt if the program is not built yet. Not part of the gate.
+# Counts the instructions of TPM2_NV_Read, TPM2_NV_Write and TPM2_NV_Increment with 1, 32 and 64 NV indices.
+# It runs a short and a long script under callgrind and subtracts the counts, so that start and end do not
+# count. Needs valgrind, python3, and rt if the program is not built yet. Not part of the gate.
 #
 # The device's instructions are those of `Machine::execute_into` and of everything it calls; the rest reads
 # and prints the script's text.
@@ -12,12 +12,12 @@ program=$(cd "$top" && . tools/lib/program.sh) || exit 1
 folder=$(mktemp -d)
 trap 'rm -rf "$folder"' EXIT
 
-# Makes the C library clear and copy large blocks with vector instructions, as it does small ones. By
-# default it uses one repeated instruction, which callgrind counts again for each byte.
+# Makes the C library clear and copy large blocks with vector instructions, like small blocks. By default it
+# uses one repeated instruction, which callgrind counts once for each byte.
 limits=glibc.cpu.x86_rep_stosb_threshold=1000000:glibc.cpu.x86_rep_movsb_threshold=1000000
 
-# counts COMMAND SIZE INDICES LINES: prints two counts of instructions of such a script: all, and those of
-# `Machine::execute_into` with everything it calls.
+# counts COMMAND SIZE INDICES LINES: runs a script of LINES such commands, and prints two counts of
+# instructions: all, and those of `Machine::execute_into` with everything that it calls.
 counts() {
     "$top/tools/python.sh" "$top/bench/commands.py" nv "$@" >"$folder/script"
     GLIBC_TUNABLES=$limits valgrind --tool=callgrind --callgrind-out-file="$folder/calls" \

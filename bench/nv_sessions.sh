@@ -1,8 +1,8 @@
 #!/bin/sh
-# Counts where the instructions of TPM2_NV_Write, TPM2_NV_Read and TPM2_PCR_Extend go. An HMAC session
-# authorizes them: an unbound one, or one bound to the owner or to the index. Like commands.sh it subtracts
-# the counts of a short and a long script under callgrind. Needs valgrind, python3, and rt if the program is
-# not built yet. Not part of the gate.
+# Counts the device's instructions for TPM2_NV_Write, TPM2_NV_Read and TPM2_PCR_Extend, and how many of them
+# hash. An HMAC session authorizes the commands. It is unbound, or bound to the owner or to the index. Like
+# commands.sh it subtracts the counts of a short and a long script under callgrind. Needs valgrind, python3,
+# and rt if the program is not built yet. Not part of the gate.
 set -eu
 
 top=$(CDPATH='' cd "$(dirname "$0")/.." && pwd -P)
@@ -10,12 +10,12 @@ program=$(cd "$top" && . tools/lib/program.sh) || exit 1
 folder=$(mktemp -d)
 trap 'rm -rf "$folder"' EXIT
 
-# Makes the C library clear and copy large blocks with vector instructions, as it does small ones. By
-# default it uses one repeated instruction, which callgrind counts again for each byte.
+# Makes the C library clear and copy large blocks with vector instructions, like small blocks. By default it
+# uses one repeated instruction, which callgrind counts once for each byte.
 limits=glibc.cpu.x86_rep_stosb_threshold=1000000:glibc.cpu.x86_rep_movsb_threshold=1000000
 
-# counts COMMAND BINDING COUNT: prints two counts of instructions: the device's, and those of the device's
-# that hash.
+# counts COMMAND BINDING COUNT: prints two counts of instructions: those of the device, and of these, those
+# for hashing.
 counts() {
     "$top/tools/python.sh" "$top/bench/commands.py" session "$@" >"$folder/script"
     GLIBC_TUNABLES=$limits valgrind --tool=callgrind --callgrind-out-file="$folder/calls" \

@@ -1,5 +1,5 @@
 #!/bin/sh
-# Measures the commands of objects with prepared buffers: commands per second. Needs python3, GNU time,
+# Measures the commands about objects, with prepared buffers: commands per second. Needs python3, GNU time,
 # and rt if the program is not built yet. Not part of the gate.
 set -eu
 
@@ -8,7 +8,7 @@ program=$(cd "$top" && . tools/lib/program.sh) || exit 1
 folder=$(mktemp -d)
 trap 'rm -rf "$folder"' EXIT
 
-# Prints the least time of five runs of a script, in seconds.
+# Prints the minimum time of five runs of a script, in seconds.
 least() {
     for _ in 1 2 3 4 5; do
         /usr/bin/time -f '%e' -o "$folder/time" "$program" run "$1" >"$folder/answers"

@@ -1,8 +1,8 @@
 #!/bin/sh
-# Counts the instructions per byte of HMAC-SHA-256, of AES-128 in cipher feedback, and of hex that is read or
-# written, for texts of 1,024 bytes. It subtracts the counts of two runs under callgrind, so that start and
-# end do not count. Needs rt, which proves and builds a small program, and valgrind. It works in a temporary
-# folder and removes it. Not part of the gate.
+# Counts the instructions per byte of HMAC-SHA-256, of AES-128 in CFB mode, and of decoding and encoding hex,
+# for texts of 1,024 bytes. It subtracts the counts of two runs under callgrind, so that start and end do not
+# count. Needs rt, which proves and builds a small program, and valgrind. It works in a temporary folder and
+# removes it. Not part of the gate.
 set -eu
 
 repository=$(cd "$(dirname "$0")/.." && pwd)
@@ -80,7 +80,8 @@ PROGRAM
     exit 1
 }
 
-# instructions WORD LINES: prints the number of instructions of the program for LINES lines of the word.
+# instructions WORD LINES: prints the number of instructions that the program executes for LINES lines with
+# the word.
 instructions() {
     line=0
     : > "$folder/input"

@@ -1,5 +1,5 @@
 #!/bin/sh
-# Measures `tpmsim run` at two lengths of script: commands per second, and the largest resident memory.
+# Measures `tpmsim run` with a short and a long script: commands per second, and the maximum resident memory.
 # Needs GNU time, and rt if the program is not built yet. Not part of the gate.
 set -eu
 
@@ -8,7 +8,7 @@ program=$(cd "$top" && . tools/lib/program.sh) || exit 1
 folder=$(mktemp -d)
 trap 'rm -rf "$folder"' EXIT
 
-# runs: runs the script ten times, and prints the seconds and the resident kilobytes, one run a line.
+# runs: runs the script ten times, and prints for each run a line with the seconds and the resident kilobytes.
 runs() {
     for _ in 1 2 3 4 5 6 7 8 9 10; do
         /usr/bin/time -f '%e %M' -o "$folder/figures" "$program" run "$folder/script" \
@@ -17,8 +17,8 @@ runs() {
     done
 }
 
-# measure LINES: measures a script of LINES lines; prints the time of the fastest run and the largest
-# memory of all runs.
+# measure LINES: measures a script of LINES lines. Prints the time of the fastest run and the maximum memory
+# of all runs.
 measure() {
     "$top/bench/script.sh" "$1" >"$folder/script"
     runs >"$folder/runs"

@@ -1,6 +1,7 @@
 #!/bin/sh
-# Prints the script that run.sh, shares.sh and lines.sh measure: a Startup, and then GetRandom lines for 32 bytes. The
-# first argument is their number. The lines are in hex or, if the second argument is `do`, in words.
+# Prints the script that run.sh, shares.sh and lines.sh measure: a Startup, and then GetRandom lines for 32
+# bytes. The first argument is the number of lines. The lines are in hex or, if the second argument is `do`,
+# in words.
 set -eu
 
 awk -v lines="$1" -v kind="${2:-cmd}" 'BEGIN {

@@ -2,9 +2,8 @@
 
     python3 serving.py PROGRAM BARE IMAGE
 
-PROGRAM is tpmsim. BARE is a program that answers every twelve bytes on a socket with as many bytes
-as the response to a TPM2_GetRandom of 32 bytes has, and does nothing else. IMAGE is the image of a
-device."""
+PROGRAM is tpmsim. BARE is a program that only answers every twelve bytes on a socket with the
+number of bytes in a response to TPM2_GetRandom of 32 bytes. IMAGE is the image of a device."""
 
 import contextlib
 import os
@@ -23,7 +22,7 @@ ROUNDS = 20_000
 
 
 def connected(path):
-    """Returns a connection to a socket, as soon as the socket exists."""
+    """Waits until a socket exists, and returns a connection to it."""
     client = socket.socket(socket.AF_UNIX, socket.SOCK_STREAM)
     while client.connect_ex(path):
         pass
@@ -49,7 +48,8 @@ def round_trip(client):
 
 @contextlib.contextmanager
 def served(words, path):
-    """Returns a program that serves a connection at a path, and the connection."""
+    """Starts a program that serves a connection at a path. Yields the program and the connection.
+    """
     server = subprocess.Popen(words)
     with connected(path) as client:
         yield server, client

@@ -1,11 +1,11 @@
 #!/bin/sh
-# Prints the share of its instructions that `tpmsim run` spends on the device, and the share that it spends
-# on the text around it (reading lines, decoding hex, printing), for each command of a script of GetRandom
-# lines. It runs a short and a long script under callgrind and subtracts the counts, so that start and end
-# do not count. Needs valgrind, and rt if the program is not built yet. Not part of the gate.
+# Prints which share of its instructions `tpmsim run` spends on the device, and which share on the script's
+# text (reading lines, decoding hex, printing), for each command of a script of GetRandom lines. It runs a
+# short and a long script under callgrind and subtracts the counts, so that start and end do not count. Needs
+# valgrind, and rt if the program is not built yet. Not part of the gate.
 #
-# The device's instructions are those of `Machine::execute_into` and of everything it calls; the rest is the
-# text.
+# The device's instructions are those of `Machine::execute_into` and of everything that it calls. The rest is
+# for the text.
 set -eu
 
 top=$(CDPATH='' cd "$(dirname "$0")/.." && pwd -P)
@@ -13,12 +13,12 @@ program=$(cd "$top" && . tools/lib/program.sh) || exit 1
 folder=$(mktemp -d)
 trap 'rm -rf "$folder"' EXIT
 
-# Makes the C library clear and copy large blocks with vector instructions, as it does small ones. By
-# default it uses one repeated instruction, which callgrind counts again for each byte.
+# Makes the C library clear and copy large blocks with vector instructions, like small blocks. By default it
+# uses one repeated instruction, which callgrind counts once for each byte.
 limits=glibc.cpu.x86_rep_stosb_threshold=1000000:glibc.cpu.x86_rep_movsb_threshold=1000000
 
 # counts LINES: runs a script of LINES lines, and prints three instruction counts: the total; the count of
-# `Machine::execute_into` and its callees; and how much of that count clears and copies memory.
+# `Machine::execute_into` and its callees; and the part of that count that clears and copies memory.
 counts() {
     "$top/bench/script.sh" "$1" >"$folder/script"
     GLIBC_TUNABLES=$limits valgrind --tool=callgrind --callgrind-out-file="$folder/calls" \

@@ -1,11 +1,11 @@
-"""Measures commands over the socket of swtpm, which runs in turn on its own libtpms, on tpmsim, and on a
-recorded tpmsim:
+"""Measures commands over the socket of swtpm, which runs in turn with its own libtpms, with tpmsim,
+and with a tpmsim that is recorded:
 
     python3 swtpm.py ATTACHED..
 
 ATTACHED is the folder of `hosts/build.sh libtpms`; each named folder is measured. The states are
 stored below the current folder. All processes run on one processor, so that no processor has to be
-woken, and other work on the machine has little effect. Each number is the median of seven rounds in
+woken, and other work on the machine has little effect. Each figure is the median of seven rounds in
 microseconds, followed by the minimum in brackets.
 """
 
@@ -60,7 +60,7 @@ class Tpm:
         self.done(DEFINITION)
 
     def done(self, buffer: bytes) -> None:
-        """Executes a command, which must succeed; repeats it if libtpms asks for that."""
+        """Executes a command, which must succeed. Repeats it if libtpms requests that."""
         code = RETRY
         while code == RETRY:
             self.client.sendall(buffer)

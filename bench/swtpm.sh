@@ -1,10 +1,10 @@
 #!/bin/sh
-# Measures commands over the socket of swtpm, which runs in turn on its own libtpms and on tpmsim. Needs
+# Measures commands over the socket of swtpm, which runs in turn with its own libtpms and with tpmsim. Needs
 # python3 and what hosts/build.sh needs. Not part of the gate.
 #
 #   bench/swtpm.sh [STATES]    STATES is the folder of the states, /dev/shm by default
 #
-# All of it runs on one processor. If the machine does other work, `chrt -f 10 bench/swtpm.sh` gives it
+# All processes run on one processor. If the machine does other work, `chrt -f 10 bench/swtpm.sh` gives it
 # priority.
 #
 # $ATTACHED is the folder of `hosts/build.sh libtpms`; if it is not set, the script makes one. $OTHERS may
@@ -17,5 +17,5 @@ trap 'rm -rf "$work"' EXIT
 attached=${ATTACHED:-$work/attached}
 [ -n "${ATTACHED:-}" ] || "$top/hosts/build.sh" libtpms "$attached"
 cd "$work"
-# shellcheck disable=SC2086 # they are words
+# shellcheck disable=SC2086 # word splitting is intended
 PYTHONDONTWRITEBYTECODE=1 python3 "$top/bench/swtpm.py" "$attached" ${OTHERS:-}

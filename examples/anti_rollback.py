@@ -32,8 +32,8 @@ def pcr_value(version):
 
 
 def policy_of(version):
-    """Returns the policy that requires the image's value in PCR 11, and a counter not above the image's
-    version.
+    """Returns the policy that requires the image's value in PCR 11, and a counter that is not
+    greater than the image's version.
     """
     values = digest(SHA256, pcr_value(version))
     after_pcr = policy.after_pcr(SHA256, bytes(32), selection(*CHOSEN), values)
@@ -44,7 +44,7 @@ def policy_of(version):
 
 
 def start(version):
-    """Runs the commands of the firmware and the boot loader at each start."""
+    """Executes the commands that the firmware and the boot loader send at each start."""
     tpm.power_cycle()
     said = tpm(f"The boot loader measures image {version} into PCR 11 and starts it")
     said.does(tpm.event(IMAGES[version], b"", pcr=11))

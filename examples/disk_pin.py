@@ -24,8 +24,8 @@ def guess(words, *pins):
 
 
 def start_computer():
-    """Starts the computer. Returns the handle of the disk's key, which has to be loaded after each power
-    cycle.
+    """Starts the computer, and returns the handle of the disk's key, which must be loaded again
+    after each power cycle.
     """
     tpm.power_cycle()
     parent = tpm.storage_root("TPM2_CreatePrimary of the storage root key: 80000000")

@@ -11,8 +11,8 @@ from tpmsim.standard import digest, policy, selection, SHA256
 from tpmsim.standard.objects import Attribute
 from tests.common.teller import Example
 
-# Each piece of software is measured into its PCR before it runs, as the boot loader and the stub of a
-# unified kernel image do. PCRs 7 and 11 are chosen, as by `--tpm2-pcrs=7+11`.
+# Each piece of software is measured into its PCR before it runs, as the boot loader and the stub of
+# a unified kernel image do. The policy uses PCRs 7 and 11, like `--tpm2-pcrs=7+11`.
 FIRMWARE = (0, "The firmware, PCR 0", b"firmware 1.0")
 SECURE_BOOT = (7, "That secure boot is on, PCR 7", b"secure boot on")
 LOADER = (4, "The boot loader, PCR 4", b"boot loader")

@@ -36,8 +36,8 @@ def write(data):
 
 
 def hash_of(prepared):
-    """Returns the cpHash of the command's code, the Names of both handles, and the parameters as they
-    are sent.
+    """Returns the cpHash: the hash of the command's code, the Names of both handles, and the
+    parameters as they are sent.
     """
     names = map(tpm.name, prepared.handles)
     return command_hash(SHA256, prepared.code, names, prepared.parameters)

@@ -9,7 +9,7 @@ from tpmsim.standard import CC, digest, policy, selection, SHA256
 from tests.common.script_caller import zeros
 from tests.common.teller import Example
 
-# Each piece of software is measured into its PCR before it runs. These PCRs are chosen.
+# Each piece of software is measured into its PCR before it runs. The policy uses these PCRs.
 MEASURED = (
     (0, "The firmware", b"firmware 1.0"),
     (7, "That secure boot is on", b"secure boot on"),

@@ -36,7 +36,8 @@ def load_key():
 
 
 def unlock(outcome, handle):
-    """Unseals by a policy session; that succeeds if the PCRs are those of the enrolment."""
+    """Unseals with a policy session, which succeeds if the PCRs have the values of the enrolment.
+    """
     session = tpm.policy("TPM2_StartAuthSession of a policy session")
     tpm("TPM2_PolicyPCR of PCR 0, 4 and 11").pcrs(session, CHOSEN)
     if outcome == "SUCCESS":

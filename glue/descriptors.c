@@ -1,4 +1,4 @@
-/* Sets whether reads and writes of a descriptor wait, for proved code. */
+/* Sets whether a descriptor is non-blocking, for proved code. */
 #include "glue.h"
 #include <sys/ioctl.h>
 

@@ -5,8 +5,8 @@
 
 extern char **environ;
 
-/* Writes a text to the front of a buffer, without its terminating zero. Returns as rattle_arg
-   does. */
+/* Writes a text to the beginning of a buffer, without its terminating zero. Returns the same values
+   as rattle_arg. */
 static ssize_t put(const char *text, unsigned char *buffer, size_t size) {
     if (text == NULL)
         return -1;

@@ -1,11 +1,11 @@
-/* The heap, as proved code calls it. These three functions are not proved. They are trusted to meet the
- * contracts of Rattle's library `libc`, which the comments of glue.h state in prose. The kit has them
- * for x86-64. */
+/* The functions with which proved code uses the heap. They are not proved, but trusted to satisfy
+ * the contracts of Rattle's library `libc`, which the comments of glue.h state in prose. The kit
+ * contains them for x86-64. */
 #include "glue.h"
 #include <stdlib.h>
 
-/* The address of a block after a failed allocation. It is not null, and nobody reads or writes
- * there. */
+/* The address that a failed allocation returns as its block. It is not null, and nobody reads or
+ * writes there. */
 static char no_block;
 
 static struct tried tried_of(void *block) {

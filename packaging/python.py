@@ -1,11 +1,11 @@
 #!/usr/bin/env python3
-"""Installs the Python package: the modules, the files that show Python that the package is
-installed, and the programs that python/pyproject.toml names.
+"""Installs the Python package: the modules, the metadata of the installed package, and the programs
+that python/pyproject.toml names.
 
     packaging/python.py ROOT PACKAGES PROGRAMS
 
-PACKAGES is the folder of Python packages below ROOT, and PROGRAMS that of programs. A program finds
-the package relative to its own path, wherever ROOT is.
+PACKAGES is the folder of Python packages below ROOT, and PROGRAMS is the folder of programs. A
+program finds the package relative to its own path, wherever ROOT is.
 """
 
 import os

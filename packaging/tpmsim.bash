@@ -1,9 +1,9 @@
-# Completion of tpmsim and its tools for bash. The programs themselves provide the words: `--help` lists
-# the subcommands, the options, and the kind of each option's value, as in `--image <FILE>`; `tpmsim
-# lines` lists the names of commands.
+# Completion of tpmsim and its tools for bash. The programs themselves report the words: `--help`
+# lists the subcommands, the options, and the kind of each option's value, as in `--image <FILE>`;
+# `tpmsim lines` lists the names of commands.
 
-# Each of these functions reads a help text. They print its subcommands, the options of its indented
-# lines, the kind of an option's value, and the kind of the first argument.
+# Each of the following functions reads a help text. They print its subcommands, the options in its
+# indented lines, the kind of an option's value, and the kind of the first argument.
 _tpmsim_subcommands() { sed -n '/^Commands:/,/^$/s/^  \([a-z][a-z-]*\) .*/\1/p'; }
 _tpmsim_options() { grep '^  ' | grep -oE '(^|[ [|])--[a-z][a-z0-9-]*' | grep -oE -- '--.*' | sort -u; }
 _tpmsim_after() { sed -n "s/.*$1[ =]<\{0,1\}\([A-Z][A-Z_]*\).*/\1/p" | head -n 1; }
@@ -12,7 +12,7 @@ _tpmsim_argument() { sed -n '/^Arguments:/,/^$/s/^  [[<]\([A-Z][A-Z_]*\).*/\1/p'
 # _tpmsim_names PROGRAM: prints the names of the TPM's commands.
 _tpmsim_names() { "$1" lines 2>/dev/null | sed -n 's/^\([A-Z][A-Za-z_]*\).*/\1/p'; }
 
-# _tpmsim PROGRAM WORD BEFORE: bash calls this to complete a word that follows another one.
+# _tpmsim PROGRAM WORD BEFORE: completes WORD, which follows BEFORE. bash calls this function.
 _tpmsim() {
     local program=$1 word=$2 before=$3 help kind='' words=''
     local said=("$program")

@@ -1,11 +1,11 @@
 #!/bin/sh
 # Builds the contents of dist/aarch64, for Linux on ARM64: the program, libtpmsim.a, libtpmsim.so.0 and
-# PROVED, which names the kit and the checksums of the sources and of these three files; then the files of
-# hosts/shared.sh. The two crates are proved for ARM64, as the prover's verdict says; the crates below them
-# were proved for x86-64.
+# PROVED, which contains the version of the kit and the checksums of the sources and of these three files;
+# then the files of hosts/shared.sh. The crates of the program and of the library are proved for ARM64, as the
+# prover's verdict says. The crates below them were proved for x86-64.
 #
-# All crates below the two have to be built here, as `rt ci` leaves them, and no source may be newer:
-# tools/build.sh and tools/library.sh do that for x86-64 first. Needs `rt`, and Debian's gcc-aarch64-linux-gnu.
+# All crates below these two must have been built here by `rt ci`, and no source may be newer. tools/build.sh
+# and tools/library.sh build them, for x86-64. Needs `rt`, and Debian's gcc-aarch64-linux-gnu.
 set -u
 cd "$(dirname "$0")/.." && top=$(pwd -P) || exit 1
 . tools/lib/proved.sh
@@ -33,10 +33,10 @@ compile_here() {
         verdict=$(grep -x "logic=proved .* target=$target .*" "$log") && echo "$1: $verdict"
 }
 
-# Compiles the nine functions that the kit has only for x86-64.
+# Compiles the nine functions of glue/, which the kit contains only for x86-64.
 compile_glue() {
     for source in glue/*.c; do
-        # shellcheck disable=SC2086 # they are words
+        # shellcheck disable=SC2086 # word splitting is intended
         "${prefix}gcc" $flags -c "$source" -o "$work/$(basename "$source" .c).o" >>"$log" 2>&1 ||
             return 1
     done
@@ -57,7 +57,7 @@ link_library() (
         chmod 644 ../libtpmsim.*
 ) >>"$log" 2>&1
 
-# Prints the lines for PROVED.
+# Prints the lines of PROVED.
 tell_proved() {
     echo "kit: $kit_version"
     echo "target: $target"
@@ -79,7 +79,7 @@ for tool in rt rattle "${prefix}gcc" "${prefix}ar" "${prefix}strip"; do
 done
 kit_version=$(rt version) && program_sources=$(sources_checksum) &&
     library_sources=$(sources_checksum tpmsim_library) || exit 1
-# shellcheck disable=SC2046 # no name of a crate has a space
+# shellcheck disable=SC2046 # crate names have no spaces
 are_built $(crates_below tpmsim tpmsim_library) ||
     fail 'a crate is not built here, or a source is newer: tools/build.sh builds them'
 (compile_here tpmsim program.o || fail 'the program is not compiled') &

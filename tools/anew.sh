@@ -1,13 +1,14 @@
 #!/bin/sh
-# In a copy, generates all stored scripts of tests/ and examples/ again by their programs, and their outputs
-# by the device in Python. Then compares the files with those of the repository, byte for byte. Needs
-# python3, and takes half a minute on four processors. JOBS is the number of programs that run at a time.
+# In a copy of the repository, generates all stored scripts of tests/ and examples/ again with their programs,
+# and the expected outputs with the device in Python. Then compares the files with those of the repository,
+# byte for byte. Needs python3, and takes half a minute on four processors. JOBS is the number of programs
+# that run at the same time.
 #
 #   tools/anew.sh           compares
 #   tools/anew.sh --write   replaces the files that differ
 #
-# It names each file that differs or is missing. The last line is `N files as they are, M others`. The
-# status is 1 if a file differs or is missing, or if a program fails.
+# It prints the name of each file that differs or is missing. The last line is `N files as they are, M
+# others`. The status is 1 if a file differs or is missing, or if a program fails.
 set -u
 
 top=$(CDPATH='' cd "$(dirname "$0")/.." && pwd -P) || exit 1

@@ -12,12 +12,12 @@ passed=0
 failed=0
 skipped=0
 
-# has TOOL: whether a tool is installed.
+# has TOOL: succeeds if a tool is installed.
 has() {
     command -v "$1" >/dev/null
 }
 
-# check NAME COMMAND..: counts a check, and prints what its command says if it fails.
+# check NAME COMMAND..: runs and counts a check. If its command fails, prints the command's output.
 check() {
     name=$1
     shift
@@ -36,7 +36,7 @@ skip() {
     skipped=$((skipped + 1))
 }
 
-# Lays out the crates that differ from the last commit; fails if that changes a file.
+# Formats the crates that differ from the last commit, and fails if this changes a file.
 lay_out() {
     status=0
     for crate in $(git diff --name-only HEAD -- crates | cut -d/ -f2 | sort -u); do
@@ -52,7 +52,7 @@ lay_out() {
 }
 
 follow_links() {
-    # shellcheck disable=SC2046 # no name of a document has a space
+    # shellcheck disable=SC2046 # document names have no spaces
     python3 tests/common/links.py . $(git ls-files '*.md')
 }
 
@@ -68,7 +68,7 @@ read_shell() {
 }
 
 read_python() {
-    # shellcheck disable=SC2046 # no name of a program has a space
+    # shellcheck disable=SC2046 # program names have no spaces
     "$@" $(git ls-files '*.py')
 }
 

@@ -1,6 +1,6 @@
 #!/bin/sh
-# Proves the program tpmsim and every crate that it uses, from nothing, and builds it. The launcher
-# calls this if it has no proved program, and prefers the result to the program in dist/. Needs `rt`,
+# Proves the program tpmsim and every crate that it uses, from scratch, and builds the program. The launcher
+# calls this script if it has no proved program, and prefers the result to the program in dist/. Needs `rt`,
 # the command of the Rattle toolchain, and git.
 #
 #   tools/build.sh                    the program for x86-64
@@ -17,9 +17,9 @@ esac
 out=$top/crates/tpmsim/out
 log=$out/build.log
 
-# Proves each crate that the program uses, and the program; crates that do not use each other are
-# proved at the same time. Then it builds the program. The program's file time is the time at which the
-# build started, so that a later edit counts as newer.
+# Proves each crate that the program uses, and the program. Crates that do not use each other are proved at
+# the same time. Then it builds the program, whose modification time is set to the start of the build, so that
+# a later edit of a source counts as newer.
 build() {
     mkdir -p "$out" && : >"$log" && : >"$out/build_start" || return 1
     crates="$(crates_below tpmsim) tpmsim"

@@ -1,8 +1,8 @@
 #!/bin/sh
-# Makes the Rust package, tpmsim-VERSION.crate, with the library for each machine that dist/ has, and
-# prints its path. It uses no network.
+# Makes the Rust package, tpmsim-VERSION.crate, with the library for each machine for which dist/ contains it,
+# and prints the package's path. It uses no network.
 #
-#   tools/crate.sh [FOLDER]   in FOLDER; else in out/
+#   tools/crate.sh [FOLDER]   in FOLDER; by default in out/
 #
 # Needs cargo, which builds the packed crate.
 set -u
@@ -19,7 +19,7 @@ work=$(mktemp -d) || exit 1
 trap 'rm -rf "$work"' EXIT
 PATH=$PATH:${HOME:-/root}/.cargo/bin
 command -v cargo >"$work/found" || fail 'there is no cargo'
-# Cargo writes next to the files that it reads, so it works on a copy, which contains the library for
+# Cargo writes next to the files that it reads. Therefore it works on a copy, which contains the library for
 # each machine.
 mkdir -p "$work/rust/native/x86_64" "$work/rust/native/aarch64" || fail 'there is no folder for a copy'
 { (cd rust && cp -r Cargo.toml README.md build.rs examples src tests "$work/rust/") &&

@@ -2,7 +2,7 @@
 # Builds the package for Debian and its derivatives, tpmsim_VERSION_amd64.deb, and prints its path.
 # The same commit and the same tools make the same bytes.
 #
-#   tools/deb.sh [--machine aarch64] [FOLDER]   in FOLDER; else in out/
+#   tools/deb.sh [--machine aarch64] [FOLDER]   in FOLDER; by default in out/
 #
 # With --machine aarch64 it builds tpmsim_VERSION_arm64.deb from dist/aarch64, and needs Debian's
 # gcc-aarch64-linux-gnu. TPMSIM_MAINTAINER is the package's maintainer, by default the author of the last
@@ -37,7 +37,7 @@ control() {
         -e "s|@PURPOSE@|$purpose|" -e "s|@ARCHITECTURE@|$architecture|" packaging/control
 }
 
-# Adds the files that Debian requires in each package.
+# Adds the files that Debian requires in every package.
 describe() {
     documents=$root/usr/share/doc/tpmsim
     mkdir "$root/DEBIAN" || return 1
@@ -57,7 +57,7 @@ describe() {
         >"$root/DEBIAN/md5sums"
 }
 
-# for_aarch64: selects the tools for ARM64. Their compiler does not search the folder of Debian's headers
+# for_aarch64: selects the tools for ARM64. Their compiler does not search the folder with Debian's headers
 # for all machines.
 for_aarch64() {
     architecture=arm64

@@ -1,21 +1,21 @@
 #!/bin/sh
-# Copies the program that `rt ci` proved and built here to dist/, and writes its lines of PROVED: the
-# kit, and the checksums of the sources and of the program. Needs `rt`. tools/library.sh builds the
-# library, hosts/shared.sh the kept device for other languages, and tools/web.sh the module for web
-# pages.
+# Copies the program that `rt ci` proved and built here to dist/, and writes its lines of dist/PROVED: the
+# version of the kit, and the checksums of the sources and of the program. Needs `rt`. tools/library.sh builds
+# the library, hosts/shared.sh builds the kept device for other languages, and tools/web.sh builds the module
+# for web pages.
 #
 #   tools/dist.sh           copies the program, unless a source is newer than the one built here
-#   tools/dist.sh --check   says whether dist/ was made of the current sources and, if it was made by
-#                           the kit that is installed here, whether the program has the bytes of the
-#                           one built here. The library is not built again: its bytes have to be those
-#                           that PROVED names
+#   tools/dist.sh --check   checks that dist/ was built from the current sources and, if the same kit is
+#                           installed here, that the program has the same bytes as the one built
+#                           here. The library is not built again: its checksums must be those in
+#                           PROVED
 set -u
 cd "$(dirname "$0")/.." || exit 1
 . tools/lib/proved.sh
 # This script makes files for x86-64, even if a package is made for another machine.
 ship x86_64
 
-# Prints the faults of dist/, one a line.
+# Prints the faults of dist/, one on each line.
 faults() {
     faults_of_program
     faults_of_library
@@ -55,8 +55,8 @@ faults_of_library() {
     done
 }
 
-# The files for ARM64, if there are any, are not built again either. Their bytes have to be those that
-# their own PROVED names, made of these sources.
+# Prints the faults of dist/aarch64, if it exists. Its files are not built again either: their checksums must
+# be those in dist/aarch64/PROVED, and they must be built from the current sources.
 faults_of_aarch64() (
     ship aarch64
     [ -d "$distribution" ] || return 0

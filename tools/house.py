@@ -1,7 +1,7 @@
 #!/usr/bin/env python3
 """Draws docs/house.svg: the crates in layers, from crates.txt. A crate is in the row above the
-highest of the crates that it depends on, so the lowest crates are at the bottom. Its colour is that
-of its group, which is a heading of crates.txt.
+highest of the crates that it depends on, so the lowest crates are at the bottom. Its colour shows
+its group, which is a heading of crates.txt.
 
 `tools/house.py` compares the picture with the new one, and its status is 1 if they differ;
 `tools/house.py --write` writes it.
@@ -80,7 +80,7 @@ def box_at(x: int, y: int, width: int, fill: str) -> str:
 
 
 def row_at(y: int, number: int, row: list[Crate], groups: int) -> tuple[list[str], int]:
-    """Draws a row of crates; returns also the offset below it."""
+    """Draws a row of crates. Also returns the vertical offset below the row."""
     lines = -(-len(row) // COLUMNS)
     height, width = lines * (LINE + GAP) + GAP, COLUMNS * (BOX + GAP) + GAP
     left = MARGIN + ROW_NUMBER
@@ -97,7 +97,7 @@ def row_at(y: int, number: int, row: list[Crate], groups: int) -> tuple[list[str
 
 
 def legend_at(y: int, groups: list[str]) -> tuple[list[str], int]:
-    """Draws what each colour means; returns also the offset below it."""
+    """Draws the legend of the colours. Also returns the vertical offset below the legend."""
     drawn = []
     for at, group in enumerate(groups):
         top = y + at * (LINE + GAP)
@@ -123,7 +123,7 @@ def picture() -> str:
 
 
 def main() -> int:
-    """Compares the picture, or writes it."""
+    """Compares the picture with the file, or writes it."""
     made = picture()
     if sys.argv[1:] == ["--write"]:
         PICTURE.write_text(made, "utf-8")

@@ -1,19 +1,19 @@
 #!/bin/sh
-# Installs the shipped program and everything that belongs to it. It proves nothing: the program and
-# the library are those of dist/.
+# Installs the shipped program and everything that belongs to it. It proves nothing, and takes the program and
+# the library from dist/.
 #
-#   tools/install.sh    with these variables:
-#     PREFIX     the folder of the installation; /usr/local
-#     DESTDIR    a folder in front of PREFIX, as for a package; nothing
-#     LIBRARIES  the folder of libraries in PREFIX; lib
-#     PACKAGES   the folder of Python packages in PREFIX; the one where python3 looks, if it is in
-#                PREFIX, else lib/tpmsim/python
-#     TPMSIM_MACHINE  the machine of the installation, x86_64 or aarch64; this one
-#     FUNCTIONS  the folder of zsh's functions in PREFIX; share/zsh/site-functions
+#   tools/install.sh    with these environment variables:
+#     PREFIX     the folder of the installation; by default /usr/local
+#     DESTDIR    a folder that precedes PREFIX, as for a package; by default empty
+#     LIBRARIES  the folder of libraries in PREFIX; by default lib
+#     PACKAGES   the folder of Python packages in PREFIX; by default the one where python3 looks, if
+#                that is in PREFIX, or else lib/tpmsim/python
+#     TPMSIM_MACHINE  the machine of the installation, x86_64 or aarch64; by default this one
+#     FUNCTIONS  the folder of zsh's functions in PREFIX; by default share/zsh/site-functions
 #
-# The modules for libtss2 and for swtpm, and tpmsim-simulator, are built if their headers are installed;
-# otherwise a line says that they are left out. Without DESTDIR, root's ldconfig adds the libraries to
-# the loader's cache. If the loader or python3 does not find the installed files, the script prints the
+# The modules for libtss2 and for swtpm, and tpmsim-simulator, are built if the headers that they need are
+# installed. Otherwise a line says what is not installed. Without DESTDIR, root's ldconfig adds the libraries
+# to the loader's cache. If the loader or python3 does not find the installed files, the script prints the
 # variables that a user has to set. Needs python3.
 set -u
 umask 022
@@ -39,19 +39,19 @@ print(*[it.removeprefix(start) for it in site.getsitepackages() if it.startswith
 ' "$prefix"
 }
 
-# put MODE SOURCE PLACE: copies a file to its place in PREFIX.
+# put MODE SOURCE PLACE: installs a file at the path PLACE below PREFIX.
 put() {
     install -D -m "$1" "$2" "$root/$3" || fail "$root/$3 is not written"
 }
 
-# link TARGET PLACE: makes a link, whose target is relative to its place.
+# link TARGET PLACE: makes a link at the path PLACE. TARGET is relative to the link's folder.
 link() {
     if ! { mkdir -p "$root/$(dirname "$2")" && ln -sf "$1" "$root/$2"; }; then
         fail "$root/$2 is not written"
     fi
 }
 
-# has_header HEADER: whether the compiler finds a header.
+# has_header HEADER: succeeds if the compiler finds a header.
 has_header() {
     echo "#include <$1>" | "${CC:-cc}" -E - >"$work/header" 2>&1
 }
@@ -77,7 +77,7 @@ put_library() {
     put 644 dist/tpmsim.h include/tpmsim.h
     put 644 hosts/kept/tpmsim_kept.h include/tpmsim_kept.h
     put 644 dist/tpmsim.hpp include/tpmsim.hpp
-    # shellcheck disable=SC2016 # pkg-config reads the names
+    # shellcheck disable=SC2016 # pkg-config expands the variables
     sed -e "1iprefix=$prefix\nincludedir=\${prefix}/include\nlibdir=\${prefix}/$libraries\n" \
         -e 's/-I[$]{pcfiledir}/-I${includedir}/' -e 's/-L[$]{pcfiledir}/-L${libdir}/' \
         dist/tpmsim.pc >"$work/tpmsim.pc" && put 644 "$work/tpmsim.pc" "$libraries/pkgconfig/tpmsim.pc"
@@ -116,7 +116,7 @@ put_modules() {
     fi
 }
 
-# tell_loader: makes the loader find the libraries, or prints how the user makes it find them.
+# tell_loader: makes the loader find the libraries, or prints the variable that the user has to set.
 tell_loader() {
     PATH=$PATH:/usr/sbin:/sbin
     if [ "$(id -u)" -eq 0 ] && command -v ldconfig >"$work/told"; then
@@ -126,7 +126,7 @@ tell_loader() {
         echo "The loader finds the libraries by LD_LIBRARY_PATH=$prefix/$libraries"
 }
 
-# tell_python: prints how the user makes python3 find the package, unless python3 finds it already.
+# tell_python: prints the variable that the user has to set, if python3 does not find the package.
 tell_python() {
     (cd / && python3 -B -c '
 import sys, tpmsim

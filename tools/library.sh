@@ -1,14 +1,14 @@
 #!/bin/sh
-# Builds the library in dist/: libtpmsim.a, libtpmsim.so.0, tpmsim.h, tpmsim.hpp and tpmsim.pc; and
-# its lines in dist/PROVED, which name the kit, and the checksums of the sources and of the first two
+# Builds the library in dist/: libtpmsim.a, libtpmsim.so.0, tpmsim.h, tpmsim.hpp and tpmsim.pc. Also writes
+# its lines in dist/PROVED, with the version of the kit, and the checksums of the sources and of the first two
 # files.
 #
-# The exports are proved and compiled over the crates below them, which `rt ci` built here. If a
-# source is newer, the crates are first proved in a copy. Needs `rt`, git, a C compiler and Debian's
+# The crate of the exports is proved and compiled with the crates below it, which `rt ci` built here. If a
+# source is newer, those crates are first proved in a copy. Needs `rt`, git, a C compiler and Debian's
 # binutils.
 #
-# tools/library.sh                    the files for x86-64
-#   tools/library.sh --target aarch64   what is for ARM64, with the program (tools/aarch64.sh)
+#   tools/library.sh                    the files for x86-64
+#   tools/library.sh --target aarch64   the contents of dist/aarch64, with the program (tools/aarch64.sh)
 set -u
 cd "$(dirname "$0")/.." && top=$(pwd -P) || exit 1
 case $* in
@@ -42,8 +42,8 @@ prove() {
     tail -n 1 "$log" | grep -q ' 0 failed' || fail 'not everything is proved'
 }
 
-# Links the archive, from the compiled exports and the kit's connection to the C library's allocator,
-# and from the same files the shared object.
+# Makes the archive from the compiled exports and the kit's interface to the C library's allocator, and links
+# the shared object from the same files.
 link() (
     mkdir "$work/objects" && cd "$work/objects" && ar x "$work/exports.a" &&
         ar x "$kit/c/liblibc_c.a" heap.pic.o && ar rcsD "$work/libtpmsim.a" ./*.o &&
@@ -77,7 +77,7 @@ done
 kit=$(kit_folder) || exit 1
 made_of=$(sources_checksum "$exports") || exit 1
 repository=$top
-# shellcheck disable=SC2086 # no name of a crate has a space
+# shellcheck disable=SC2086 # crate names have no spaces
 are_built $below || { repository=$work/copy && prove; }
 compile "$repository" "$exports" "$work/exports.a" >>"$log" 2>&1 ||
     fail 'the exports are not compiled'

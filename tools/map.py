@@ -45,7 +45,7 @@ def listed() -> str:
 
 
 def main() -> int:
-    """Compares the list, or writes it."""
+    """Compares the list with the document, or writes it."""
     page = PAGE.read_text()
     before, rest = page.split(BEGIN)
     after = rest.split(END)[1]

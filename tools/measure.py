@@ -2,12 +2,12 @@
 """Runs the gate and writes its figures to docs/gate.json.
 
 `tools/measure.py` runs .ci/run at the top of the repository, prints its output, and adds up the CPU
-seconds of all toolchain processes, by crate and kind of process. `tools/measure.py --proofs` does the same
-with only `rt ci`. `tools/measure.py WORDS..` does it with another command, prints the figures and writes
-nothing. Under `taskset` the figures are for fewer processors, and are written next to those for all.
-Runs only on Linux.
+seconds of all toolchain processes, by crate and kind of process. `tools/measure.py --proofs` does
+the same with only `rt ci`. `tools/measure.py WORDS..` measures another command, prints the figures
+and writes nothing. Under `taskset` the figures are for fewer processors, and are stored next to
+those for all processors. Runs only on Linux.
 
-`tools/measure.py --wrong REFUSED TRIED` writes how many wrong bodies outside the gate were refused.
+`tools/measure.py --wrong REFUSED TRIED` stores how many wrong bodies outside the gate were refused.
 """
 
 import json
@@ -61,7 +61,7 @@ def use_of(pid: str) -> tuple[Process, Use] | None:
 
 
 def watch(uses: dict[Process, Use], is_over: threading.Event) -> None:
-    """Records twice a second how much each process of the toolchain has used so far."""
+    """Records twice a second which resources each process of the toolchain has used so far."""
     while not is_over.wait(0.5):
         for pid in filter(str.isdigit, os.listdir("/proc")):
             try:
@@ -95,7 +95,7 @@ def run(words: list[str]) -> tuple[list[str], int, float, dict[Process, Use]]:
 
 
 def output_of(*words: str) -> str:
-    """Returns the first line that a command prints; empty if the command cannot be run."""
+    """Returns the first line that a command prints, or an empty string if it cannot be run."""
     try:
         done = subprocess.run(words, cwd=TOP, capture_output=True, text=True, check=True)
     except (OSError, subprocess.CalledProcessError):
@@ -104,7 +104,8 @@ def output_of(*words: str) -> str:
 
 
 def machine() -> str:
-    """Returns the processor, and the number of processors that this process may use."""
+    """Returns the model of the processor, and the number of processors that this process may use.
+    """
     found = re.search(r"(?m)^model name\s*: (.*)$", Path("/proc/cpuinfo").read_text())
     name = found[1] if found else "unknown processor"
     return f"{len(os.sched_getaffinity(0))} x {name}"
@@ -143,7 +144,7 @@ def figures(lines: list[str], minutes: float, uses: dict[Process, Use]) -> dict[
 
 
 def write(key: str, told: Mapping[str, object]) -> None:
-    """Writes one part of docs/gate.json, and leaves the other parts unchanged."""
+    """Writes one entry of docs/gate.json, and leaves the other entries unchanged."""
     known = json.loads(FIGURES.read_text()) if FIGURES.exists() else {}
     known[key] = told
     FIGURES.write_text(json.dumps(known, indent=1) + "\n")

@@ -1,6 +1,6 @@
 #!/bin/sh
-# Runs python3 so that it finds the package under python/ and the programs under tests/, which the
-# programs under tests/, tools/ and bench/ import:
+# Runs python3 so that programs in tests/, tools/ and bench/ can import the package in python/ and the
+# programs in tests/:
 #
 #   tools/python.sh tests/objects/create.py
 set -u

@@ -1,12 +1,12 @@
 #!/bin/sh
-# Makes a release of the last commit, and prints a list of its parts: the tag vVERSION; and in a folder
-# the package for Debian, the sources, dist/PROVED, the version's section of CHANGELOG.md, and
-# SHA256SUMS of these files. It sends nothing anywhere.
+# Makes a release of the last commit, and prints a list of its parts: the tag vVERSION; and in a folder the
+# package for Debian, the sources, dist/PROVED, the version's section of CHANGELOG.md, and SHA256SUMS with the
+# checksums of these files. It uploads nothing.
 #
-#   tools/release.sh [FOLDER]   in FOLDER; else in out/vVERSION
+#   tools/release.sh [FOLDER]   in FOLDER; by default in out/vVERSION
 #
-# CHANGELOG.md must begin with the version's section, `## VERSION, DATE`; the working tree must equal
-# the last commit; and dist/ must be made of its sources. Needs git, dpkg-deb, tar, gzip and python3.
+# CHANGELOG.md must begin with the version's section, `## VERSION, DATE`; the working tree must equal the last
+# commit; and dist/ must be built from its sources. Needs git, dpkg-deb, tar, gzip and python3.
 set -u
 told_folder=${1:+$(realpath -m "$1")}
 cd "$(dirname "$0")/.." || exit 1
@@ -38,7 +38,7 @@ notes() {
         CHANGELOG.md
 }
 
-# Prints the milliseconds until a new clone of the tag has answered a command.
+# Clones the tag, and prints the milliseconds until the program of the clone has answered a command.
 answering() {
     git -c advice.detachedHead=false clone -q --branch "v$version" . "$work/clone" || return 1
     start=$(date +%s%3N)

@@ -1,31 +1,31 @@
 #!/bin/sh
 # Plays the scripts of tests/ and examples/, and the shell tests of tests/, and compares the results with the
-# expected files next to them. Exhaustive scripts are not stored: tests/common/made.py makes them first, with
-# the responses and traces of the device in Python. It tests both programs that `rt ci` leaves, and the one in
-# dist/ if its bytes differ. Then tpmsim_lists, which keeps the device's state in lists and not in arrays of
-# fixed size, plays the scripts that must succeed, and must print the same bytes. Last come the shell tests
-# of that program, of the library in dist/, and of the hosts that attach it. If nothing was built here, only
-# the files in dist/ are tested; that needs no `rt`.
+# expected files next to them. Exhaustive scripts are not stored: tests/common/made.py generates them first,
+# with the responses and traces of the device in Python. The script tests both programs that `rt ci` builds,
+# and the program in dist/ if its bytes differ. Then tpmsim_lists, which stores the device's state in lists
+# and not in arrays of fixed size, plays the scripts that must succeed, and must print the same bytes. Last
+# come the shell tests of that program, of the library in dist/, and of the hosts that use the library. If
+# nothing was built here, only the files in dist/ are tested, which needs no `rt`.
 #
-#   tools/scripts.sh                   all of them
-#   tools/scripts.sh --shipped         those of what is in dist/ alone
-#   tools/scripts.sh --built           the others: those of programs built here that have other bytes
-#   tools/scripts.sh pcr_extend files  these
-#   tools/scripts.sh 'nv/*' 'torn*'    those of the folder tests/nv, and those whose names begin so
-#   JOBS=1 tools/scripts.sh            one after another, and not one on each processor
+#   tools/scripts.sh                   all tests
+#   tools/scripts.sh --shipped         only the tests of the files in dist/
+#   tools/scripts.sh --built           only the tests of programs that were built here and have other bytes
+#   tools/scripts.sh pcr_extend files  the tests with these names
+#   tools/scripts.sh 'nv/*' 'torn*'    the tests in tests/nv, and those whose names begin with torn
+#   JOBS=1 tools/scripts.sh            one test after another, instead of one on each processor
 #
-# The tests work in folders in memory, if there is enough, or in TMPDIR, if that is set.
+# The tests work in folders in memory, if there is enough memory, or in TMPDIR, if that is set.
 #
 # NAME.tpm is run as `PROGRAM run NAME.tpm`, or as `tpmsim_lists <NAME.tpm`, and NAME.sh as `sh NAME.sh
 # PROGRAM`. A shell test whose name begins with lists_ is run only with tpmsim_lists, one whose name begins
 # with library_ or attached_ with dist/libtpmsim.a, and all others with the other programs. NAME.out is the
 # expected standard output, NAME.err the expected standard error (no file: empty), and NAME.status the
-# expected status (no file: 0). If there is a NAME.trace, a further test runs NAME.tpm as `PROGRAM run
-# --trace NAME.tpm` and expects NAME.trace as standard output. A shell test that cannot run here ends with
-# status 77, and prints one line with the reason. It is counted as skipped, like a test whose program is
-# missing. Results are printed in the order of programs and of tests, whichever ends first. The last line is
-# `N passed, M failed`, followed by `, K skipped` if a test was skipped. The line before it names the
-# packages of Debian with which the skipped tests could be played, if any.
+# expected status (no file: 0). If there is a NAME.trace, a further test runs NAME.tpm as `PROGRAM run --trace
+# NAME.tpm` and expects NAME.trace as standard output. A shell test that cannot run here ends with status 77,
+# and prints one line with the reason. It is counted as skipped, like a test whose program is missing. Results
+# are printed in the order of programs and of tests, whichever ends first. The last line is `N passed, M
+# failed`, followed by `, K skipped` if a test was skipped. If installing Debian packages would allow skipped
+# tests to run, the line before it names them.
 set -u
 
 top=$(CDPATH='' cd "$(dirname "$0")/.." && pwd -P) || exit 1
@@ -37,7 +37,7 @@ in_dist=$top/dist/tpmsim
 library=${in_dist%/*}/libtpmsim.a
 jobs=${JOBS:-$(getconf _NPROCESSORS_ONLN)}
 
-# Tests sync files to the disk, so they work in memory.
+# Tests sync files to the disk, which is fast in memory.
 . "$top/tools/lib/memory.sh"
 work=
 [ -n "${TMPDIR:-}" ] || work=$(folder_in_memory 1 2>&1) || work=
@@ -48,17 +48,18 @@ mkdir "$work/told" "$work/rooms" "$work/queue" "$made_in" || exit 1
 # A test may run as another user, who must be able to enter its folder.
 chmod a+x "$work" "$work/rooms"
 export TMPDIR="$work/rooms"
-# If python3 is a launcher of another python3, as pyenv's is, the tests start that other one directly.
+# If python3 is only a launcher for another python3, like that of pyenv, the tests start the other one
+# directly.
 if found=$(command -v python3); then
     started=$(python3 -c 'import sys; print(sys.executable)')
     [ "${started:-$found}" = "$found" ] || PATH=${started%/*}:$PATH
 fi
-# Checks once whether Python is whole.
+# Checks once whether Python has all needed modules.
 . "$top/tools/lib/python.sh"
 unset TPMSIM_PYTHON
 ! python_is_whole || export TPMSIM_PYTHON=whole
-# The tests share Python's bytecode, even if the environment forbids it, and the C programs that several of
-# them compile.
+# The tests share Python's bytecode, even if the environment forbids it, and the compiled C programs that
+# several tests need.
 export PYTHONPYCACHEPREFIX="$work/python" TPMSIM_BUILT="$work/built"
 unset PYTHONDONTWRITEBYTECODE
 number=0
@@ -66,7 +67,7 @@ number=0
 # The longest tests start first, then the other shell tests, and then the scripts.
 longest=' audit python policy_audit images bent_lines starved library_scripts launcher torn '
 
-# say WORDS: prints a line between the results of tests.
+# say WORDS: adds a line between the results of tests.
 say() {
     number=$((number + 1))
     echo "$1" >"$work/told/$number"
@@ -88,7 +89,8 @@ skip() {
     say "skipped: $1: $2"
 }
 
-# check_made TEST PROGRAM: queues a script that was made; its trace has the responses too.
+# check_made TEST PROGRAM: queues a generated script. It is run only with --trace, since the trace includes
+# the responses.
 check_made() {
     if [ "${TPMSIM_PYTHON:-}" = whole ]; then
         check "$1" "$2" "${1%.tpm}.trace" --trace
@@ -97,7 +99,7 @@ check_made() {
     fi
 }
 
-# is_test PATH: whether a path is a test; the files of tests/common are not.
+# is_test PATH: succeeds if a path is a test. The files of tests/common are not tests.
 is_test() {
     case $1 in
     "$top/tests/common/"*) false ;;
@@ -105,16 +107,16 @@ is_test() {
     esac
 }
 
-# The programs that make a script when it is played, one in each line.
+# The programs that generate scripts, one on each line.
 programs_of_made=$(find "$top/tests" -mindepth 2 -maxdepth 2 -name '*.py' \
     -exec grep -lE '^"""Makes [a-z_0-9]+[.]tpm' {} + | sort)
 
-# makes PROGRAM: whether the program makes scripts when they are played.
+# makes PROGRAM: succeeds if the program generates a script.
 makes() {
     echo "$programs_of_made" | grep -qxF -- "$1"
 }
 
-# is_made TEST: whether it is a script that a program makes.
+# is_made TEST: succeeds if the test is a generated script.
 is_made() {
     case $1 in
     "$made_in/"*) true ;;
@@ -154,8 +156,8 @@ for name do
     [ -n "$found" ] || say "FAILED: $name: there is no such test"
 done
 
-# make_scripts TEST..: makes the scripts among these tests that are not stored. If these are all such
-# scripts, the tests that play all scripts need not make them again.
+# make_scripts TEST..: generates the scripts among these tests that are not stored. If these are all such
+# scripts, the tests that play all scripts need not generate them again.
 make_scripts() {
     for test do
         shift
@@ -172,7 +174,7 @@ make_scripts() {
 unset TPMSIM_MADE
 [ "${TPMSIM_PYTHON:-}" != whole ] || make_scripts "$@"
 
-# is_of_library TEST: whether a test is about the library, a host that attaches it, or the module for web
+# is_of_library TEST: succeeds if a test is about the library, a host that uses it, or the module for web
 # pages.
 is_of_library() {
     case $1 in
@@ -181,13 +183,13 @@ is_of_library() {
     esac
 }
 
-# Whether the program in dist/ was made of the current sources.
+# Whether the program in dist/ was built from the current sources.
 shipped_is_of_sources() (
     cd "$top" && . tools/lib/proved.sh && is_proved sources "$(sources_checksum)"
 )
 
-# is_asked PROGRAM: whether a program is to be tested. A program that was built here counts as the one in
-# dist/ if the bytes are the same and dist/ was made of the current sources.
+# is_asked PROGRAM: succeeds if a program is to be tested. A program that was built here counts as the one in
+# dist/ if its bytes are the same and dist/ was built from the current sources.
 is_asked() {
     case $asked,$1 in
     shipped,"$in_dist" | ,*) true ;;
@@ -196,7 +198,7 @@ is_asked() {
     esac
 }
 
-# missing PROGRAM: reports that a program is missing, if others were built here.
+# missing PROGRAM: reports that a program is missing, if tpmsim was built here.
 missing() {
     [ ! -x "$out/tpmsim" ] || say "${1#"$top/"} is not there"
 }
@@ -234,7 +236,7 @@ for program in "$out/tpmsim" "$out/tpmsim.by-rattle" "$in_dist"; do
 done
 [ "$programs" -gt 0 ] || say 'FAILED: no program was there to be run'
 
-# ends_well SCRIPT: whether the expected status of a script is 0.
+# ends_well SCRIPT: succeeds if the expected status of a script is 0.
 ends_well() {
     [ ! -f "${1%.*}.status" ] || [ "$(cat "${1%.*}.status")" -eq 0 ]
 }
@@ -259,14 +261,14 @@ for test do
     esac
 done
 
-# Whether the library in dist/ was made of the current sources, and is the proved one.
+# Whether the library in dist/ was built from the current sources, and is the proved one.
 library_is_proved() (
     cd "$top" && . tools/lib/proved.sh &&
         is_proved 'library sources' "$(sources_checksum tpmsim_library)" &&
         is_proved 'library archive' "$(checksum <"$library")"
 )
 
-# Prints the reason why no test of the library can run; nothing if they can.
+# Prints the reason why no test of the library can run, or nothing if they can run.
 missing_library() {
     [ -f "$library" ] || { echo "${library#"$top/"} is not there" && return; }
     library_is_proved || echo "${library#"$top/"} was proved of other sources than these"
@@ -284,7 +286,7 @@ for test do
     fi
 done
 
-# Prints the next results, as far as they are available.
+# Prints the next results in order, as far as they are available.
 next=1
 show() {
     while [ -f "$work/told/$next" ]; do
@@ -293,7 +295,7 @@ show() {
     done
 }
 
-# The shell tests start first, since they take longest. One process plays several scripts.
+# The shell tests start first, since they take longest. Each process plays several scripts.
 touch "$work/longest" "$work/long" "$work/short"
 { cat "$work/longest" "$work/long" && xargs -r -n 12 <"$work/short"; } |
     xargs -r -P "$jobs" -L 1 sh "$top/tools/lib/play_tests.sh" "$work" |
@@ -311,8 +313,8 @@ count() {
     find "$work/told" -type f -exec cat {} + | grep -c "^$1: "
 }
 
-# packages: prints the packages that the reasons of skipped tests name, as in `there is no cc, nm (Debian:
-# gcc, binutils)`.
+# packages: prints the packages that are named in the reasons of skipped tests, such as `there is no cc, nm
+# (Debian: gcc, binutils)`.
 packages() {
     find "$work/told" -type f -exec cat {} + | sed -n 's/^skipped: .* (Debian: \(.*\))$/\1/p' |
         sed 's/, */\n/g' | LC_ALL=C sort -u | tr '\n' ' '

@@ -1,7 +1,7 @@
 #!/bin/sh
-# Prints the version at each place that states it, one per line. The status is 1 if they differ.
+# Prints the version that each file states, one per line. The status is 1 if they differ.
 #
-#   tools/version.sh [PROGRAM]   of this program; else of dist/tpmsim
+#   tools/version.sh [PROGRAM]   with this program; by default with dist/tpmsim
 set -u
 program=${1:-dist/tpmsim}
 case $program in
@@ -17,7 +17,7 @@ of_header() {
     [ -z "$number" ] || echo "$((0x${number%????})).$((0x${rest%??})).$((0x${rest#??}))"
 }
 
-# Prints each version and its place.
+# Prints each version and the file that states it.
 versions() {
     echo "$("$program" --version | sed -n 's/^tpmsim //p') the program"
     echo "$(sed -n '/^## /{s/^## \(Unreleased (\)\{0,1\}\([0-9.]*\).*/\2/p;q;}' CHANGELOG.md) CHANGELOG.md"

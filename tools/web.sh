@@ -1,18 +1,18 @@
 #!/bin/sh
-# Builds dist/tpmsim.wasm, the device as a module for web pages and for node, and its lines in dist/PROVED:
-# the prover's verdict for the module's own target, the kit, the checksums of the sources and of the module,
-# and the tool that converted it.
+# Builds dist/tpmsim.wasm, the device as a module for web pages and for node, and writes its lines in
+# dist/PROVED: the prover's verdict for the module's own target, the version of the kit, the checksums of the
+# sources and of the module, and the tool that converted it.
 #
-# The kit links a module whose memory has 64-bit addresses. Debian's binaryen converts it to one with 32-bit
-# addresses, which every browser and node run without a flag: only that one is shipped. binaryen is not part
-# of the proof, nor is the linker.
+# The kit links a module whose memory has 64-bit addresses. Debian's binaryen converts it to a module with
+# 32-bit addresses, which every browser and node run without a flag. Only the converted module is shipped.
+# Neither binaryen nor the linker is part of the proof.
 #
 #   tools/web.sh           builds it
-#   tools/web.sh --check   builds it again, and compares it with dist/tpmsim.wasm: its bytes, if kit and
-#                          binaryen are those that PROVED names, and otherwise only its checksums
+#   tools/web.sh --check   checks dist/tpmsim.wasm: builds it again and compares the bytes, if kit and
+#                          binaryen are those that PROVED names; otherwise checks only its checksums
 #
-# The crates below must be built here by `rt ci`, and no source may be newer: tools/build.sh builds
-# them. Needs `rt`, and Debian's binaryen.
+# The crates below the module's crate must have been built here by `rt ci`, and no source may be newer.
+# tools/build.sh builds them. Needs `rt`, and Debian's binaryen.
 set -u
 cd "$(dirname "$0")/.." && top=$(pwd -P) || exit 1
 . tools/lib/proved.sh
@@ -33,7 +33,7 @@ fail() {
     exit 1
 }
 
-# Proves and compiles the exports, and keeps the verdict.
+# Proves and compiles the exports, and stores the verdict.
 compile_exports() {
     compile "$top" tpmsim_web "$work/exports.a" --target "$target" --cpu lime1 >"$log" 2>&1 &&
         verdict=$(grep -o "^logic=proved functions=[0-9]* target=$target" "$log")
@@ -69,7 +69,7 @@ deliver() {
     mkdir -p dist && mv "$work/tpmsim.wasm" "$module" && chmod 644 "$module" && tell_proved
 }
 
-# Prints the faults of dist/tpmsim.wasm, one a line.
+# Prints the faults of dist/tpmsim.wasm, one on each line.
 faults() {
     faults_of_module
     if ! { is_proved 'web kit' "$kit" && is_proved "web lowering, which is no prover's step" "$binaryen"; }; then

@@ -23,7 +23,7 @@ import tpmsim_wheel  # noqa: E402
 
 
 def faults(machine: str) -> list[str]:
-    """Returns the files of dist/ whose bytes differ from those that PROVED names."""
+    """Returns the files of dist/ whose checksums differ from those in PROVED."""
     folder = tpmsim_wheel.shipped(machine)
     lines = (folder / "PROVED").read_text("ascii").splitlines()
     proved = dict(line.split(": ", 1) for line in lines)

@@ -1,6 +1,6 @@
 #!/usr/bin/env python3
-"""Reports the words that docs/STYLE.md replaces, in documents and in the comments of code, each with its
-line and what to write instead.
+"""Reports the words that docs/STYLE.md asks to avoid, in documents and in comments, each with its
+line and with what to write instead.
 
     tools/words.py              all documents of the repository, and all code
     tools/words.py docs/MAP.md  only these files
@@ -23,7 +23,7 @@ from pathlib import Path
 TOP = Path(__file__).resolve().parent.parent
 STYLE = TOP / "docs" / "STYLE.md"
 LEXICON = re.compile(r"<!-- lexicon -->\n(.*)<!-- end of lexicon -->", re.DOTALL)
-# The comment of a definition or a proof, and the comment of a shell script.
+# Comments of definitions and proofs, and comments of shell scripts.
 DASHES = re.compile(r"(?:^|\s)--\s(.*)$")
 HASH = re.compile(r"^\s*#(?!!)(.*)$")
 # the part of JSDoc that describes a type; the names in it are code
@@ -44,7 +44,7 @@ class Entry:
     allowed: re.Pattern[str] | None
 
     def found_in(self, line: str) -> Iterator[str]:
-        """Yields the words that a line contains, except in names and in phrases that allow them."""
+        """Yields the forbidden words in a line, except those in names and in allowed phrases."""
         spans = [it.span() for it in self.allowed.finditer(line)] if self.allowed else []
         for match in self.words.finditer(line):
             is_name = match[0][1:] != match[0][1:].lower()
@@ -61,7 +61,8 @@ def cells_of(row: str) -> list[str]:
 
 
 def any_of(words: str) -> str:
-    """Returns a pattern for words and phrases separated by commas."""
+    """Returns a pattern that matches any of the words and phrases, which are separated by commas.
+    """
     return "|".join(re.escape(it.strip()).replace(r"\ ", r"\s+") for it in words.split(","))
 
 
@@ -77,8 +78,8 @@ def lexicon() -> list[Entry]:
 
 
 def lines_of(text: str) -> Iterator[tuple[int, str]]:
-    """Yields the lines of a document, with their numbers, without its code and without the list of
-    crates, which consists of comments in code.
+    """Yields the lines of a document with their numbers. Skips code, and the list of crates, which
+    consists of comments in code.
     """
     is_code = False
     for number, line in enumerate(text.splitlines(), 1):
@@ -100,7 +101,7 @@ def comments_of(text: str) -> Iterator[tuple[int, str]]:
 
 
 def matched(pattern: re.Pattern[str], text: str) -> Iterator[tuple[int, str]]:
-    """Yields what a pattern matches in each line, with the line's number."""
+    """Yields the part of each line that a pattern matches, with the line's number."""
     for number, line in enumerate(text.splitlines(), 1):
         if found := pattern.search(line):
             yield number, CODE.sub("``", found[1])
@@ -125,7 +126,9 @@ def docstrings(text: str) -> Iterator[ast.Constant]:
 
 
 def of_python(text: str) -> Iterator[tuple[int, str]]:
-    """Yields the lines of docstrings and comments; indented lines of a docstring are code."""
+    """Yields the lines of docstrings and comments, except indented lines of a docstring, which are
+    code.
+    """
     lines = text.splitlines()
     for string in docstrings(text):
         for number in range(string.lineno, (string.end_lineno or string.lineno) + 1):
@@ -165,7 +168,7 @@ READERS: dict[str, Callable[[str], Iterator[tuple[int, str]]]] = {
 
 
 def held() -> list[Path]:
-    """Returns the files of the repository whose English must follow the lexicon."""
+    """Returns the files of the repository whose English must follow the rules of docs/STYLE.md."""
     ran = subprocess.run(
         ["git", "ls-files"], cwd=TOP, check=True, stdout=subprocess.PIPE, text=True
     )

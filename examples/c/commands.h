@@ -1,4 +1,4 @@
-/* Writes commands as bytes, as far as the examples need them. A program uses a TPM library for this. */
+/* Encodes the commands that the examples need. A real program would use a TPM library for this. */
 #ifndef COMMANDS_H
 #define COMMANDS_H
 
@@ -15,13 +15,14 @@ enum { OWNER = 0x40000001, NULL_HANDLE = 0x40000007, PASSWORD = 0x40000009 };
 enum { LOCKOUT = 0x4000000a, INDEX = 0x01000001 };
 enum { POLICY = 1, TRIAL = 3 };
 
-/* Bytes that are appended one after another. */
+/* A buffer to which bytes are appended. */
 typedef struct {
     size_t size;
     uint8_t bytes[4096];
 } text;
 
-/* A TPM, and its last response: the response code, a handle, and the parameters with their size. */
+/* A TPM, and its last response: the response code, the handle, and the parameters with their
+ * size. */
 typedef struct {
     tpmsim device;
     uint8_t random[256];
@@ -33,8 +34,8 @@ typedef struct {
     uint32_t elapsed_ms;
 } tpm;
 
-/* How the first handle is authorized: by a password, by a policy session with a value as a password,
-   or by a complete entry. */
+/* How the first handle is authorized: with a password, with a policy session and an authorization
+   value as a password, or with a complete entry. */
 typedef struct {
     uint32_t session;
     const char *value;
@@ -66,7 +67,7 @@ static inline uint32_t number_at(const uint8_t *bytes, unsigned size) {
     return number;
 }
 
-/* Ends the program if a condition that always holds does not. */
+/* Ends the program if a condition does not hold that should always hold. */
 static inline void need(int holds, const char *what) {
     if (holds) return;
     fprintf(stderr, "%s\n", what);
@@ -144,7 +145,7 @@ static inline int send_command(tpm *it, uint32_t code, const uint32_t *handles, 
     return send_bytes(it, &command, code, who != NULL);
 }
 
-/* Sends a command that has to be accepted. */
+/* Sends a command that must be accepted. */
 static inline void must(tpm *it, uint32_t code, const uint32_t *handles, const by *who,
                         const text *parameters) {
     need(send_command(it, code, handles, who, parameters), "a command is refused");
@@ -155,7 +156,7 @@ static inline void must(tpm *it, uint32_t code, const uint32_t *handles, const b
 #define BY_PASSWORD(given)                                                                         \
     &(by) { .session = PASSWORD, .value = given }
 
-/* Removes the sized buffer at the front of the parameters, and returns it. */
+/* Removes the sized buffer at the beginning of the parameters, and returns it. */
 static inline text take_buffer(tpm *it) {
     text buffer = {0};
     const size_t size = number_at(it->parameters, 2);
@@ -195,7 +196,7 @@ static inline text digest_of(tpm *it, uint32_t trial) {
     return digest;
 }
 
-/* Creates the owner's storage key, an AES key. The same template creates the same key again. */
+/* Creates the owner's storage key, an AES key. The same template always creates the same key. */
 static inline uint32_t storage_key(tpm *it, const char *owner) {
     text parameters = {0};
     put_number(&parameters, 4, 2);
@@ -232,7 +233,7 @@ static inline int unseal(tpm *it, uint32_t handle, by who) {
     return send_command(it, 0x15e, HANDLES(handle), &who, NULL);
 }
 
-/* Defines the index of the examples, with these attributes and 8 bytes. */
+/* Defines the NV index of the examples, with these attributes and a size of 8 bytes. */
 static inline void define(tpm *it, uint32_t attributes, const char *value) {
     text area = {0}, parameters = {0};
     put_number(&area, INDEX, 4);
@@ -244,7 +245,7 @@ static inline void define(tpm *it, uint32_t attributes, const char *value) {
     must(it, 0x12a, HANDLES(OWNER), BY_PASSWORD(""), &parameters);
 }
 
-/* Reads the index of the examples. */
+/* Reads the NV index of the examples. */
 static inline int read_index(tpm *it, const char *value) {
     const text parameters = {4, {0, 8, 0, 0}};
     return send_command(it, 0x14e, HANDLES(INDEX, INDEX), BY_PASSWORD(value), &parameters);
@@ -255,7 +256,7 @@ static inline const uint8_t *measure(tpm *it, uint32_t pcr, const char *data) {
     text parameters = {0};
     put_sized(&parameters, data, strlen(data));
     must(it, 0x13c, HANDLES(pcr), BY_PASSWORD(""), &parameters);
-    return it->parameters + 4 + 2 + 20 + 2; /* their number and the SHA-1 digest come first */
+    return it->parameters + 4 + 2 + 20 + 2; /* the number of digests and the SHA-1 digest come first */
 }
 
 /* Prints a line of an example: the returned buffer, or the code and the check of a refusal. */

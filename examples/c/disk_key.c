@@ -1,5 +1,6 @@
-/* A disk's key is sealed to PCRs 7 and 11 and a PIN. It is refused after PCR 11 has changed. Then a second
-   branch of its policy, which asks for the owner's passphrase, recovers it. */
+/* A disk's key is sealed to PCRs 7 and 11 and a PIN. It cannot be unsealed after PCR 11 has
+   changed. Then a second branch of its policy, which requires the owner's passphrase, recovers
+   it. */
 #include "commands.h"
 
 static const char disk_key[] = "the key of a disk, of 32 bytes..";
@@ -18,7 +19,7 @@ static void by_pin(tpm *it, uint32_t session) {
     must(it, 0x18c, HANDLES(session), NULL, NULL);
 }
 
-/* The second branch: TPM2_PolicySecret of the owner. */
+/* The second branch: TPM2_PolicySecret with the owner's passphrase. */
 static int by_passphrase(tpm *it, uint32_t session, const char *given) {
     const text parameters = {10, {0}};
     return send_command(it, 0x151, HANDLES(OWNER, session), BY_PASSWORD(given), &parameters);
@@ -44,8 +45,8 @@ static text make_policy(tpm *it) {
     return digest_of(it, trial);
 }
 
-/* Unseals the disk's key by the first branch that holds, and prints the key, or the reason for the
-   refusal. */
+/* Unseals the disk's key with the first branch that is satisfied. Prints the key, or the reason for
+   the refusal. */
 static void open_disk(tpm *it, const char *what, uint32_t disk, const char *given_pin,
                       const char *given_passphrase) {
     const uint32_t session = start_session(it, POLICY);

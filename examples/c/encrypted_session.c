@@ -1,6 +1,6 @@
-/* A secret travels to the TPM encrypted, by a session that is bound to the owner. The owner's
-   authorization value is not sent either. Someone who listens learns neither, and cannot send the same
-   bytes again. */
+/* A session that is bound to the owner encrypts a secret on its way to the TPM. The owner's
+   authorization value is not sent at all. Someone who listens learns neither of them, and cannot
+   send the same bytes again. */
 #include "session.h"
 
 static const char secret[] = "a secret of 24 bytes, ok";
@@ -8,8 +8,8 @@ static const char owners_value[] = "the owner's value";
 
 enum { SECRET_BYTES = sizeof secret - 1 };
 
-/* The attributes of an NV index that the owner writes and reads; the device adds the attribute that it
-   is written. */
+/* The attributes of an NV index that the owner writes and reads. The device adds the attribute
+   WRITTEN after the first write. */
 enum { BY_OWNER = 0x00020002, WRITTEN = 0x20000000 };
 
 /* All bytes that were sent to the TPM, the last command, and the last decrypted response. */
@@ -31,7 +31,7 @@ static text area(uint32_t attributes) {
     return public;
 }
 
-/* Returns the Names of the owner and the index, as cpHash contains them. */
+/* Returns the Names of the owner and of the index, for cpHash. */
 static text names(uint32_t attributes) {
     text both = {0};
     put_number(&both, OWNER, 4);
@@ -52,7 +52,7 @@ static int send_by(tpm *it, session *by_session, uint32_t code, const uint32_t *
     return accepted;
 }
 
-/* Reads the secret, which is encrypted in the response, and prints it. */
+/* Reads the secret, which is encrypted in the response, decrypts it, and prints it. */
 static void read_secret(tpm *it, session *by_session, const char *what) {
     const text sizes = {4, {0, SECRET_BYTES, 0, 0}};
     if (send_by(it, by_session, 0x14e, HANDLES(OWNER, INDEX), names(BY_OWNER | WRITTEN), sizes,

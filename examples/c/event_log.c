@@ -1,5 +1,6 @@
-/* A measured boot: each piece of software is measured into a PCR before it runs, and its digest goes to a
-   log. Someone with the log and the PCRs replays the log on another TPM, and trusts it if the PCRs agree. */
+/* A measured boot: each piece of software is measured into a PCR before it runs, and its digest
+   goes to a log. A verifier replays the log on another TPM, and trusts the log if the resulting
+   PCRs agree. */
 #include "commands.h"
 
 enum { COUNT = 5 };
@@ -17,7 +18,7 @@ static text values_of(tpm *it) {
     text values = {0}, parameters = {0};
     put_selection(&parameters, 1u << 0 | 1u << 4 | 1u << 7 | 1u << 11);
     must(it, 0x17e, HANDLES(NONE), NULL, &parameters);
-    /* The update counter, the selection and the number of values come first. */
+    /* The update counter, the selection and the number of values precede the values. */
     put(&values, it->parameters + 4 + 10 + 4, 4 * (2 + 32));
     return values;
 }

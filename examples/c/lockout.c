@@ -2,13 +2,13 @@
    passed, or until lockoutAuth resets the count. */
 #include "commands.h"
 
-/* The attributes of an index that is written and read with its own authorization value. */
+/* The attributes of an NV index that is written and read with its own authorization value. */
 static const uint32_t by_value = 0x00040004;
 
 static const char pin[] = "7391";
 static const uint32_t hour = 3600;
 
-/* Reads the data of the index with a PIN, and prints them, or the reason for the refusal. */
+/* Reads the index with a PIN, and prints the data or the reason for the refusal. */
 static void tell_data(tpm *it, const char *what, const char *given) {
     read_index(it, given);
     tell(it, what);

@@ -1,9 +1,9 @@
-/* A counter holds the lowest version that may start. A key is sealed for each version, and the TPM
-   returns it while the counter is not above that version. The counter never decreases, even if its
-   index is deleted and defined again. */
+/* A counter contains the lowest version that may start. A key is sealed for each version, and the
+   TPM returns it as long as the counter is not greater than that version. The counter never
+   decreases, even if its index is deleted and defined again. */
 #include "commands.h"
 
-/* The attributes of a counter that is read and written with its own authorization value, or by the
+/* The attributes of a counter that is read and written with its own authorization value or by the
    owner. */
 static const uint32_t counter = 0x00060016;
 

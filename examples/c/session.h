@@ -1,13 +1,13 @@
 /* A session that computes HMACs, is bound to the entity that it authorizes, and encrypts with
-   AES-128 in CFB mode. SHA-256, HMAC, KDFa and AES are written out here; a program uses a library
-   for them. */
+   AES-128 in CFB mode. SHA-256, HMAC, KDFa and AES are implemented here. A real program would use a
+   library for them. */
 #ifndef SESSION_H
 #define SESSION_H
 
 #include "commands.h"
 
-/* Attributes of an entry: the session continues; the device decrypts the command's first parameter, or
-   encrypts the response's. */
+/* Attributes of a session: it continues after the command; the device decrypts the first parameter
+   of the command; the device encrypts the first parameter of the response. */
 enum { CONTINUES = 0x01, DECRYPTS = 0x20, ENCRYPTS = 0x40 };
 
 enum { HASH_BYTES = 32, BLOCK_BYTES = 16, NONCE_BYTES = 16 };
@@ -77,7 +77,7 @@ static inline hash sha256(text message) {
     return digest;
 }
 
-/* HMAC by SHA-256; the key has at most 64 bytes. */
+/* HMAC with SHA-256. The key has at most 64 bytes. */
 static inline hash hmac(const text *key, const text *message) {
     text inner = {0}, outer = {0};
     for (size_t at = 0; at < 64; at++) {
@@ -102,14 +102,15 @@ static inline hash kdfa(const text *key, const char *label, const uint8_t *newer
     return hmac(key, &message);
 }
 
-/* Doubles an element of AES's field. */
+/* Doubles an element of the field that AES uses. */
 static inline uint8_t doubled(uint8_t byte) { return (uint8_t)(byte << 1 ^ (byte >> 7) * 0x1b); }
 
 static inline uint8_t rotated_byte(uint8_t byte, unsigned by) {
     return (uint8_t)(byte << by | byte >> (8 - by));
 }
 
-/* Computes AES's S-box: `power` takes the value of each element but zero, and `inverse` is its inverse. */
+/* Computes the S-box of AES: `power` runs through all elements except zero, and `inverse` is its
+ * inverse. */
 static inline void make_substitutions(uint8_t table[256]) {
     uint8_t power = 1, inverse = 1;
     do {
@@ -124,7 +125,7 @@ static inline void make_substitutions(uint8_t table[256]) {
     table[0] = 0x63;
 }
 
-/* Encrypts one block by AES-128. */
+/* Encrypts one block with AES-128. */
 static inline void encrypt_block(const uint8_t *first_key, uint8_t *block) {
     uint8_t table[256], key[BLOCK_BYTES], constant = 1;
     make_substitutions(table);
@@ -149,7 +150,7 @@ static inline void encrypt_block(const uint8_t *first_key, uint8_t *block) {
     }
 }
 
-/* Encrypts or decrypts by AES-128 in mode CFB, with a key and an initial block. */
+/* Encrypts or decrypts with AES-128 in CFB mode, with a key and an initial block. */
 static inline void cfb(hash keys, int encrypts, uint8_t *data, size_t size) {
     uint8_t *before = keys.bytes + BLOCK_BYTES;
     for (size_t at = 0; at < size; at++) {
@@ -164,7 +165,8 @@ static inline void new_nonce(session *it) {
     need(getrandom(it->nonce_caller, NONCE_BYTES, 0) == NONCE_BYTES, "there are no random bytes");
 }
 
-/* Starts a session that is bound to the entity of a handle, with this authorization value. */
+/* Starts a session that is bound to the entity of a handle, whose authorization value is
+ * `value`. */
 static inline session start_bound(tpm *device, uint32_t bind, const char *value) {
     session it = {.value = value};
     text parameters = {0}, key = {0};
@@ -179,7 +181,7 @@ static inline session start_bound(tpm *device, uint32_t bind, const char *value)
     return it;
 }
 
-/* Returns the encryption key and the initial block that follow from two nonces. */
+/* Returns the encryption key and the initial block, which are derived from two nonces. */
 static inline hash keys_of(const session *it, const uint8_t *newer, const uint8_t *older) {
     text key = {0};
     put(&key, it->key.bytes, HASH_BYTES);
@@ -187,7 +189,8 @@ static inline hash keys_of(const session *it, const uint8_t *newer, const uint8_
     return kdfa(&key, "CFB", newer, older);
 }
 
-/* Returns the HMAC of an entry; `hashed` is the front of the bytes of cpHash or rpHash. */
+/* Returns the HMAC of an entry. `hashed` contains the bytes that precede the parameters in cpHash
+ * or rpHash. */
 static inline hash mac_of(const session *it, text hashed, const text *parameters,
                           const uint8_t *newer, const uint8_t *older, uint8_t attributes) {
     text key = {0}, message = {0};
@@ -200,8 +203,8 @@ static inline hash mac_of(const session *it, text hashed, const text *parameters
     return hmac(&key, &message);
 }
 
-/* Returns the entry of a command; `names` are the Names of its handles. If the attributes say so, the
-   first parameter is encrypted. */
+/* Returns the entry of a command. `names` contains the Names of its handles. If the attributes
+   require it, encrypts the first parameter. */
 static inline text entry_of(session *it, uint32_t code, const text *names, text *parameters,
                             uint8_t attributes) {
     text hashed = {0}, entry = {0};
@@ -219,7 +222,7 @@ static inline text entry_of(session *it, uint32_t code, const text *names, text 
     return entry;
 }
 
-/* Checks the response's HMAC, and returns the parameters in plain text. */
+/* Checks the response's HMAC, and returns the decrypted parameters. */
 static inline text plain_answer(session *it, const tpm *device, uint32_t code) {
     text hashed = {0}, parameters = {0};
     const uint8_t *nonce = device->parameters + device->size + 2;

@@ -1,4 +1,4 @@
-"""The code under test: a vault that keeps a secret in a TPM, protected by a PIN."""
+"""The code under test: a vault that stores a secret in a TPM, protected by a PIN."""
 
 from tpmsim.caller import area, BY_VALUE, Caller
 

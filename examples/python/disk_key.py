@@ -1,5 +1,5 @@
-"""A disk's key is sealed to PCRs 7 and 11 and a PIN. It is refused after PCR 11 has changed. Then a second
-branch of its policy, which asks for the owner's passphrase, recovers it.
+"""A disk's key is sealed to PCRs 7 and 11 and a PIN. It cannot be unsealed after PCR 11 has
+changed. Then a second branch of its policy, which requires the owner's passphrase, recovers it.
 """
 
 from tpmsim.caller import Caller, digest_of, HERE, Refused, sealed, storage_key

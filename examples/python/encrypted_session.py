@@ -1,6 +1,6 @@
-"""A secret travels to the TPM encrypted, by a session that is bound to the owner. The owner's
-authorization value is not sent either. Someone who listens learns neither, and cannot send the same bytes
-again.
+"""A session that is bound to the owner encrypts a secret on its way to the TPM. The owner's
+authorization value is not sent at all. Someone who listens learns neither of them, and cannot send
+the same bytes again.
 """
 
 from tpmsim.caller import area, BY_OWNER, Caller, Refused

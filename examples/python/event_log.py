@@ -1,5 +1,5 @@
-"""A measured boot: each piece of software is measured into a PCR before it runs, and its digest goes to a
-log. Someone with the log and the PCRs replays the log, and trusts it if the PCRs agree.
+"""A measured boot: each piece of software is measured into a PCR before it runs, and its digest
+goes to a log. A verifier replays the log, and trusts it if the resulting PCRs agree.
 """
 
 import hashlib

@@ -10,7 +10,7 @@ PIN, WRONG, HOUR = b"7391", b"1234", 3_600
 
 
 def read(tpm: Caller, index: int, pin: bytes) -> str:
-    """Reads the data of the index with a PIN; returns them, or the reason for the refusal."""
+    """Reads the index with a PIN, and returns the data or the reason for the refusal."""
     try:
         return tpm.send(tpm.reading(index, 8, pin))["data"].decode()
     except Refused as refused:

@@ -1,6 +1,6 @@
-"""A counter holds the lowest version that may start. A key is sealed for each version, and the TPM
-returns it while the counter is not above that version. The counter never decreases, even if its index is
-deleted and defined again.
+"""A counter contains the lowest version that may start. A key is sealed for each version, and the
+TPM returns it as long as the counter is not greater than that version. The counter never decreases,
+even if its index is deleted and defined again.
 """
 
 from tpmsim.caller import Caller, counter, digest_of, HERE, Refused, sealed, storage_key

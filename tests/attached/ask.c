@@ -1,12 +1,12 @@
-/* Opens a device with the module's configuration string and uses it: `ask WORDS ACT..`. An ACT is one
- * of these: a command in hex, whose response is printed; `power`, a power cycle; or `locality N`. A
- * fault is printed, and ends the program. */
+/* Opens a device with the module's configuration string and uses it: `ask WORDS ACT..`. An ACT is
+ * one of these: a command in hex, whose response is printed; `power` for a power cycle; or
+ * `locality N`. A fault is printed, and ends the program. */
 #include "common.h"
 #include "words.h"
 
 static uint8_t locality;
 
-/* Reads the hex of a command. */
+/* Decodes a command from hex. */
 static size_t read_hex(const char *text, uint8_t *room, size_t size) {
     size_t count = strlen(text) / 2;
     must(count <= size && strlen(text) == 2 * count, "hex is of another size");

@@ -1,11 +1,11 @@
-# Makes each system call of a kept device fail in turn: attached/calls.c is the caller.
+# Makes each system call of a kept device fail in turn. See attached/calls.c.
 tests=$(cd "$(dirname "$0")/.." && pwd -P)
 . "$tests/common/cases.sh"
 . "$tests/common/library.sh"
 . "$tests/common/attached.sh"
 needs python3
 
-# shellcheck disable=SC2086 # they are words
+# shellcheck disable=SC2086 # word splitting is intended
 attach_both calls $wrapped_calls
 extended 16 >"$room/values"
 python3 -c '

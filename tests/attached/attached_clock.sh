@@ -1,4 +1,4 @@
-# The host's clock runs, stops, goes back and jumps: attached/clock.c is the caller.
+# Tests a kept device while the host's clock runs, stops, goes back and jumps. See attached/clock.c.
 tests=$(cd "$(dirname "$0")/.." && pwd -P)
 . "$tests/common/cases.sh"
 . "$tests/common/library.sh"

@@ -1,12 +1,12 @@
-# The completing layer of a kept device. A context that one process saved is loaded by another process, until the power
-# is cycled: of a session once, of an object any number of times, also after it was flushed. A process that disables
-# the layer uses only the device. attached/ask.c is the caller.
+# Tests the completing layer of a kept device. Until the next power cycle, a process can load a context that
+# another process saved: a session's context once, an object's context any number of times, even after the
+# object was flushed. A process that disables the layer uses only the device. See attached/ask.c.
 tests=$(cd "$(dirname "$0")/.." && pwd -P)
 . "$tests/common/cases.sh"
 . "$tests/common/library.sh"
 . "$tests/common/attached.sh"
 
-# shellcheck disable=SC2086 # they are words
+# shellcheck disable=SC2086 # word splitting is intended
 attach ask ask $sanitizers
 
 startup=80010000000c000001440000
@@ -20,7 +20,7 @@ save_object=80010000000e0000016280000000
 flush_object=80010000000e0000016580000000
 command_count=8001000000160000017a000000060000012900000001
 
-# loading SAVE: saves a context, and prints the command that loads it.
+# loading SAVE: executes the command SAVE, which saves a context, and prints the command that loads it.
 loading() {
     "$room/ask" state=state "$1" >"$room/saved"
     context=$(cut -c 21- "$room/saved")

@@ -1,6 +1,6 @@
-# Contexts that tpm2-tools save and load, by the module for libtss2. Twelve children of one parent are loaded,
-# saved and flushed in turn, as a resource manager does, and then used in turn. A ninth object is not loaded next
-# to eight others. After TPM2_Clear and after a TPM Reset the contexts are refused.
+# Tests contexts that tpm2-tools save and load through the module for libtss2. Twelve children of one parent
+# are loaded, saved and flushed in turn, as a resource manager does, and then used in turn. No ninth object
+# can be loaded while eight are loaded. After TPM2_Clear and after a TPM Reset the contexts are refused.
 tests=$(cd "$(dirname "$0")/.." && pwd -P)
 . "$tests/common/cases.sh"
 . "$tests/common/library.sh"
@@ -12,7 +12,7 @@ export LD_LIBRARY_PATH="$room/made" TPM2TOOLS_TCTI="tpmsim:state=$room/state"
 children='1 2 3 4 5 6 7 8 9 10 11 12'
 back='12 11 10 9 8 7 6 5 4 3 2 1'
 
-# tool WORDS..: runs a tool. Prints how it ended if it failed, and the response code.
+# tool WORDS..: runs a tool. If it fails, prints its exit status and the TSS function that failed.
 tool() {
     tpm2 "$@" >output 2>error && return
     echo "tpm2 $1: status $?, $(grep -o 'ContextLoad(0x[0-9A-F]*)\|StartAuthSession(0x[0-9A-F]*)' error | head -1)"
@@ -29,7 +29,7 @@ start() {
     flushed createprimary -C "$1" -G aes128cfb -g sha256 -c "$1.context"
 }
 
-# use_all WORD..: unseals each child by its context, and counts those with the right data.
+# use_all WORD..: unseals each child from its context, and prints how many returned the right data.
 use_all() {
     right=0
     for number do
@@ -46,7 +46,7 @@ for number in $children; do
     flushed create -C o.context -i "secret$number" -p "word $number" -u public -r private
     flushed load -C o.context -u public -r private -c "child$number.context"
 done
-# shellcheck disable=SC2086 # they are numbers
+# shellcheck disable=SC2086 # word splitting is intended
 {
     use_all $children
     use_all $back

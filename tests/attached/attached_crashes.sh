@@ -1,12 +1,12 @@
-# Kills a process that holds a device with force=always before each system call. Then the host crashes, and
-# its disk has only what was synced. attached/crashes.c is the caller.
+# Before each system call in turn, kills a process that holds a device with force=always. Then the host
+# crashes, and its disk contains only what was synced. See attached/crashes.c.
 tests=$(cd "$(dirname "$0")/.." && pwd -P)
 . "$tests/common/cases.sh"
 . "$tests/common/library.sh"
 . "$tests/common/attached.sh"
 needs python3
 
-# shellcheck disable=SC2086 # they are words
+# shellcheck disable=SC2086 # word splitting is intended
 attach crashes crashes $wrapped_calls
 extended 8 >"$room/values"
 "$room/crashes" "$room/values"

@@ -1,5 +1,4 @@
-# Changes or cuts the bytes of journals; removes, doubles and swaps their records: attached/damage.c is the
-# caller.
+# Changes or cuts the bytes of journals; removes, duplicates and swaps their records. See attached/damage.c.
 tests=$(cd "$(dirname "$0")/.." && pwd -P)
 . "$tests/common/cases.sh"
 . "$tests/common/library.sh"

@@ -6,7 +6,7 @@ page=$tests/../docs/ATTACHED.md
 kept=$tests/../hosts/kept
 keeper=$tests/../crates/tpm_keeping/src/holder.rt
 
-# quoted HEADING: prints the quotes in the first cells of the table under a heading, one on each line.
+# quoted HEADING: prints the quoted texts in the first column of the table below a heading, one on each line.
 # shellcheck disable=SC2016 # the quotes are backticks
 quoted() {
     awk -v heading="## $1" '
@@ -24,7 +24,7 @@ while read -r word; do
     grep -qF "${word%%=*}" "$kept/words.h" || echo "the module has no word $word"
 done <words
 echo "$(grep -c . sentences) sentences, $(grep -c . words) words"
-# Two sentences report what cannot happen. They are not on the page.
+# Two messages report what cannot happen. They are not on the page.
 grep -oh '"\(is\|was\|has\|cannot\|holds\|needs\|wants\) [^"]*"' "$kept"/*.c | tr -d '"' |
     LC_ALL=C sort -u | while read -r sentence; do
         case $sentence in

@@ -1,4 +1,4 @@
-# Uses a kept device through the header for other programs: attached/exported.c is the caller.
+# Uses a kept device through the public header tpmsim_kept.h. See attached/exported.c.
 tests=$(cd "$(dirname "$0")/.." && pwd -P)
 . "$tests/common/cases.sh"
 . "$tests/common/library.sh"

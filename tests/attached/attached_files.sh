@@ -1,5 +1,5 @@
-# Checks the files that `hosts/build.sh tcti` makes: they have the same bytes each time, with two visible
-# names. Also checks its message if something is missing.
+# Checks that `hosts/build.sh tcti` makes the same bytes each time, and which names the module exports. Also
+# checks the script's message if something is missing.
 tests=$(cd "$(dirname "$0")/.." && pwd -P)
 . "$tests/common/cases.sh"
 . "$tests/common/library.sh"
@@ -33,7 +33,7 @@ mkdir empty
 attach ask ask
 "$room/ask" state=kept 80010000000c000001440000 80010000000c0000017b0000
 for words in '' 'one two' '--cut kept' 'kept --keep 100' none empty kept 'kept --keep 1'; do
-    # shellcheck disable=SC2086 # they are words
+    # shellcheck disable=SC2086 # word splitting is intended
     first/tpmsim-power $words
     echo "status $?"
 done 2>&1
@@ -45,12 +45,12 @@ echo 'tpmsim-power with a journal that is cut, and with one that is damaged:'
 cp kept/journal journal
 for words in kept 'kept --cut'; do
     head -c -1 journal >kept/journal
-    # shellcheck disable=SC2086 # they are words
+    # shellcheck disable=SC2086 # word splitting is intended
     first/tpmsim-power $words
     echo "status $?"
     { head -c -2 journal && printf xx; } >kept/journal
     cp kept/journal damaged
-    # shellcheck disable=SC2086 # they are words
+    # shellcheck disable=SC2086 # word splitting is intended
     first/tpmsim-power $words
     echo "status $?"
     cmp -s damaged kept/journal && echo 'the journal is as it was'
@@ -59,7 +59,7 @@ done 2>&1
 rm journal damaged
 echo 'faults:'
 for words in '' tcti 'none third'; do
-    # shellcheck disable=SC2086 # they are words
+    # shellcheck disable=SC2086 # word splitting is intended
     "$top/hosts/build.sh" $words 2>&1 | sed 's,^[^:]*build.sh: ,,'
 done
 archive=$room/none

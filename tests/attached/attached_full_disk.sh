@@ -1,9 +1,9 @@
-# A kept device on a full disk. Its journal stays as it was. When there is space again, the device continues
-# from there. attached/ask.c is the caller. The disk is mounted only for this test, by root or by a user who
+# Uses a kept device on a full disk. Its journal stays unchanged. When there is space again, the device
+# continues from there. See attached/ask.c. The disk is mounted only for this test, by root or by a user who
 # may be root in a namespace.
 if [ -z "${own_mounts:-}" ]; then
     for user in '' '--user --map-root-user'; do
-        # shellcheck disable=SC2086 # it is two words, or none
+        # shellcheck disable=SC2086 # word splitting is intended
         ! unshare $user --mount true 2>/dev/null ||
             own_mounts=yes exec unshare $user --mount sh "$0" "$@"
     done

@@ -1,4 +1,4 @@
-# Journals that have grown are restarted, with and without keep=N: attached/grown.c is the caller.
+# Checks that journals that have grown are restarted, with and without keep=N. See attached/grown.c.
 tests=$(cd "$(dirname "$0")/.." && pwd -P)
 . "$tests/common/cases.sh"
 . "$tests/common/library.sh"

@@ -1,4 +1,4 @@
-# A full disk, and a process without free file descriptors: attached/limits.c is the caller.
+# Tests a kept device on a full disk, and in a process without free file descriptors. See attached/limits.c.
 tests=$(cd "$(dirname "$0")/.." && pwd -P)
 . "$tests/common/cases.sh"
 . "$tests/common/library.sh"

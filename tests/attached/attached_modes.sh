@@ -1,4 +1,4 @@
-# The files of a kept device belong only to its user, whatever the umask. attached/ask.c is the caller.
+# Checks that only the user of a kept device may access its files, whatever the umask. See attached/ask.c.
 tests=$(cd "$(dirname "$0")/.." && pwd -P)
 . "$tests/common/cases.sh"
 . "$tests/common/library.sh"

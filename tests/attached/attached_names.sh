@@ -1,5 +1,5 @@
-# Checks which names are on the disk before a command is answered. Other processes were killed before they
-# synced these names. attached/names.c is the caller.
+# Checks which file names are synced to the disk before a command is answered, if other processes were killed
+# before they synced these names. See attached/names.c.
 tests=$(cd "$(dirname "$0")/.." && pwd -P)
 . "$tests/common/cases.sh"
 . "$tests/common/library.sh"

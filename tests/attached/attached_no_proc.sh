@@ -1,8 +1,8 @@
-# Makes and uses a device without /proc, with any umask. attached/ask.c is the caller. /proc is covered only
-# for this test, by root or by a user who may be root in a namespace.
+# Makes and uses a device without /proc, with any umask. See attached/ask.c. An empty file system hides /proc
+# only for this test, which needs root or a user who may be root in a namespace.
 if [ -z "${own_mounts:-}" ]; then
     for user in '' '--user --map-root-user'; do
-        # shellcheck disable=SC2086 # it is two words, or none
+        # shellcheck disable=SC2086 # word splitting is intended
         ! unshare $user --mount true 2>/dev/null ||
             own_mounts=yes exec unshare $user --mount sh "$0" "$@"
     done

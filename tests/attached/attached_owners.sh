@@ -1,12 +1,12 @@
-# Files of another user at each path of a kept device. They are refused, and stay unchanged. Only root can
-# give files to another user. attached/ask.c is the caller.
+# Puts files of another user at each path of a kept device. They are refused, and stay unchanged. Only root
+# can give files to another user. See attached/ask.c.
 tests=$(cd "$(dirname "$0")/.." && pwd -P)
 . "$tests/common/cases.sh"
 . "$tests/common/library.sh"
 . "$tests/common/attached.sh"
 [ "$(id -u)" -eq 0 ] || skip 'there is no root here, who gives files to another user'
 
-# shellcheck disable=SC2086 # they are words
+# shellcheck disable=SC2086 # word splitting is intended
 attach ask ask $sanitizers
 
 startup=80010000000c000001440000
@@ -28,8 +28,8 @@ listed() {
     find . -type f -exec sha256sum {} + | LC_ALL=C sort
 }
 
-# refused PATH WORDS ACT..: gives a path to another user, and uses the device. Prints whether everything stays
-# as it was.
+# refused PATH WORDS ACT..: makes another user the owner of a path, and uses the device. Prints whether
+# everything stays unchanged.
 refused() {
     path=$1
     shift

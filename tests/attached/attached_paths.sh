@@ -1,12 +1,12 @@
-# Links, pipes, folders and sockets at the paths of a kept device. They are refused, and stay unchanged.
-# attached/ask.c is the caller.
+# Puts links, pipes, folders and sockets at the paths of a kept device. They are refused, and stay unchanged.
+# See attached/ask.c.
 tests=$(cd "$(dirname "$0")/.." && pwd -P)
 . "$tests/common/cases.sh"
 . "$tests/common/library.sh"
 . "$tests/common/attached.sh"
 needs python3
 
-# shellcheck disable=SC2086 # they are words
+# shellcheck disable=SC2086 # word splitting is intended
 attach ask ask $sanitizers
 
 startup=80010000000c000001440000
@@ -27,13 +27,13 @@ renew() {
     timeout 10 "$room/ask" state=state "$startup" >"$room/asked" || echo 'there is no state'
 }
 
-# listed FILE: writes the contents of the folder to FILE, each with its kind, its mode and, for a link, its
+# listed FILE: lists the contents of the folder in FILE, each with its kind, its mode and, for a link, its
 # target.
 listed() {
     find . -printf '%P %y %m %l\n' | LC_ALL=C sort >"$1"
 }
 
-# put KIND PATH: puts something at a path.
+# put KIND PATH: creates a file, folder, link, pipe or socket at a path.
 put() {
     case $1 in
     link) ln -s "$room/elsewhere" "$2" ;;
@@ -45,8 +45,8 @@ put() {
     esac
 }
 
-# refused KIND PATH WORDS ACT..: puts something at a path, and uses the device. Prints whether everything
-# stays as it was.
+# refused KIND PATH WORDS ACT..: puts something of this kind at a path, and uses the device. Prints whether
+# everything stays unchanged.
 refused() {
     kind=$1
     path=$2

@@ -1,8 +1,8 @@
-# Forks a child that has its parent's process number, in another namespace: attached/pids.c is the caller.
-# Only root can make such namespaces, or a user who may be root in one.
+# Forks a child that has the same process ID as its parent, in another namespace. See attached/pids.c. Only
+# root, or a user who may be root in a namespace, can make these namespaces.
 if [ -z "${own_numbers:-}" ]; then
     for user in '' '--user --map-root-user'; do
-        # shellcheck disable=SC2086 # it is two words, or none
+        # shellcheck disable=SC2086 # word splitting is intended
         ! unshare $user --pid --fork true 2>/dev/null ||
             own_numbers=yes exec unshare $user sh "$0" "$@"
     done

@@ -1,5 +1,5 @@
-# A user who is not root. The umask denies the folder to its own user, and the folder above may be unreadable.
-# attached/ask.c is the caller.
+# Tests a kept device of a user who is not root. The umask denies the user access to the folder, or the parent
+# folder is unreadable. See attached/ask.c.
 tests=$(cd "$(dirname "$0")/.." && pwd -P)
 . "$tests/common/cases.sh"
 . "$tests/common/library.sh"
@@ -17,7 +17,7 @@ plain() {
     fi
 }
 
-# ask LABEL: makes a device in the folder above, and uses it.
+# ask LABEL: makes a device in the folder `above`, and uses it.
 ask() {
     plain "$room/ask" state=above/state,force=always 80010000000c000001440000 power >"$room/asked" ||
         cat "$room/asked"

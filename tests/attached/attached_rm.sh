@@ -1,5 +1,5 @@
-# The option `rm` of the module: when a process ends, it flushes the objects and sessions that it loaded. attached/rm.c
-# is the caller, with the module's sources.
+# Tests the module's option `rm`: when a process ends, the module flushes the objects and sessions that the
+# process loaded. See attached/rm.c, with the module's sources.
 tests=$(cd "$(dirname "$0")/.." && pwd -P)
 . "$tests/common/cases.sh"
 . "$tests/common/library.sh"

@@ -1,5 +1,5 @@
-# tpm2-tools with the option `rm` of the module. A day's work without tpm2_flushcontext leaves nothing loaded, and
-# fills no slot.
+# Tests tpm2-tools with the module's option `rm`. Many commands without tpm2_flushcontext leave nothing
+# loaded, and do not run out of slots.
 tests=$(cd "$(dirname "$0")/.." && pwd -P)
 . "$tests/common/cases.sh"
 . "$tests/common/library.sh"
@@ -9,7 +9,7 @@ needs tss2/tss2_tcti.h tpm2_startup
 TPMSIM_ARCHIVE=$archive "$hosts/build.sh" tcti "$room/made" || exit 1
 export LD_LIBRARY_PATH="$room/made" TPM2TOOLS_TCTI="tpmsim:state=$room/state,rm"
 
-# tool WORDS..: runs a tool, and prints how it ended.
+# tool WORDS..: runs a tool, and prints its exit status.
 tool() {
     tpm2 "$@" >output 2>error
     echo "tpm2 $1: status $?"

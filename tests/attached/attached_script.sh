@@ -1,4 +1,5 @@
-# `tpmsim replay` of a kept device's journal prints the same responses as the device. attached/ask.c is the caller.
+# Checks that `tpmsim replay` prints the same responses for a kept device's journal as the device. See
+# attached/ask.c.
 tests=$(cd "$(dirname "$0")/.." && pwd -P)
 . "$tests/common/cases.sh"
 . "$tests/common/library.sh"
@@ -8,7 +9,7 @@ needs python3
 attach ask ask
 shipped=$dist/tpmsim
 
-# words LINE: prints the buffer of a command in words.
+# words LINE: assembles a command in words, and prints its buffer.
 words() {
     "$shipped" asm "$1"
 }

@@ -1,5 +1,5 @@
 # Tests tpmsim-simulator: its saved states, its records, its reproducible runs, its devices and its clients.
-# attached/simulator.py is the caller.
+# See attached/simulator.py.
 tests=$(cd "$(dirname "$0")/.." && pwd -P)
 . "$tests/common/cases.sh"
 . "$tests/common/library.sh"

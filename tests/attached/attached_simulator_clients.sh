@@ -1,4 +1,5 @@
-# Connects more clients to tpmsim-simulator than it has file descriptors for: attached/simulator_clients.py.
+# Connects more clients to tpmsim-simulator than it has file descriptors for. See
+# attached/simulator_clients.py.
 tests=$(cd "$(dirname "$0")/.." && pwd -P)
 . "$tests/common/cases.sh"
 . "$tests/common/library.sh"

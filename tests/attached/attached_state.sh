@@ -1,5 +1,5 @@
-# The program and the kept device in C use one folder at the same time. Each executes the commands that the other one
-# added to the journal. Both report the same errors. attached/ask.c is the caller.
+# The program `tpmsim` and the kept device in C use one folder at the same time. Each executes the commands
+# that the other added to the journal. Both report the same errors. See attached/ask.c.
 tests=$(cd "$(dirname "$0")/.." && pwd -P)
 . "$tests/common/cases.sh"
 . "$tests/common/library.sh"
@@ -9,7 +9,7 @@ shipped=$dist/tpmsim
 
 attach ask ask
 
-# words LINE: prints the buffer of a command in words.
+# words LINE: assembles a command in words, and prints its buffer.
 words() {
     "$shipped" asm "$1"
 }

@@ -7,9 +7,9 @@ needs cc nm tss2/tss2_tcti.h
 
 TPMSIM_ARCHIVE=$archive "$hosts/build.sh" tcti "$room/made" || exit 1
 attach client client -ldl
-# shellcheck disable=SC2086 # they are words
+# shellcheck disable=SC2086 # word splitting is intended
 attach sanitized_client client $sanitizers -ldl
-# shellcheck disable=SC2086 # they are words
+# shellcheck disable=SC2086 # word splitting is intended
 attach sanitized_module tcti "$hosts/tcti/loaded.c" $sanitizers -shared -fPIC
 
 mkdir plain sanitized

@@ -1,10 +1,10 @@
-# Right and wrong configuration strings for attaching a device: attached/ask.c is the caller.
+# Tests valid and invalid configuration strings for a kept device. See attached/ask.c.
 tests=$(cd "$(dirname "$0")/.." && pwd -P)
 . "$tests/common/cases.sh"
 . "$tests/common/library.sh"
 . "$tests/common/attached.sh"
 
-# shellcheck disable=SC2086 # they are words
+# shellcheck disable=SC2086 # word splitting is intended
 attach ask ask $sanitizers
 
 short=

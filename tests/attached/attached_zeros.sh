@@ -1,4 +1,4 @@
-# Zeros at the end of a journal, which a crash of the host can leave: attached/zeros.c is the caller.
+# Tests journals with zeros at the end, which a crash of the host can leave. See attached/zeros.c.
 tests=$(cd "$(dirname "$0")/.." && pwd -P)
 . "$tests/common/cases.sh"
 . "$tests/common/library.sh"

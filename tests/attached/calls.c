@@ -1,21 +1,23 @@
-/* Makes each system call fail in turn by which a kept device reaches its files, the clock and
- * random bytes. Also makes each call move half of its bytes, interrupts each call, and makes
- * each allocation fail. The arguments are the file of the values of the PCR, and an image. */
+/* Makes each system call in turn fail with which a kept device accesses its files, the clock and
+ * random bytes. Also makes each call transfer only half of its bytes, interrupts each call, and
+ * makes each allocation fail. The arguments are the file with the expected PCR values, and an
+ * image. */
 #include "calls.h"
 #include <dirent.h>
 
-/* The number of extends that the PCR has had at the beginning of each trial. */
+/* The number of times that the PCR was extended before each trial. */
 enum { EXTENDS = 2 };
 
 static const char FOLDER[] = "state";
 
-/* The result of a trial: whether everything succeeded, and the message if not. */
+/* The result of a trial: whether everything succeeded, and otherwise the message. */
 struct outcome {
     bool is_done;
     struct reason reason;
 };
 
-/* The files of the state with which a trial begins. The journal ends with an incomplete record. */
+/* The contents of the device's files at the beginning of a trial. The journal ends with an
+ * incomplete record. */
 static struct {
     uint8_t *journal;
     size_t whole, size;
@@ -38,7 +40,7 @@ static void remove_state(void) {
     must(access(FOLDER, F_OK) != 0, "there is more in the folder than a state");
 }
 
-/* Writes the state with which trials begin. */
+/* Writes the files with which a trial begins. */
 static void put_state(void) {
     remove_state();
     must(mkdir(FOLDER, 0700) == 0, "there is no folder");
@@ -73,8 +75,8 @@ static bool nothing(struct kept *kept, struct reason *reason) {
     return true;
 }
 
-/* A kind of trial: whether a device exists already, the image of a new device, and the calls to make.
- * The device may have been opened before. */
+/* A kind of trial: whether a device exists already, and whether it is already open; the image of a
+ * new device; and the action. */
 struct trial {
     const char *label;
     bool has_state, is_open_before;
@@ -91,8 +93,8 @@ static const struct trial TRIALS[] = {
     {"a power cycle of an open device", true, true, NULL, power},
 };
 
-/* Opens the device after a trial, in a process without faults. Returns the number of its extends, or -2
- * if the device was power-cycled and needs TPM2_Startup. */
+/* Opens the device after a trial, in a process without faults. Returns how often its PCR was
+ * extended, or -2 if the device was power-cycled and needs TPM2_Startup. */
 static long extends_there(struct kept *kept, const struct values *values) {
     uint8_t response[RESPONSE_BYTES];
     size_t size = answered_by(kept, PCR_READ, sizeof PCR_READ, response);
@@ -109,9 +111,8 @@ static struct outcome outcome_of(const struct trial *trial, struct kept **kept) 
     return outcome;
 }
 
-/* Returns whether the device is the expected one after a trial. If the sync of a power cycle or
- * an extend failed, the change may be in the file all the same: nobody knows what is on the
- * disk. */
+/* Returns whether the device has an expected state after a trial. If the sync of a power cycle or
+ * an extend failed, the change may still be in the file: it is unknown what is on the disk. */
 static bool is_right(const struct trial *trial, const struct outcome *outcome, long there) {
     if (!trial->has_state) return there == -2;
     if (!outcome->is_done && strcmp(name_of_it, "fdatasync") == 0 && there == EXTENDS + 1)
@@ -134,7 +135,7 @@ static void look(struct kept *kept, const struct trial *trial, const struct outc
     must(extends_of(kept, values) == there + 1, "the device does not go on");
 }
 
-/* Tries one fault. Returns whether the trial made a call of that number. */
+/* Makes one trial with one fault. Returns whether the trial reached the call that should fail. */
 static bool try_one(const struct trial *trial, enum fault kind, const struct values *values,
                     struct outcome *outcome) {
     remove_state();
@@ -163,7 +164,7 @@ static bool try_one(const struct trial *trial, enum fault kind, const struct val
     return name_of_it != NULL;
 }
 
-/* Tries a fault at each call, and prints which calls failed without harm. */
+/* Makes a trial with a fault at each call, and prints at which calls the fault did no harm. */
 static void try_all(const struct trial *trial, enum fault kind, const struct values *values) {
     static const char *const labels[] = {"", "fails", "is interrupted", "moves half", "refused"};
     struct outcome outcome;
@@ -180,14 +181,14 @@ static void try_all(const struct trial *trial, enum fault kind, const struct val
            told && borne ? "; borne:" : borne ? "borne:" : "", names);
 }
 
-/* Prints how often an operation on the device syncs. */
+/* Prints how often an operation on the device synced. */
 static void tell_forced(const char *label) {
     printf("; %s %u and %u", label, forced, forced_data);
     forced = forced_data = 0;
 }
 
-/* Counts, for each value of the option `force`, how often whole files are synced, and how often only
-   their bytes. */
+/* For each value of the option `force`, counts how often fsync is called, and how often
+ * fdatasync. */
 static void count_forced(void) {
     static const char *const labels[] = {"power", "never", "always"};
     static const uint8_t forces[] = {TPMSIM_FORCE_POWER, TPMSIM_FORCE_NEVER, TPMSIM_FORCE_ALWAYS};

@@ -1,5 +1,6 @@
-/* A client of the module for libtss2. It loads the module as libtss2 does, by its file and the
- * name Tss2_Tcti_Info. The argument is the module. Each printed line has the result of a call. */
+/* A client of the module for libtss2. It loads the module's file as libtss2 does, and calls its
+ * function Tss2_Tcti_Info. The argument is the module's path. Each printed line shows the result of
+ * a call. */
 #include "common.h"
 #include <dlfcn.h>
 #include <tss2/tss2_tcti.h>
@@ -78,7 +79,7 @@ static void try_init(void) {
     ended(context);
 }
 
-/* Makes calls in a wrong order and with wrong arguments, before any command. */
+/* Makes calls in the wrong order and with wrong arguments, before any command. */
 static void try_before(TSS2_TCTI_CONTEXT *context) {
     uint8_t response[RESPONSE_BYTES];
     size_t size = sizeof response;
@@ -126,7 +127,7 @@ static void try_localities(TSS2_TCTI_CONTEXT *context) {
     printf("    an extend of PCR 20: %02x%02x\n", response[8], response[9]);
 }
 
-/* Sends buffers that are not commands. They too have a response: COMMAND_SIZE. */
+/* Sends buffers that are not commands. Even they get a response: COMMAND_SIZE. */
 static void try_sizes(TSS2_TCTI_CONTEXT *context) {
     static const size_t sizes[] = {0, 1, 9, 4096, 4097, 60000};
     static uint8_t command[60000];
@@ -149,7 +150,7 @@ static void try_the_rest(TSS2_TCTI_CONTEXT *context) {
     told("make_sticky without a handle", Tss2_Tcti_MakeSticky(context, NULL, 1));
 }
 
-/* Makes each call with something that is not a context of the module. */
+/* Makes each call with a pointer that is not a context of the module. */
 static void try_no_context(TSS2_TCTI_CONTEXT *context) {
     uint8_t response[RESPONSE_BYTES];
     size_t size = sizeof response, count = 0;
@@ -163,7 +164,7 @@ static void try_no_context(TSS2_TCTI_CONTEXT *context) {
     Tss2_Tcti_Finalize(context);
 }
 
-/* Calls the functions themselves, with a null context. */
+/* Calls the module's functions with a null context. */
 static void try_null(TSS2_TCTI_CONTEXT *context) {
     uint8_t response[RESPONSE_BYTES];
     size_t size = sizeof response;
@@ -174,7 +175,7 @@ static void try_null(TSS2_TCTI_CONTEXT *context) {
     TSS2_TCTI_FINALIZE(context)(NULL);
 }
 
-/* Has two contexts hold one device. A response that was not received is lost with its context. */
+/* Opens one device in two contexts. A response that was not received is lost with its context. */
 static void try_two(void) {
     uint8_t response[RESPONSE_BYTES];
     TSS2_TCTI_CONTEXT *one = begun("state=state,force=never,random=5a");

@@ -1,6 +1,6 @@
 /* Prints the times that TPM2_ReadClock returns while the host's clock runs, stops, goes back and
- * jumps. A replaced clock_gettime is the host's clock. The time of a device is the milliseconds
- * since its power came on. */
+ * jumps. The test replaces clock_gettime to simulate the host's clock. The time of a device is the
+ * number of milliseconds since its power came on. */
 #include "common.h"
 #include <time.h>
 
@@ -26,7 +26,7 @@ static unsigned long long time_of(struct kept *kept) {
     return time;
 }
 
-/* Moves the host's clock, and prints the device's time after that. */
+/* Moves the host's clock, and then prints the device's time. */
 static void moved(struct kept *kept, const char *label, int64_t milliseconds) {
     host_ms += milliseconds;
     printf("%s: %llu\n", label, time_of(kept));

@@ -1,4 +1,4 @@
-/* The common part of the callers of the kept device. */
+/* Functions that the test programs of the kept device share. */
 #ifndef COMMON_H
 #define COMMON_H
 #define _GNU_SOURCE
@@ -16,7 +16,7 @@ static const uint8_t STARTUP[] = {0x80, 0x01, 0, 0, 0, 12, 0, 0, 0x01, 0x44, 0, 
 static const uint8_t GET_RANDOM[] = {0x80, 0x01, 0, 0, 0, 12, 0, 0, 0x01, 0x7b, 0, 16};
 static const uint8_t READ_CLOCK[] = {0x80, 0x01, 0, 0, 0, 10, 0, 0, 0x01, 0x81};
 
-/* TPM2_PCR_Extend of PCR 10 by a SHA-256 digest of 32 bytes 5a; TPM2_PCR_Read of it. */
+/* TPM2_PCR_Extend of PCR 10 with a SHA-256 digest of 32 bytes 5a; TPM2_PCR_Read of PCR 10. */
 static const uint8_t EXTEND[] = {
     0x80, 0x02, 0,    0,    0,    65,   0,    0,    0x01, 0x82, 0,    0,    0,    10,   0,    0, 0,
     9,    0x40, 0,    0,    9,    0,    0,    0,    0,    0,    0,    0,    0,    1,    0,    11,
@@ -34,7 +34,7 @@ static inline void must(bool holds, const char *what) {
     _Exit(1);
 }
 
-/* A kept device in a folder, whose journal is never forced to the disk. */
+/* Opens a kept device in a folder. Its journal is never synced to the disk. */
 static inline struct kept *opened(const char *folder) {
     struct kept_options options = {.folder = folder, .force = TPMSIM_FORCE_NEVER};
     struct reason reason;
@@ -71,7 +71,7 @@ static inline void extend(struct kept *kept) {
     accepted(kept, EXTEND, sizeof EXTEND, response);
 }
 
-/* The values of the PCR after 0, 1, 2 extends and so on, from a file that another program computed. */
+/* The values of the PCR after 0, 1, 2 extends and so on, from a file that another program wrote. */
 struct values {
     uint8_t *bytes;
     size_t count;
@@ -95,7 +95,7 @@ static inline struct values values_of(const char *path) {
     return values;
 }
 
-/* How often the PCR was extended, by its value; -1 for any other value. */
+/* Returns how often the PCR was extended, found from its value; -1 for an unknown value. */
 static inline long extends_of(struct kept *kept, const struct values *values) {
     uint8_t response[RESPONSE_BYTES];
     size_t size = accepted(kept, PCR_READ, sizeof PCR_READ, response);
@@ -112,7 +112,7 @@ static inline const char *path_in(const char *folder, const char *name, char roo
     return room;
 }
 
-/* Overwrites a file with exactly these bytes, without replacing it. */
+/* Overwrites a file in place with exactly these bytes. */
 static inline void put_bytes(const char *path, const uint8_t *bytes, size_t size) {
     int file = open(path, O_WRONLY | O_CREAT, 0600);
     must(file >= 0 && pwrite(file, bytes, size, 0) == (ssize_t)size &&

@@ -1,21 +1,21 @@
-/* Kills processes that hold a device, and crashes the host. With force=always no answered
- * command is lost. With force=power the device has one of its states since power came on.
- * `crashes VALUES` kills a process before each system call in turn; then another process
- * continues or not, and the host crashes. `crashes VALUES SECONDS SEED` does so at random, also
- * with calls that fail and children that are forked, and prints the counts to standard error.
- * VALUES is the file of the values of the PCR. */
+/* Kills processes that hold a device, and crashes the host. With force=always no answered command
+ * is lost. With force=power the device has one of its states since power came on. `crashes VALUES`
+ * kills a process before each system call in turn. Then the host crashes, in half of the runs after
+ * another process has continued. `crashes VALUES SECONDS SEED` kills processes at random, makes
+ * calls fail and forks children as well, and prints the counts to standard error. VALUES is the
+ * file with the expected PCR values. */
 #include "disk.h"
 #include <stdatomic.h>
 #include <sys/prctl.h>
 #include <sys/wait.h>
 
-/* The answered commands since the last power-on, as far as the processes that hold the device know.
- * Also the commands that they sent and that were not answered. */
+/* The commands that were answered since the last power-on, as recorded by the processes that hold
+ * the device. Also the commands that were sent and not answered. */
 static struct {
     atomic_long extends, asked;
     atomic_bool is_started, is_starting, is_cycling;
     atomic_long answers;
-    /* The journal's inode with the last answered command. */
+    /* The journal's inode when the last command was answered. */
     ino_t journal;
 } *told;
 
@@ -26,7 +26,7 @@ static struct {
 
 enum { AWAITS_STARTUP = -2 };
 
-/* The option `force`. Also whether the host has crashed since the last check. */
+/* The value of the option `force`, and whether the host has crashed since the last check. */
 static uint8_t force = TPMSIM_FORCE_ALWAYS;
 static bool has_crashed;
 
@@ -43,7 +43,7 @@ static void note_answer(void) {
     told->answers++;
 }
 
-/* Returns whether a command was answered. If it was not, the holder got a fault. */
+/* Executes a command, and returns whether it was answered. Otherwise the caller gets a fault. */
 static bool is_answered(struct kept *kept, const uint8_t *buffer, size_t size) {
     uint8_t response[RESPONSE_BYTES];
     tpmsim_answered answered;
@@ -81,7 +81,7 @@ static bool cycle_telling(struct kept *kept) {
     return true;
 }
 
-/* Returns the number of extends of the device as it is now. */
+/* Returns how often the PCR was extended, or AWAITS_STARTUP. */
 static long extends_there(struct kept *kept, const struct values *values) {
     uint8_t response[RESPONSE_BYTES];
     size_t size = answered_by(kept, PCR_READ, sizeof PCR_READ, response);
@@ -97,7 +97,7 @@ static bool is_right(long there) {
     return there >= told->extends && there <= told->extends + told->asked;
 }
 
-/* Opens the device. It must have the effects of all answered commands. */
+/* Opens the device, and checks that it has the effects of all answered commands. */
 static void check(const struct values *values, const char *label) {
     struct kept *kept = opened_so();
     must(kept != NULL, "the device does not open");
@@ -130,8 +130,8 @@ static void crash_and_check(const struct values *values) {
     check(values, "crashed");
 }
 
-/* Runs a process until it and its children have ended. The process may be killed. Returns
- * whether it was. */
+/* Runs a function in a process, and waits until that process and its children have ended. Returns
+ * whether the process was killed. */
 static bool is_killed(void (*run)(void), enum fault kind, unsigned at) {
     int status, first = 0;
     pid_t child = fork();
@@ -160,7 +160,7 @@ static void run_once(void) {
     kept_close(kept);
 }
 
-/* Continues with the present device. */
+/* Checks the device, and executes more commands. */
 static void go_on(const struct values *values) {
     check(values, "killed");
     struct kept *kept = opened_so();
@@ -169,8 +169,8 @@ static void go_on(const struct values *values) {
     kept_close(kept);
 }
 
-/* Kills a process before each call, then crashes the host. Before the crash another process
-   continues, or does not. */
+/* Kills a process before each call, then crashes the host. In the second round, another process
+   continues before the crash. */
 static void kill_at_each(const struct values *values) {
     for (int goes_on = 0; goes_on < 2; goes_on++) {
         unsigned at = 1;

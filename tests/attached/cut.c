@@ -1,6 +1,6 @@
-/* The next record or a power cycle cuts off an incomplete record at the end of a journal. If the caller
- * asks for it, the next call drops damage, and restarts the journal. A message reports each cut. The
- * argument is the file of the values of the PCR. */
+/* The next record or a power cycle cuts off an incomplete record at the end of a journal. If the
+ * caller requests it, the next call drops damage and restarts the journal. A message reports each
+ * cut. The argument is the file with the expected PCR values. */
 #include "old_journal.h"
 #include <inttypes.h>
 
@@ -81,7 +81,7 @@ static void write_whole(size_t extends) {
     must(whole.ends[whole.records - 1] == whole.size, "the sizes are wrong");
 }
 
-/* Returns the number of the record that has the byte at `place`; 0 for the head. */
+/* Returns the number of the record that contains the byte at offset `place`; 0 for the head. */
 static size_t record_at(size_t place) {
     size_t record = 0;
     while (whole.ends[record] <= place) record++;
@@ -95,8 +95,8 @@ static void must_be_refused(bool cuts) {
     must_be_told("");
 }
 
-/* Changes a byte in a record. The device then has the effects of the records before it. Opening the
- * device restarts its journal. */
+/* Opens the device after a byte at offset `place` was changed. It then has the effects of the
+ * records before the changed one. Opening the device restarts its journal. */
 static void cut_at(size_t place, const struct values *values) {
     size_t record = record_at(place), size = whole.ends[record - 1];
     uint8_t response[RESPONSE_BYTES];
@@ -114,7 +114,7 @@ static void cut_at(size_t place, const struct values *values) {
     kept_close(kept);
 }
 
-/* Changes each byte after the head. Also changes bytes of the head, which is never cut. */
+/* Changes each byte after the head, and some bytes of the head, which is never cut. */
 static void turn(const struct values *values) {
     size_t tried = 0;
     for (size_t place = 0; place < whole.size; place++, tried++) {
@@ -130,7 +130,7 @@ static void turn(const struct values *values) {
     puts("each byte of the head turned: refused");
 }
 
-/* Writes incomplete records. The next record or a power cycle cuts each one off. */
+/* Writes incomplete records. The next record or a power cycle cuts each of them off. */
 static void cut_fronts(const struct values *values) {
     size_t last = whole.ends[whole.records - 2];
     for (size_t size = last + 1; size < whole.size; size++) {
@@ -150,8 +150,8 @@ static void cut_fronts(const struct values *values) {
     puts("the front of a record: cut off");
 }
 
-/* Writes a journal with this many extends, as an older library did: which restarted a journal only at a
- * power cycle. */
+/* Writes a journal with this many extends, as an older version of the library did. That version
+ * restarted a journal only at a power cycle. */
 static void write_old(size_t extends) {
     struct old_journal old = old_journal_of(extends);
     free(whole.bytes);

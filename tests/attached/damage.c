@@ -1,12 +1,12 @@
-/* Opens a journal whose bytes are changed or cut, in the working folder. The argument is the
- * file of the values of the PCR. */
+/* Opens journals whose bytes are changed or cut, in the working folder. The argument is the file
+ * with the expected PCR values. */
 #include "common.h"
 
 enum { EXTENDS = 3 };
 
 static const char FOLDER[] = "state", JOURNAL[] = "state/journal";
 
-/* The bytes of a journal: the original bytes, or those that are in the file now. */
+/* The bytes of a journal: either the original bytes or the present content of the file. */
 struct text {
     uint8_t *bytes;
     size_t size;
@@ -24,7 +24,7 @@ static void must_be(const struct text *wanted, const char *what) {
     free(there.bytes);
 }
 
-/* Opens the device, which must fail. Counts the message. */
+/* Tries to open the device, which must fail. Counts how often each message is reported. */
 static void refuse_opening(size_t counts[4]) {
     static const char *const sentences[] = {
         "state/journal is damaged, and stays as it is", "state/journal is no journal of a device",
@@ -65,8 +65,8 @@ static void turn(const struct text *whole) {
 }
 
 /* Opens a journal that is cut within its last record. The device has the effects of the records
- * before that one. The file stays as it is until the next command, and has only whole records
- * after it. */
+ * before that one. The file stays unchanged until the next command. After that command it has only
+ * whole records. */
 static void open_cut(const struct text *cut, const struct values *values) {
     put_bytes(JOURNAL, cut->bytes, cut->size);
     struct kept *kept = opened(FOLDER);
@@ -97,8 +97,8 @@ static void cut(const struct text *whole, size_t head, size_t before_last,
     puts("cut at each byte of its last record: the state before that record");
 }
 
-/* Replaces the end of the last record, and more, by zeros. The zeros begin at each of its bytes
-   in turn. */
+/* Replaces the end of the last record, and what follows, with zeros. The zeros begin at each byte
+   of the record in turn. */
 static void clear(const struct text *whole, size_t before_last, const struct values *values) {
     struct text cleared = {malloc(2 * whole->size), 0};
     must(cleared.bytes != NULL, "there is no memory");
@@ -112,7 +112,7 @@ static void clear(const struct text *whole, size_t before_last, const struct val
     puts("zeros from each byte of its last record on: the state before that record");
 }
 
-/* Removes a record that others follow, doubles it, and swaps two records. */
+/* Removes a record in the middle, duplicates a record, and swaps two records. */
 static void rearrange(const struct text *whole, size_t first, size_t second, size_t third) {
     size_t counts[4] = {0};
     struct text other = {malloc(2 * whole->size), 0};
@@ -140,9 +140,9 @@ static void rearrange(const struct text *whole, size_t first, size_t second, siz
     free(other.bytes);
 }
 
-/* Damages each byte of the last record while the device is open and has not executed that
- * record. The next command is refused, and the file stays as it is. When the byte is right
- * again, the device continues. */
+/* Changes each byte of the last record while the device is open and has not yet executed that
+ * record. The next command is refused, and the file stays unchanged. When the byte is restored, the
+ * device continues. */
 static void turn_while_open(const struct text *whole, size_t before_last,
                             const struct values *values) {
     struct text turned = {malloc(whole->size), whole->size};

@@ -10,7 +10,7 @@ enum { FILES = 2, FILE_MOST = 1 << 20 };
 
 struct disk {
     bool has_folder;
-    /* The journal of the folder on the disk; 0 if there is none. */
+    /* The inode of the journal in the folder on the disk; 0 if there is none. */
     ino_t journal;
     struct disk_file {
         ino_t inode;
@@ -21,7 +21,7 @@ struct disk {
 
 static struct disk *disk;
 
-/* Zeroed memory that forked processes share. */
+/* Allocates zeroed memory that forked processes share. */
 static inline void *shared(size_t size) {
     void *made =
         __real_mmap(NULL, size, PROT_READ | PROT_WRITE, MAP_SHARED | MAP_ANONYMOUS, -1, 0);
@@ -37,8 +37,8 @@ static inline void remove_state(void) {
     must(access(FOLDER, F_OK) != 0, "there is more in the folder than a state");
 }
 
-/* Returns the entry of a file on the disk. If there is none, an entry that is not the journal's is
-   used for it. */
+/* Returns the entry of a file on the disk. If there is none, returns a free entry or replaces one
+   that is not the journal's. */
 static inline struct disk_file *disk_file_of(ino_t inode) {
     struct disk_file *free_one = NULL;
     for (int i = 0; i < FILES; i++) {
@@ -77,15 +77,15 @@ static void put_on_disk(int file) {
     fault = before;
 }
 
-/* By chance adds zeros to the disk instead of bytes that were not written there. */
+/* At random, adds zeros to the file on the disk instead of bytes that were not written. */
 static inline void add_zeros_by_chance(struct disk_file *there) {
     size_t more = rand() % 2 ? (size_t)rand() % (FILE_MOST - there->size) : 0;
     memset(there->bytes + there->size, 0, more);
     there->size += more;
 }
 
-/* By chance adds some bytes of the file that were not synced, and perhaps zeros. A system may write
- * such bytes to the disk before a sync. */
+/* At random, adds some bytes of the file that were not synced, and perhaps zeros. A system may
+ * write bytes to the disk before a sync. */
 static inline void add_by_chance(struct disk_file *there) {
     size_t size;
     struct stat status;
@@ -118,7 +118,7 @@ static inline void crash(void) {
     there->inode = disk->journal = status.st_ino;
 }
 
-/* An empty disk. */
+/* Empties the disk. */
 static inline void wipe_disk(void) {
     remove_state();
     disk->has_folder = false;

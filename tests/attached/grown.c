@@ -1,6 +1,6 @@
-/* A journal that has grown is restarted, whichever process holds the device. Past journals are kept if
- * the option `keep` is set. A long journal of an earlier version opens. The argument is the file of the
- * values of the PCR. */
+/* Checks that a journal that has grown is restarted, whichever process holds the device. Finished
+ * journals are kept if the option `keep` is set. A long journal of an earlier version can be
+ * opened. The argument is the file with the expected PCR values. */
 #include "old_journal.h"
 #include <sys/stat.h>
 #include <sys/wait.h>
@@ -26,7 +26,7 @@ static size_t size_of(const char *path) {
     return (size_t)status.st_size;
 }
 
-/* Has several processes hold the device, and extend at once. */
+/* Has several processes hold the device and extend the PCR at the same time. */
 static void extend_at_once(unsigned keep) {
     for (int i = 0; i < PROCESSES; i++) {
         pid_t child = fork();
@@ -45,7 +45,7 @@ static void extend_at_once(unsigned keep) {
         must(wait(&status) > 0 && status == 0, "a process ended with a fault");
 }
 
-/* Opens a copy of a journal, and returns the number of its device's extends. */
+/* Opens a copy of a journal, and returns how often its device's PCR was extended. */
 static long extends_in(const char *path, const struct values *values) {
     char name[512];
     size_t size;
@@ -60,7 +60,7 @@ static long extends_in(const char *path, const struct values *values) {
     return count;
 }
 
-/* Checks the past journals: each ends where the next one began. */
+/* Checks that the finished journals are all there, in the right order. */
 static void look_at_past(const struct values *values) {
     long before = PROCESSES * EXTENDS;
     char path[512];
@@ -80,7 +80,7 @@ static ino_t inode_of(const char *path) {
     return status.st_ino;
 }
 
-/* If a process is killed after it renamed the journals, only the last number is missing. The
+/* If a process is killed after it renamed the finished journals, only the number 1 is missing. The
  * next process fills the gap, and loses no journal. */
 static void move_on_after_a_kill(struct kept *kept) {
     must(rename("state/journal.2", "state/journal.3") == 0, "there is no journal.2");

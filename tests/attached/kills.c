@@ -1,17 +1,17 @@
 /* Kills processes at random moments while they extend a PCR. No answered extend is lost. At most
- * the extend that was being executed is there in addition. The arguments are the file of the
- * values of the PCR, and the number of kills. */
+ * the one that was being executed is added. The arguments are the file with the expected PCR
+ * values, and the number of kills. */
 #include "common.h"
 #include <signal.h>
 #include <sys/wait.h>
 
 static const char FOLDER[] = "state";
 
-/* A process makes at most this many extends, because its killer may have to wait for a
-   processor. */
+/* The maximum number of extends that a process makes, since its killer may have to wait for a
+ * CPU. */
 enum { MOST_EXTENDS = 2000 };
 
-/* Extends again and again, writes a byte for each response, and waits to be killed. */
+/* Extends the PCR again and again, writes a byte for each response, and waits to be killed. */
 static void extend_on(int told) {
     struct kept *kept = opened(FOLDER);
     for (int i = 0; i < MOST_EXTENDS; i++) {
@@ -63,15 +63,15 @@ static long killed_after(void (*run)(int told), unsigned microseconds, bool answ
     return answered;
 }
 
-/* Resets the PCR, so that its values are those that were computed before. */
+/* Resets the PCR, so that its values are among the expected ones again. */
 static void begin_anew(struct kept *kept) {
     struct reason reason;
     must(kept_power(kept, &reason), "the power cycle failed");
     start(kept);
 }
 
-/* Kills processes that cycle the power. Each leaves a whole journal. Its device awaits
- * TPM2_Startup, or was started and extended at most once. */
+/* Kills processes that cycle the power. Each leaves a complete journal, whose device either needs
+ * TPM2_Startup or was started and extended at most once. */
 static void kill_cycles(struct kept *kept, const struct values *values, int rounds) {
     uint8_t response[RESPONSE_BYTES];
     for (int i = 0; i < rounds; i++) {

@@ -1,5 +1,5 @@
-/* A full disk, simulated by a limit on the size of files; and a process without free file
- * descriptors. The argument is the file of the values of the PCR. */
+/* Tests a full disk, which is simulated by a limit on the size of files, and a process without free
+ * file descriptors. The argument is the file with the expected PCR values. */
 #include "common.h"
 #include <signal.h>
 #include <sys/resource.h>
@@ -20,7 +20,7 @@ static size_t size_now(void) {
     return (size_t)status.st_size;
 }
 
-/* Executes an extend that must fail, and returns the sentence. */
+/* Executes an extend that must fail, and returns the message. */
 static const char *failing_extend(struct kept *kept) {
     static struct reason reason;
     uint8_t response[RESPONSE_BYTES];
@@ -30,8 +30,8 @@ static const char *failing_extend(struct kept *kept) {
     return reason.text;
 }
 
-/* Fills the disk within a record, at each of the record's bytes. The file stays as it was. This
- * device continues from there, and so does another one. */
+/* Makes the disk full at each byte of a record in turn. The file stays unchanged. The device
+ * continues from there, also after it is opened again. */
 static void fill(struct kept *kept, const struct values *values) {
     size_t before = size_now(), record;
     extend(kept);
@@ -55,7 +55,7 @@ static void fill(struct kept *kept, const struct values *values) {
     printf("with room again: %ld extends\n", extends_of(kept, values));
 }
 
-/* Fills the disk while a new journal is written. */
+/* Makes the disk full while a new journal is written. */
 static void fill_heads(struct kept *kept, const struct values *values) {
     struct reason reason;
     size_t head;

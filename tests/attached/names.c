@@ -1,6 +1,6 @@
-/* Checks which names are on the disk before a command is answered: the journal's name, which is
- * in its folder, and the folder's name, which is in the folder above. Other processes are killed
- * after mkdir, and between the rename and the sync of the folder. */
+/* Checks which names are synced to the disk before a command is answered: the journal's name in its
+ * folder, and the folder's name in the parent folder. Other processes are killed after mkdir, or
+ * between the rename and the sync of the folder. */
 #include "common.h"
 #include <errno.h>
 #include <signal.h>
@@ -12,8 +12,8 @@ static const char FOLDER[] = "state";
 /* The call after which this process is killed. */
 static enum { NOWHERE, BEHIND_MKDIR, BEHIND_RENAME } killed_at;
 
-/* The numbers of syncs: of the folder, of the folder above, of other files, and of whole file
-   systems. Also whether the folder above can be synced. */
+/* How often the folder, its parent folder, other files, and whole file systems were synced. Also
+   whether the parent folder can be synced. */
 static unsigned folders, above, others, systems;
 static bool above_is_forced = true;
 
@@ -82,7 +82,8 @@ static struct kept *opened_with(uint8_t force) {
     return kept;
 }
 
-/* Has another process open the device. It is killed there, or when it cycles the power. */
+/* Has another process open the device. The process is killed at the given call, either while it
+ * opens the device or while it cycles the power. */
 static void kill_another(uint8_t force, int where) {
     int status;
     pid_t child = fork();
@@ -98,7 +99,7 @@ static void kill_another(uint8_t force, int where) {
     must(waitpid(child, &status, 0) == child && WIFSIGNALED(status), "a process was not killed");
 }
 
-/* Prints the syncs since the last print. */
+/* Prints the numbers of syncs since they were last printed. */
 static void tell(const char *label) {
     printf("    %s: folder %u, above %u", label, folders, above);
     if (systems) printf(", file system %u", systems);
@@ -106,7 +107,8 @@ static void tell(const char *label) {
     folders = above = others = systems = 0;
 }
 
-/* Executes a command, whose response comes after the syncs, and then another command. */
+/* Executes a command, whose response comes after the syncs, and then another command, which syncs
+ * nothing. */
 static void answer(struct kept *kept, const char *label) {
     uint8_t response[RESPONSE_BYTES];
     answered_by(kept, READ_CLOCK, sizeof READ_CLOCK, response);

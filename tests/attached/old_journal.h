@@ -1,16 +1,16 @@
-/* A journal that the library writes in memory. Like those of earlier versions it begins with an image,
- * and is never restarted, however long it is. */
+/* Makes a journal in memory, with the library. Like the journals of earlier versions it begins with
+ * an image, and is never restarted, however long it is. */
 #ifndef OLD_JOURNAL_H
 #define OLD_JOURNAL_H
 #include "common.h"
 
-/* The bytes of a journal, with the ends of its head and of each of its records. */
+/* The bytes of a journal, with the end offsets of its head and of each of its records. */
 struct old_journal {
     uint8_t *bytes;
     size_t size, *ends;
 };
 
-/* Adds a command, and returns where its record ends. */
+/* Adds a command, and returns the end offset of its record. */
 static inline size_t add_to_old(struct old_journal *journal, tpmsim *device, const uint8_t *buffer,
                                 size_t buffer_size) {
     static const uint8_t random[256] = {1};
@@ -24,7 +24,8 @@ static inline size_t add_to_old(struct old_journal *journal, tpmsim *device, con
     return journal->size;
 }
 
-/* The journal of a new device that was started, and extended this often. */
+/* Returns the journal of a new device that was started, and whose PCR was extended this many
+ * times. */
 static inline struct old_journal old_journal_of(size_t extends) {
     enum { HEAD_MOST = 64 * 1024, RECORD_MOST = 1024 };
     static const uint8_t random[256] = {2};

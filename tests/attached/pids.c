@@ -1,6 +1,6 @@
-/* A process with the number 1 uses one device together with its forked child, which also has the
- * number 1, in another namespace. This is tested with a page that a fork wipes, and on a kernel
- * without such pages. The argument is the file of the values of the PCR. */
+/* A process with the process ID 1 uses one device together with its forked child, which also has
+ * the process ID 1, in another namespace. This is tested with a page that a fork wipes, and without
+ * such pages. The argument is the file with the expected PCR values. */
 #include "common.h"
 #include <errno.h>
 #include <poll.h>
@@ -8,19 +8,19 @@
 #include <sys/mman.h>
 #include <sys/wait.h>
 
-/* WITHIN_MS: the parent stays within a command for this time, so that its child can begin
-   another command. */
+/* WITHIN_MS: the parent pauses within a command for this time, so that its child can begin another
+   one. */
 enum { EXTENDS = 500, RANDOM_BYTES = 64, WITHIN_MS = 100 };
 
 static const char FOLDER[] = "state";
 
-/* A TPM2_GetRandom of more bytes than the TPM2_GetRandom before it. */
+/* TPM2_GetRandom of more bytes than the earlier TPM2_GetRandom. */
 static const uint8_t GET_MORE[] = {0x80, 0x01, 0, 0, 0, 12, 0, 0, 0x01, 0x7b, 0, RANDOM_BYTES};
 
 /* Whether the kernel wipes a page at a fork, as far as the device knows. */
 static bool wipes;
 
-/* The pipes by which a parent and its child wait for each other. Also whether the parent waits
+/* The pipes with which a parent and its child wait for each other. Also whether the parent waits
  * for the child before its next record. */
 static int go[2], told[2];
 static bool is_to_wait;
@@ -33,7 +33,8 @@ int __wrap_madvise(void *page, size_t size, int advice) {
     return -1;
 }
 
-/* Lets the child execute a command. Waits until the child has done so, or has had enough time. */
+/* Lets the child execute a command, and checks that the child has to wait until this process has
+ * written its record. */
 ssize_t __real_pwrite(int file, const void *bytes, size_t size, off_t place);
 ssize_t __wrap_pwrite(int file, const void *bytes, size_t size, off_t place);
 ssize_t __wrap_pwrite(int file, const void *bytes, size_t size, off_t place) {
@@ -46,7 +47,7 @@ ssize_t __wrap_pwrite(int file, const void *bytes, size_t size, off_t place) {
     return __real_pwrite(file, bytes, size, place);
 }
 
-/* Forks a child that has the number 1. */
+/* Forks a child that has the process ID 1. */
 static pid_t forked(void) {
     fflush(stdout);
     must(unshare(CLONE_NEWPID) == 0, "there is no namespace of numbers");
@@ -67,16 +68,16 @@ static void draw(struct kept *kept, uint8_t room[RANDOM_BYTES]) {
     memcpy(room, response + 12, RANDOM_BYTES);
 }
 
-/* Starts a device, and has it draw random bytes. It then has more of them ready for the next
-   commands. */
+/* Starts a device, and has it draw random bytes. The device then has a supply of random bytes for
+   the next commands. */
 static void start_and_draw(struct kept *kept) {
     uint8_t response[RESPONSE_BYTES];
     start(kept);
     accepted(kept, GET_RANDOM, sizeof GET_RANDOM, response);
 }
 
-/* The child's work. It draws from the device in memory. When the parent is within a command, the
- * child draws from the device in the folder, and extends it. */
+/* The child's work. It draws random bytes from the device in memory. When the parent is within a
+ * command, the child draws from the device in the folder, and extends its PCR. */
 static void use(struct kept *memory, struct kept *kept) {
     uint8_t own[RANDOM_BYTES];
     char byte;
@@ -100,8 +101,8 @@ static void compare_draws(struct kept *kept, const char *label) {
     fflush(stdout);
 }
 
-/* The work of the first process with number 1. It opens the devices, forks the second process, and then
-   does the same work as the second process. */
+/* The work of the first process with the process ID 1. It opens the devices, forks the second
+   process, and then does the same work as the second process. */
 static void open_and_fork(const struct values *values) {
     struct kept_options in_memory = {.folder = NULL};
     struct kept *memory = kept_open(&in_memory, &(struct reason){0}), *kept = opened(FOLDER);

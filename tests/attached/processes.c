@@ -1,5 +1,5 @@
-/* Has several processes hold one device at once. The argument is the file of the values of the
- * PCR. */
+/* Has several processes hold one device at once. The argument is the file with the expected PCR
+ * values. */
 #include "common.h"
 #include <sys/wait.h>
 
@@ -36,7 +36,7 @@ static void power_and_start(void) {
     kept_close(kept);
 }
 
-/* Has four processes extend at once. */
+/* Has four processes extend the PCR at the same time. */
 static void extend_at_once(struct kept *kept, const struct values *values) {
     pid_t children[PROCESSES];
     for (int i = 0; i < PROCESSES; i++) children[i] = begun(extend_often);
@@ -81,8 +81,8 @@ static void use_after_fork(struct kept *kept, const struct values *values) {
     close(ends[1]);
 }
 
-/* Removes the lock while a process holds the device. Then another process takes the device, and
- * both continue at once. */
+/* Removes the lock while a process holds the device. Then another process opens the device, and
+ * both continue at the same time. */
 static void lose_the_lock(struct kept *kept, const struct values *values) {
     must(unlink("state/lock") == 0, "there was no lock");
     pid_t child = begun(extend_often);

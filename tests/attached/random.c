@@ -1,5 +1,6 @@
-/* Checks the random bytes of commands. No two commands draw the same bytes. A replaced getrandom
- * counts the bytes that are read from the system: exactly as many as the commands drew. */
+/* Checks the random bytes of commands. No two commands draw the same bytes. The test replaces
+ * getrandom to count the bytes that are read from the system: exactly as many as the commands
+ * drew. */
 #include "common.h"
 #include <sys/random.h>
 

@@ -1,6 +1,6 @@
-/* The option `rm` of the module for libtss2. When a process finalizes its context, the module flushes
- * the objects and sessions that the process loaded and did not flush, and nothing else. Each context of
- * the module is one client. All of them share a device in a folder. */
+/* Tests the option `rm` of the module for libtss2. When a process finalizes its context, the module
+ * flushes the objects and sessions that the process loaded and did not flush, and nothing else.
+ * Each context of the module is one client. All clients share a device in a folder. */
 #include "common.h"
 #include <signal.h>
 #include <sys/wait.h>
@@ -10,7 +10,8 @@ TSS2_RC Tss2_Tcti_Tpmsim_Init(TSS2_TCTI_CONTEXT *context, size_t *size, const ch
 
 static const char RM[] = "state=state,force=never,rm", NO_RM[] = "state=state,force=never";
 
-/* TPM2_CreatePrimary of an HMAC key. The key's policy is that of a session without assertions. */
+/* TPM2_CreatePrimary of an HMAC key. A policy session without assertions satisfies the key's
+ * policy. */
 static const uint8_t CREATE_PRIMARY[] = {
     0x80, 2, 0, 0, 0, 89, 0, 0, 1, 0x31, 0x40, 0, 0, 1, 0, 0, 0, 9, 0x40, 0, 0, 9, 0, 0, 0, 0, 0,
     /* The sensitive area and the public area. */
@@ -74,7 +75,7 @@ static void flush(TSS2_TCTI_CONTEXT *context, uint32_t handle) {
     done(context, command, sizeof command, response);
 }
 
-/* Saves a context, and makes the command that loads it. Returns that command's size. */
+/* Saves a context, and writes the command that loads it. Returns the size of that command. */
 static size_t saved(TSS2_TCTI_CONTEXT *context, uint32_t handle, uint8_t load[RESPONSE_BYTES]) {
     static const uint8_t head[] = {0x80, 1, 0, 0, 0, 0, 0, 0, 1, 0x61};
     uint8_t command[14] = {0x80, 1, 0, 0, 0, 14, 0, 0, 1, 0x62};
@@ -85,7 +86,7 @@ static size_t saved(TSS2_TCTI_CONTEXT *context, uint32_t handle, uint8_t load[RE
     return size;
 }
 
-/* Sends TPM2_HMAC with a key and a policy session. The session ends with it. */
+/* Sends TPM2_HMAC with a key and a policy session. The session ends with this command. */
 static void use(TSS2_TCTI_CONTEXT *context, uint32_t key, uint32_t by) {
     uint8_t command[32] = {0x80, 2, 0, 0, 0, 32, 0, 0, 1, 0x55, [17] = 9, [28] = 1, [31] = 16};
     uint8_t response[RESPONSE_BYTES];
@@ -134,8 +135,8 @@ static void leave(const char *label, const char *words) {
     show(label);
 }
 
-/* Frees handles by a flush or by the end of a session. Another client then gets them, and `rm`
-   does not flush them. */
+/* Frees handles, by a flush or by the end of a session. Another client then gets the same handles,
+   and `rm` does not flush them. */
 static void leave_to_others(void) {
     TSS2_TCTI_CONTEXT *context = begun(RM), *other = begun(NO_RM);
     flush(context, object(context));
@@ -147,8 +148,8 @@ static void leave_to_others(void) {
     show("an object and a session of another client, under handles that were freed");
 }
 
-/* Saves a session and an object. At the end the session stays, and the object is flushed. Both
-   contexts can be loaded. */
+/* Saves a session and an object. When the client ends, the saved session remains, and the object is
+   flushed. Both contexts can still be loaded. */
 static void save(void) {
     uint8_t load_session[RESPONSE_BYTES], load_object[RESPONSE_BYTES], response[RESPONSE_BYTES];
     TSS2_TCTI_CONTEXT *context = begun(RM);
@@ -171,7 +172,7 @@ static void save(void) {
     show("after contexts that were loaded and not used");
 }
 
-/* Forks a child, which flushes only what it loaded itself. */
+/* Forks a child, which flushes only the objects that it loaded itself. */
 static void forked(bool loads) {
     TSS2_TCTI_CONTEXT *context = begun(RM);
     object(context);
@@ -205,7 +206,8 @@ static void killed(void) {
     show("a process that was killed");
 }
 
-/* Handles that no longer exist when the process ends are not flushed, and that is not a fault. */
+/* If handles no longer exist when the process ends, they are not flushed, and no fault is
+ * reported. */
 static void gone(void) {
     TSS2_TCTI_CONTEXT *context = begun(RM);
     object(context);

@@ -1,11 +1,12 @@
-/* Checks the messages of the kept device about a damaged journal, for each return code of the library's
- * function that opens a journal. The file stays as it was. The test wraps that function. */
+/* Checks the messages of the kept device about a damaged journal, for each return code of the
+ * library's function that opens a journal. The file stays unchanged. The test wraps that
+ * function. */
 #include "common.h"
 
 static const char FOLDER[] = "state", JOURNAL[] = "state/journal";
 
-/* The return code of the wrapped function, which then does not open the journal. With TPMSIM_DONE the
-   function is called as usual. */
+/* The code that the wrapped function returns without opening the journal. If this is TPMSIM_DONE,
+   the real function is called. */
 static uint8_t opening;
 
 uint8_t __real_tpmsim_journal_open(tpmsim *device, const uint8_t *text, size_t size, size_t *taken);

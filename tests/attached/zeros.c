@@ -1,6 +1,7 @@
-/* Zeros after the whole records of a journal, which a crash of the host can leave. An incomplete
- * record may precede them. The next record cuts the zeros off, and a sentence reports that. With
- * another byte among them they are damage. The argument is the file of the values of the PCR. */
+/* Tests journals with zeros after the complete records, which a crash of the host can leave. An
+ * incomplete record may precede the zeros. The next record cuts the zeros off, and a message
+ * reports that. If there is a nonzero byte among the zeros, they are damage. The argument is the
+ * file with the expected PCR values. */
 #include "common.h"
 
 enum { EXTENDS = 2, PART = 256 * 1024 };
@@ -35,8 +36,8 @@ static struct kept *opened_to(bool cuts, struct reason *reason) {
     return kept_open(&options, reason);
 }
 
-/* Extends a device whose journal has this size, and checks the file. If `begins` is true, the journal
-   is restarted. */
+/* Extends the PCR of a device whose journal has this size, and checks the file. If `begins`, the
+   journal may be restarted. */
 static void extend_and_look(struct kept *kept, size_t size, const char *behind, bool begins,
                             const struct values *values) {
     extend(kept);
@@ -53,8 +54,8 @@ static void extend_and_look(struct kept *kept, size_t size, const char *behind, 
     free(journal);
 }
 
-/* Writes zeros after this much of the last record. The device is opened with them, and an open
-   device finds them. */
+/* Writes zeros after the first `front` bytes of the last record: before a device is opened, while
+   it is open, and before a power cycle. */
 static void try_zeros(size_t front, size_t zeros, const struct values *values) {
     size_t size = last + front + zeros;
     struct reason reason;

@@ -1,5 +1,5 @@
-# Shared by the tests of the kept device. Each test gets the path of the archive, and reads this file after
-# cases.sh and library.sh.
+# Functions for the tests of the kept device. Each test gets the path of the archive as its argument, and
+# reads this file after cases.sh and library.sh.
 # shellcheck shell=sh disable=SC2154 # library.sh has `archive` and `sanitizers`
 hosts=$tests/../hosts
 callers=$tests/attached
@@ -7,31 +7,31 @@ needs cc nm
 nm --defined-only "$archive" 2>/dev/null | grep -q ' tpmsim_fault_text$' ||
     skip 'the archive has no keeper of a device'
 
-# in_c WORDS..: compiles C with these options and files. Each warning is an error.
+# in_c WORDS..: compiles C with these options and files. Warnings are errors.
 in_c() {
     cc -std=c11 -O1 -Wall -Wextra -Werror -Wconversion -I"$dist" -I"$hosts/kept" "$@" || exit 1
 }
 
-# parts WORDS..: prints the folder with the compiled parts of the kept device, and compiles them first if necessary.
-# The options among the words are passed to the compiler. tools/scripts.sh names the folder TPMSIM_BUILT; then they are
-# compiled once for all its tests.
+# parts WORDS..: prints the folder with the compiled parts of the kept device, and compiles them first if
+# necessary. Passes the options -f and -g among the words to the compiler. If tools/scripts.sh sets
+# TPMSIM_BUILT to a folder, the parts are compiled once for all its tests.
 parts() {
     how=$(printf '%s\n' "$@" | grep '^-[fg]')
     built=${TPMSIM_BUILT:-$room/built}/attached-$(echo "$how" | cksum | tr ' ' -)
     if [ ! -d "$built" ]; then
         mkdir -p "$room/parts" "${built%/*}" || exit 1
         for part in "$hosts"/kept/*.c; do
-            # shellcheck disable=SC2086 # they are words
+            # shellcheck disable=SC2086 # word splitting is intended
             in_c $how -c -o "$room/parts/$(basename "$part" .c).o" "$part"
         done
-        # Another test may have built the parts first.
+        # Another test may have compiled the parts first.
         mv -T "$room/parts" "$built" 2>"$room/moved" || rm -r "$room/parts"
     fi
     echo "$built"
 }
 
-# attach CALLER SOURCE WORDS..: compiles a caller in C, or a source of hosts/tcti, and links it with the parts
-# of the kept device.
+# attach CALLER SOURCE WORDS..: compiles a test program in C, or a source of hosts/tcti, and links it with the
+# parts of the kept device.
 attach() {
     caller=$room/$1
     source=$callers/$2.c
@@ -41,16 +41,16 @@ attach() {
     in_c -O0 -o "$caller" "$source" "$built"/*.o "$@" "$archive"
 }
 
-# attach_both SOURCE WORDS..: compiles a caller twice: as NAME, after its source, and with sanitizers as
-# sanitized_NAME.
+# attach_both SOURCE WORDS..: compiles a test program twice: as SOURCE, and with sanitizers as
+# sanitized_SOURCE.
 attach_both() {
     attach "$1" "$@"
-    # shellcheck disable=SC2086 # they are words
+    # shellcheck disable=SC2086 # word splitting is intended
     attach "sanitized_$1" "$@" $sanitizers
 }
 
-# both NAME WORDS..: runs both programs of attach_both, each in a folder of its own. Prints the output of the
-# first, and whether the second printed the same.
+# both NAME WORDS..: runs both programs of attach_both, each in its own folder. Prints the output of the first
+# program, and whether the second one printed the same.
 both() {
     name=$1
     shift
@@ -67,7 +67,8 @@ both() {
     fi
 }
 
-# extended COUNT: prints the values of a SHA-256 PCR after 0, 1, .. COUNT extends with a digest of 32 bytes 5a.
+# extended COUNT: prints the values of a SHA-256 PCR after 0, 1, .. COUNT extends with the digest of 32 bytes
+# 5a.
 extended() {
     python3 -c '
 import hashlib, sys
@@ -78,7 +79,7 @@ for count in range(int(sys.argv[1]) + 1):
 ' "$1"
 }
 
-# Linker options that replace these calls by those of tests/attached/calls.h.
+# Linker options that replace these functions with those of tests/attached/calls.h.
 # shellcheck disable=SC2034 # tests use them
 wrapped_calls=$(printf -- '-Wl,--wrap=%s ' mkdir fchmod fchmodat fstat fstatat flock ftruncate fsync \
     fdatasync unlinkat renameat clock_gettime mmap munmap madvise pread pwrite getrandom malloc calloc \

@@ -1,18 +1,18 @@
-# Shared by the shell tests. Each test reads this file first, and gets the program's path. It runs the program
-# once for each case, in a folder of its own, and prints a line with the result.
+# Functions for the shell tests. Each test reads this file first, and gets the program's path as its argument.
+# It runs the program once for each case, in a temporary folder, and prints a line with the result.
 LC_ALL=C
 # shellcheck disable=SC2154 # a test names its folder before it reads this file
 PYTHONPATH=${tests%/*}/python:${tests%/*}
 export LC_ALL PYTHONPATH
-# tools/scripts.sh sets PYTHONPYCACHEPREFIX, one folder for the Python bytecode of all tests. Then bytecode is
-# kept there, even if the environment forbids it. Without the variable, none is kept.
+# tools/scripts.sh sets PYTHONPYCACHEPREFIX to one folder for the Python bytecode of all tests. Bytecode is
+# then written there, even if the environment forbids it. Without the variable, no bytecode is written.
 if [ -n "${PYTHONPYCACHEPREFIX:-}" ]; then
     unset PYTHONDONTWRITEBYTECODE
 else
     export PYTHONDONTWRITEBYTECODE=1
 fi
 
-# Runs Python without its site packages. It starts sooner, and the tests need none of them.
+# Runs Python without its site packages. It starts faster, and the tests do not need these packages.
 python3() {
     command python3 -S "$@"
 }
@@ -21,7 +21,7 @@ python3() {
 room=$(mktemp -d) || exit 1
 trap 'keep_journals; rm -rf "$room"' EXIT
 
-# keep_journals: copies the journals and logs of a test to the folder KEPT_JOURNALS, if that is set.
+# keep_journals: copies the journals and logs of a test to the folder KEPT_JOURNALS, if that variable is set.
 keep_journals() {
     [ -n "${KEPT_JOURNALS:-}" ] || return 0
     grep -rlaE '^# (tpmsim journal [12]|image|state) [0-9a-f]{40}' "$room" 2>/dev/null | while read -r journal; do
@@ -29,8 +29,8 @@ keep_journals() {
     done
 }
 
-# The help shows the name by which the program was called. Here that name is always tpmsim, whatever the file
-# is called.
+# The help text shows the name by which the program was called. In the tests that name is always tpmsim,
+# whatever the file is called.
 program=$room/tpmsim
 ln -s "$(cd "$(dirname "$1")" && pwd -P)/$(basename "$1")" "$program" || exit 1
 mkdir "$room/folder" && cd "$room/folder" || exit 1
@@ -44,8 +44,8 @@ skip() {
 
 . "$tests/common/needs.sh"
 
-# make_scripts: makes the scripts that are not stored, in the folder TPMSIM_MADE, unless tools/scripts.sh has
-# made them.
+# make_scripts: generates the scripts that are not stored, in the folder TPMSIM_MADE, unless tools/scripts.sh
+# has done so.
 make_scripts() {
     [ -z "${TPMSIM_MADE:-}" ] || return 0
     TPMSIM_MADE=$room/made
@@ -66,12 +66,12 @@ script() {
 # shellcheck disable=SC2034 # the tests use it
 startup='cmd 80010000000c000001440000'
 
-# told FILE: prints the lines of a file, each with the number of times that it is repeated in a row. The shell
-# itself reads a file with few lines, so that no other program is started.
+# told FILE: prints the lines of a file, and how often each is repeated in a row. The shell itself reads a
+# file with few lines, so that no other program is started.
 told() {
     [ -s "$1" ] || { printf 'empty'; return; }
     text='' before='' times=0 lines=0
-    # shellcheck disable=SC2094 # both only read the file
+    # shellcheck disable=SC2094 # both commands only read the file
     while IFS= read -r line; do
         lines=$((lines + 1))
         [ "$lines" -le 30 ] || { told_at_length "$1"; return; }
@@ -85,7 +85,8 @@ told() {
     [ -z "$line" ] || printf ' without a line break'
 }
 
-# add_line: counts `line` if it repeats the line before; otherwise prints that line and begins with `line`.
+# add_line: counts `line` if it repeats the previous line. Otherwise prints the previous line, and begins to
+# count `line`.
 add_line() {
     if [ "$times" -gt 0 ] && [ "$line" = "$before" ]; then
         times=$((times + 1))
@@ -96,7 +97,7 @@ add_line() {
     times=1
 }
 
-# end_line: prints the previous line, with the number of its repetitions.
+# end_line: adds the previous line to `text`, with the number of its repetitions.
 end_line() {
     case $times in
     0) ;;
@@ -121,7 +122,7 @@ told_at_length() {
     [ -z "$(tail -c 1 "$1")" ] || printf ' without a line break'
 }
 
-# report LABEL STATUS: prints a case's line: the status, and the program's output that was kept.
+# report LABEL STATUS: prints a case's line, with the status and the program's stored output.
 report() {
     printf '%s: status %s' "$1" "$2"
     for stream in output error; do

@@ -1,5 +1,5 @@
-/* Replaces the C library's clock_gettime. Each clock always shows the time that is in a file:
- * seconds, and nanoseconds within them. The environment variable CLOCK names the file. */
+/* Replaces the C library's clock_gettime. Each clock shows the time that is in a file, as seconds
+ * and nanoseconds. The environment variable CLOCK names the file. */
 #include <stdio.h>
 #include <stdlib.h>
 #include <time.h>

@@ -1,5 +1,5 @@
 #!/bin/sh
-# A program whose help has the form of tpmsim's, but names subcommands and options that tpmsim does not have.
+# A program whose help has the same form as that of tpmsim, but with other subcommands and options.
 case $* in
 --version) echo 'tpmsim 0.1.0' ;;
 lines) printf 'Stir @PCR Buffer\n    Stir 00000000 pw:- 00\nStop\n    Stop\n' ;;

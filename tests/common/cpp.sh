@@ -1,12 +1,12 @@
-# Shared by the tests of tpmsim.hpp, which read this file after cases.sh and library.sh.
+# A function for the tests of tpmsim.hpp, which read this file after cases.sh and library.sh.
 # shellcheck shell=sh disable=SC2154 # cases.sh has `room` and `tests`, library.sh the rest
 
 # play_header COMPILER: compiles tests/cpp/devices.cpp as C++17, and prints its output. Then it prints whether
-# the output is the same as C++20. The part that throws nothing is also compiled without exceptions, in both
-# versions. Each warning is an error.
+# the output is the same with C++20. The part that throws nothing is also compiled without exceptions, in both
+# versions. Warnings are errors.
 play_header() {
     for words in -std=c++17 -std=c++20 '-std=c++17 -fno-exceptions' '-std=c++20 -fno-exceptions'; do
-        # shellcheck disable=SC2086 # they are words
+        # shellcheck disable=SC2086 # word splitting is intended
         if ! "$1" $words -Wall -Wextra -Wpedantic -Wconversion -Werror $sanitizers -pthread \
             -I"$dist" -o "$room/caller" "$tests/cpp/devices.cpp" "$archive"; then
             echo "$words: it is not compiled"

@@ -1,15 +1,15 @@
-# Shared by the tests of the Go module, which read this file after cases.sh and library.sh. It makes a copy of
-# the module, which is linked with the archive under test, and sets the folders in which go works.
+# Functions for the tests of the Go module, which read this file after cases.sh and library.sh. The tests use
+# a copy of the module, linked with the archive under test.
 # shellcheck shell=sh disable=SC2154 # cases.sh has `room` and `tests`, library.sh `dist`
 export CGO_ENABLED=1 GOFLAGS=-buildvcs=false GOPROXY=off GOSUMDB=off
 export GOCACHE="${TPMSIM_BUILT:-$room}/go" GOPATH="$room/path" CGO_LDFLAGS="-L$dist"
 
-# copy_module: makes the copy, in the folder `module`.
+# copy_module: copies the Go module to the folder `module`.
 copy_module() {
     cp -rL "$tests/../go" module && rm -rf module/native && cp "$dist/tpmsim.h" module/
 }
 
-# play WORDS..: runs go in the copy, and prints its output if it fails.
+# play WORDS..: runs go in the copied module, and prints its output if it fails.
 play() {
     (cd module && go "$@") >said 2>&1 && return
     echo "go $*: status $?"

@@ -1,4 +1,4 @@
-# Shared by the tests of the package for JavaScript. Each reads this file after cases.sh.
+# Functions for the tests of the JavaScript package. Each reads this file after cases.sh.
 # shellcheck shell=sh disable=SC2034,SC2154 # cases.sh has `tests`
 needs node
 top=${tests%/*}

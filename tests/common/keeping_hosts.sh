@@ -1,6 +1,6 @@
 # Builds the hosts of a kept device, and the shims that log their calls and make calls fail. A test gets the
-# archive, and reads this file after cases.sh and library.sh. tests/keeping/hosts.py says where it looks for
-# the hosts.
+# archive's path as its argument, and reads this file after cases.sh and library.sh. tests/keeping/hosts.py
+# describes where the hosts are expected.
 # shellcheck shell=sh disable=SC2154 # library.sh has `archive` and `dist`
 needs cc nm strip python3 tss2/tss2_tcti.h
 top=$tests/..
@@ -19,16 +19,16 @@ make_shims() {
     done
 }
 
-# tools/scripts.sh names the folder TPMSIM_BUILT. Then the hosts and shims are built once for all its tests.
+# If tools/scripts.sh sets TPMSIM_BUILT to a folder, the hosts and shims are built once for all its tests.
 built=${TPMSIM_BUILT:-$room/shared}/keeping
 if [ ! -d "$built" ]; then
     { mkdir -p "${built%/*}" && make_hosts "$room/new" && make_shims "$room/new"; } >"$room/made" 2>&1 ||
         { cat "$room/made"; exit 1; }
-    # Another test may have built them first.
+    # Another test may have built the hosts and shims first.
     mv -T "$room/new" "$built" 2>"$room/moved" || rm -r "$room/new"
 fi
 
-# against SHIM NAME WORDS..: runs a program of tests/keeping with a shim.
+# against SHIM NAME WORDS..: runs the program NAME of tests/keeping with a shim.
 against() {
     shim=$built/$1.so
     played=$tests/keeping/$2.py
@@ -36,7 +36,7 @@ against() {
     LD_PRELOAD=$shim python3 "$played" "$dist/tpmsim" "$built" "$shim" "$@"
 }
 
-# swtpm_states SHARE: runs swtpm_states.py, which makes one of SHARE runs.
+# swtpm_states SHARE: runs swtpm_states.py, which makes only every SHAREth of its runs.
 swtpm_states() {
     needs swtpm libtpms/tpm_library.h
     "$top/hosts/build.sh" libtpms "$room/swtpm" || return 1

@@ -1,8 +1,8 @@
-# Functions by which a test declares the tools that it needs. cases.sh reads this file.
+# Functions with which a test declares the tools that it needs. cases.sh reads this file.
 # shellcheck shell=sh disable=SC2154 # cases.sh has `room` and `tests`
 . "$tests/../tools/lib/python.sh"
 
-# package_of NAME: prints the Debian packages that have a tool or a header.
+# package_of NAME: prints the Debian packages that contain a tool or a header.
 package_of() {
     case $1 in
     cargo-clippy) echo rust-clippy ;;
@@ -31,8 +31,8 @@ has_tool() {
     (unset -f "$1"; command -v "$1") >"$room/found"
 }
 
-# has_header HEADER: succeeds if the C compiler finds the header. Without a compiler, succeeds if Debian's
-# package is installed.
+# has_header HEADER: succeeds if the C compiler finds the header. Without a compiler, succeeds if the header
+# is in /usr/include.
 has_header() {
     if has_tool cc; then
         echo "#include <$1>" | cc -E - >"$room/found" 2>&1
@@ -41,8 +41,8 @@ has_header() {
     fi
 }
 
-# is_there NAME: succeeds if a tool or a header is installed. A C compiler must have the headers of the C
-# library, and python3 its standard library.
+# is_there NAME: succeeds if a tool or a header is installed. For a C compiler the headers of the C library
+# must be installed as well, and for python3 its standard library.
 is_there() {
     case $1 in
     *.h) has_header "$1" ;;
@@ -60,9 +60,9 @@ lack_of() {
     esac
 }
 
-# needs NAME..: skips the test if a tool or a header is missing. The reason ends with the packages that have
-# it; tools/scripts.sh gathers them. The reason begins with `there is no`, which .ci/run allows. It begins
-# otherwise if all tools are installed and only the library of one is missing.
+# needs NAME..: skips the test if a tool or a header is missing. The reason ends with the packages that
+# contain it, which tools/scripts.sh collects. It begins with `there is no`, which .ci/run allows, unless each
+# tool is installed and only a tool's library is missing.
 needs() {
     absent='' poor='' packages=''
     for name do

@@ -1,6 +1,5 @@
-/* Opens each journal that its arguments name, which executes the journal's commands again. For
- * each it prints the result, as a number of tpmsim.h, and whether the whole journal was
- * executed. */
+/* Opens each journal that the arguments name, which executes the journal's commands again. For each
+ * journal, prints the result code (see tpmsim.h) and whether the whole journal was executed. */
 #include "tpmsim.h"
 
 #include <stdio.h>

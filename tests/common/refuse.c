@@ -1,5 +1,5 @@
-/* Replaces the C library's malloc and realloc. The calls from the first number of a turn to the
- * second fail. The shim marks the run when it makes the first of them fail. */
+/* Replaces the C library's malloc and realloc. In a turn, the calls from the first number to the
+ * second one fail. The shim marks the run when it makes the first of these calls fail. */
 #define _GNU_SOURCE
 #include <dlfcn.h>
 #include <errno.h>

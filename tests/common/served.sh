@@ -1,25 +1,25 @@
-# Shared by the tests of a served device. They read it after cases.sh, which sets `program` and `room`. A
-# client in Python sends the commands, and prints each response on a line.
+# Functions for the tests of a served device. The tests read this file after cases.sh, which sets `program`
+# and `room`. A client in Python sends the commands, and prints each response on a line.
 needs python3
 client=$tests/common/client.py
 
-# bytes_of COUNT OCTAL: prints COUNT bytes, each with this value.
+# bytes_of COUNT OCTAL: prints COUNT bytes with the value OCTAL.
 bytes_of() {
     head -c "$1" /dev/zero | tr '\0' "\\$2"
 }
 
-# The random bytes of the manufacture are zeros. Those of the first command are ones, those of the second
-# command twos, and so on.
+# The random bytes for manufacturing the device are zeros. The first command gets random bytes with the value
+# 1, the second command with the value 2, and so on.
 bytes_of 256 000 >entropy
 for octal in 001 002 003 004 005 006 007 010 011 012 013 014 015; do
     bytes_of 256 "$octal" >>entropy
 done
 
-# begin CONNECTIONS: serves CONNECTIONS connections in the background, with the test's further options. The
+# begin CONNECTIONS: serves CONNECTIONS connections in the background, with the options in `options`. The
 # locality is 0 and the image is `image`, unless the test sets other values.
 begin() {
     rm -f "$room/output" "$room/error"
-    # shellcheck disable=SC2086 # the options are words
+    # shellcheck disable=SC2086 # word splitting is intended
     timeout 60 "$program" serve --socket socket --image "${image:-image}" --entropy entropy \
         --locality "${locality:-0}" --connections "$1" ${options:-} >"$room/output" \
         2>"$room/error" &
@@ -30,7 +30,7 @@ there() {
     until [ -S socket ]; do sleep 0.01; done
 }
 
-# talk LABEL SIZE HEX..: connects, and sends these bytes in pieces of SIZE bytes.
+# talk LABEL SIZE HEX..: connects, sends these bytes in pieces of SIZE bytes, and prints the responses.
 talk() {
     echo "$1:"
     shift
@@ -45,7 +45,7 @@ ended() {
     [ ! -e socket ] || echo '    the socket is still there'
 }
 
-# words LINE: prints the buffer of a command in words.
+# words LINE: assembles a command in words, and prints its buffer.
 words() {
     "$program" asm "$1"
 }

@@ -1,5 +1,5 @@
-# Builds tpmsim-simulator, links it with the test's archive, and sets `simulator` to its path. A test reads
-# this file after cases.sh and library.sh.
+# Builds tpmsim-simulator, links it with the archive under test, and sets `simulator` to its path. A test
+# reads this file after cases.sh and library.sh.
 # shellcheck shell=sh disable=SC2034,SC2154 # library.sh has `archive`
 needs cc nm strip
 nm --defined-only "$archive" 2>/dev/null | grep -q ' tpmsim_fault_text$' ||

@@ -1,6 +1,6 @@
-# Shared by the tests of hosts/libtpms, which read this file after cases.sh. Each test gets the archive of the
-# library. This file builds libtpms.so.0 from that archive, and a caller that replaces swtpm; then it builds
-# both again with sanitizers.
+# Functions for the tests of hosts/libtpms, which read this file after cases.sh. Each test gets the path of
+# the library's archive as its argument. This file builds libtpms.so.0 from that archive, and a caller that
+# replaces swtpm. Then it builds both again with sanitizers.
 # shellcheck shell=sh disable=SC2154 # cases.sh has `program`, `room` and `tests`
 needs cc nm strip python3 libtpms/tpm_library.h
 TPMSIM_ARCHIVE=$(readlink -f "$program")
@@ -9,29 +9,30 @@ unset CFLAGS
 assemble=${TPMSIM_ARCHIVE%/*}/tpmsim
 sanitizers='-g -fsanitize=address,undefined -fno-sanitize-recover=all'
 
-# build FOLDER: builds all of these in a folder.
+# build FOLDER: builds libtpms.so.0 and the caller in a folder, without and with sanitizers.
 build() {
     mkdir -p "$1" || exit 1
     "$tests/../hosts/build.sh" libtpms "$1/swtpm" >"$room/built" 2>&1 || { cat "$room/built" && exit 1; }
     CFLAGS=$sanitizers "$tests/../hosts/build.sh" libtpms "$1/sanitized" >"$room/built" 2>&1 ||
         { cat "$room/built" && exit 1; }
     for words in '' "$sanitizers"; do
-        # shellcheck disable=SC2086 # they are words
+        # shellcheck disable=SC2086 # word splitting is intended
         cc -std=c11 -D_GNU_SOURCE -O1 -Wall -Wextra -Werror -Wconversion $words \
             -o "$1/caller${words:+.sanitized}" "$tests"/swtpm/*.c || exit 1
     done
 }
 
-# tools/scripts.sh names the folder TPMSIM_BUILT. Then everything is built once for all its tests.
+# If tools/scripts.sh sets TPMSIM_BUILT to a folder, everything is built once for all its tests.
 built=${TPMSIM_BUILT:-$room/shared}/swtpm
 if [ ! -d "$built" ]; then
     mkdir -p "${built%/*}" && build "$room/new"
-    # Another test may have built them first.
+    # Another test may have built the files first.
     mv -T "$room/new" "$built" 2>"$room/moved" || rm -r "$room/new"
 fi
 cp -R "$built/." "$room" || exit 1
 
-# spell: prints the lines of standard input. A command in words, `do WORDS`, is replaced by its buffer.
+# spell: copies standard input to standard output. Replaces each command in words, `do WORDS`, with its buffer
+# in hex.
 spell() {
     awk -v assemble="$assemble" '
         $1 == "do" {
@@ -46,8 +47,8 @@ spell() {
     '
 }
 
-# play: plays the lines of standard input with libtpms.so.0, and prints the output. It also plays them with
-# sanitizers, in a copy of the folder; the output has to be the same.
+# play: executes the lines of standard input with libtpms.so.0, and prints the output. Also executes them with
+# sanitizers, in a copy of the folder, and checks that the output is the same.
 play() {
     spell >"$room/lines"
     rm -rf "$room/again"

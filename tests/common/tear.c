@@ -1,7 +1,7 @@
-/* Replaces the functions of the C library by which the program reaches files, sockets and the
- * clock. Call number AT fails with the error ERROR. If ERROR is 0 and the call moves bytes, the
- * call moves half of them. If WAIT_FOR is set, the call first waits until a file of that name
- * exists. For each call, the file CALLS gets a line with the function and its file. AT, ERROR,
+/* Replaces the functions of the C library with which the program accesses files, sockets and the
+ * clock. Call number AT fails with the error ERROR. If ERROR is 0 and the call transfers bytes, it
+ * transfers only half of them. If WAIT_FOR is set, the call first waits until a file of that name
+ * exists. Each call adds a line with the function and the file to the file CALLS. AT, ERROR,
  * WAIT_FOR and CALLS are environment variables. */
 #define _GNU_SOURCE
 #include <dlfcn.h>
@@ -38,7 +38,7 @@ static int is_the_one(const char *call, const char *file) {
     return 1;
 }
 
-/* Returns whether this call has to fail; if so, sets errno. */
+/* Returns whether this call must fail. If so, sets errno. */
 static int fails(const char *call, const char *file) {
     int error = atoi(getenv("ERROR"));
     if (!is_the_one(call, file) || error == 0) return 0;
@@ -59,8 +59,8 @@ static const char *name_of(int file, char *room, size_t size) {
     return slash ? slash + 1 : room;
 }
 
-/* Returns the number of bytes that a call must move, or -1 if the call has to fail. Standard
-   error is left alone. */
+/* Returns the number of bytes that a call must transfer, or -1 if the call must fail. Calls on
+   standard error do not count. */
 static ssize_t left_of(const char *call, int file, size_t size) {
     char room[256];
     if (file == 2) return size;
@@ -113,7 +113,8 @@ int fsync(int file) {
     return NEXT(int (*)(int), "fsync")(file);
 }
 
-/* The four functions below are for a device in a folder. No run of these tests has one. */
+/* Only a device in a folder calls the next four functions, and no run of these tests has such a
+ * device. */
 ssize_t pread(int file, void *bytes, size_t size, off_t place) {
     ssize_t left = left_of("pread", file, size);
     return left < 0

@@ -1,31 +1,32 @@
-/* The common part of shims for many runs of a program. The process stops before its `main`. It reads
- * turns from the socket TURNS, a variable of the environment that has its number. For each it forks: the
- * fork goes on to `main`, and the process writes back how it ended. That saves half of the time that
- * loading the program again would take. */
+/* The common part of the shims for many runs of a program. The process stops before its `main`, and
+ * reads turns from a socket, whose number is in the environment variable TURNS. For each turn it
+ * forks. The child continues with `main`, and the process reports how the child ended. This halves
+ * the time of a run. */
 #include <stdlib.h>
 #include <sys/mman.h>
 #include <sys/socket.h>
 #include <sys/wait.h>
 #include <unistd.h>
 
-/* A run is ended after this many seconds. */
+/* The maximum duration of a run, in seconds. */
 enum { AT_MOST = 60 };
 
-/* Two numbers, whose meaning depends on the shim, and the last word of the command line, if the turn
- * has more than the numbers. */
+/* A turn: two numbers, whose meaning depends on the shim; and the last word of the command line, if
+ * the turn contains it. */
 static struct {
     long first, second;
     char word[1 << 16];
 } turn;
 
-/* How a run ended, as waitpid reports it, and whether its shim has marked it. */
+/* The status of a run that has ended, as waitpid reports it, and whether the shim has marked the
+ * run. */
 struct report {
     int status, is_marked;
 };
 
 static struct report *report;
 
-/* Reports a run after it has ended. */
+/* Waits until a run has ended, and reports it. */
 static void report_end(int turns, pid_t run) {
     if (run < 0 || waitpid(run, &report->status, 0) != run) abort();
     if (send(turns, report, sizeof *report, 0) != sizeof *report) abort();

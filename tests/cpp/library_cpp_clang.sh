@@ -1,4 +1,4 @@
-# Compiles tpmsim.hpp with clang++, with sanitizers: devices.cpp.
+# Compiles devices.cpp, which uses tpmsim.hpp, with clang++ and sanitizers.
 tests=$(cd "$(dirname "$0")/.." && pwd -P)
 . "$tests/common/cases.sh"
 . "$tests/common/library.sh"

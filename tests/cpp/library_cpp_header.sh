@@ -1,5 +1,5 @@
-# Compiles tpmsim.hpp with g++, with sanitizers: devices.cpp, and the program of docs/LIBRARY.md. The header
-# in dist/ is the same as the source.
+# Compiles devices.cpp and the program of docs/LIBRARY.md, which use tpmsim.hpp, with g++ and sanitizers. Also
+# checks that the header in dist/ is the same as its source.
 tests=$(cd "$(dirname "$0")/.." && pwd -P)
 . "$tests/common/cases.sh"
 . "$tests/common/library.sh"

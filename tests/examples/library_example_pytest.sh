@@ -1,5 +1,5 @@
 # Runs pytest in examples/pytest, a project in Python whose tests use devices. Runs it once more with a device
-# that the CI job has started.
+# that was started as in a CI job.
 tests=$(cd "$(dirname "$0")/.." && pwd -P)
 . "$tests/common/cases.sh"
 . "$tests/common/library.sh"
@@ -9,7 +9,7 @@ PYTHONDONTWRITEBYTECODE=1
 export TPMSIM_LIBRARY PYTHONDONTWRITEBYTECODE
 cp -r "$tests/../examples/pytest" project
 
-# play: prints the last line of pytest, without the time.
+# play: runs pytest, and prints the last line of its output, without the time.
 play() {
     (cd project && pytest-3 -q -p no:cacheprovider -p tpmsim.pytest_plugin >../said 2>&1) || cat said
     tail -n 1 said | sed 's/ in .*//'

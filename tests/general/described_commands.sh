@@ -1,7 +1,7 @@
 # Compares the description of the commands, python/tpmsim/standard/commands.py, with the program, fact by
 # fact: by TPM2_GetCapability, `tpmsim asm`, `tpmsim line`, and the responses to commands. For each kind of
-# fact a line says how often the program was asked. Then facts are described wrongly, and the comparison has
-# to find each mistake.
+# fact, prints how often the program was asked. Then facts are described wrongly, and the comparison must find
+# each mistake.
 tests=$(cd "$(dirname "$0")/.." && pwd -P)
 . "$tests/common/cases.sh"
 needs python3

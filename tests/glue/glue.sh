@@ -1,6 +1,6 @@
-# Tests the glue: nine functions in C that proved code calls. The kit has them compiled for x86-64, and ours
-# are for other machines. Both must do the same for the same calls, on this machine. Ours must do so on ARM64
-# too.
+# Tests the glue: nine functions in C that proved code calls. The kit contains a compiled version for x86-64,
+# and glue/ contains a version for other machines. Both versions must do the same for the same calls on this
+# machine, and the version in glue/ also on ARM64.
 tests=$(cd "$(dirname "$0")/.." && pwd -P)
 . "$tests/common/cases.sh"
 needs cc
@@ -9,14 +9,14 @@ kit=${rattle%/bin/*}
 glue=${tests%/*}/glue
 flags='-std=c11 -O2 -Wall -Wextra -Werror -Wconversion'
 
-# play NAME RUNNER COMPILER SOURCES..: compiles the calls with one glue, and keeps their output. Argument 0,
-# the program's own name, is the same with each glue.
+# play NAME RUNNER COMPILER SOURCES..: compiles the calls with one version of the glue, and stores their
+# output. Argument 0, the program's own name, is the same for each version.
 play() {
     name=$1
     runner=$2
     compiler=$3
     shift 3
-    # shellcheck disable=SC2086 # they are words
+    # shellcheck disable=SC2086 # word splitting is intended
     mkdir "$name" && "$compiler" $flags -I"$glue" -o "$name/calls" "$tests/glue/glue_calls.c" "$@" &&
         (cd "$name" && $runner ./calls '' four eightish) >"$name.said" || echo "$name: status $?"
 }

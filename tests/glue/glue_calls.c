@@ -1,5 +1,5 @@
-/* Calls each function of the glue, and prints what it does. The output is the same with the
-   kit's functions and with ours. */
+/* Calls each function of the glue, and prints what it does. The output is the same with the kit's
+   functions and with those of glue/. */
 #define _GNU_SOURCE
 #include "glue.h"
 #include <errno.h>
@@ -31,8 +31,8 @@ static void try_sizes(void) {
     }
 }
 
-/* Makes a block grow, shrink, and fail to grow. It keeps its first bytes, which are written
-   once. */
+/* Makes a block grow, shrink, and fail to grow. Its first bytes, which are written only at the
+   beginning, stay unchanged. */
 static void try_growing(void) {
     static const size_t sizes[] = {1 << 20, 7, 3, 5000, 0, 16};
     size_t kept = 5;
@@ -88,7 +88,7 @@ static void try_environment(void) {
         }
 }
 
-/* Reads an empty pipe that does not wait, and makes it wait again. */
+/* Reads from an empty non-blocking pipe, and makes it blocking again. */
 static void try_descriptors(void) {
     int ends[2];
     char byte;

@@ -4,8 +4,8 @@ tests=$(cd "$(dirname "$0")/.." && pwd -P)
 . "$tests/common/cases.sh"
 . "$tests/common/served.sh"
 
-# before LINE..: runs these commands on a new image, and prints the responses. after LINE..: does so on the
-# present image.
+# before LINE..: runs these commands on a new image, and prints the responses. after LINE..: runs these
+# commands on the existing image.
 before() {
     rm -f image
     after "$@"

@@ -1,5 +1,6 @@
-# Only one of the runs on an image continues. Another run ends with `tpmsim: file`, and changes nothing. A run
-# that cannot use its image or its random bytes reports that at once, even if it would otherwise wait.
+# Checks that only one run at a time can use an image. Another run ends with `tpmsim: file`, and changes
+# nothing. A run that cannot use its image or its random bytes reports that at once, without waiting for
+# input.
 tests=$(cd "$(dirname "$0")/.." && pwd -P)
 . "$tests/common/cases.sh"
 . "$tests/common/served.sh"
@@ -10,7 +11,7 @@ echo 'do Startup 0' >script
 printf 'do Startup 0\ndo %s\n' "$change" >asks
 mkfifo lines
 
-# script_begins: plays a script on the image. The script gets one line, and waits for more.
+# script_begins: plays a script on the image. The run executes one line, and waits for more.
 script_begins() {
     "$program" run --image image - <lines >"$room/first" 2>&1 &
     exec 3>lines
@@ -18,7 +19,7 @@ script_begins() {
     until [ -s "$room/first" ]; do sleep 0.01; done
 }
 
-# device_begins CONNECTIONS: serves a device from the image.
+# device_begins CONNECTIONS: serves this number of connections with the image's device.
 device_begins() {
     "$program" serve --socket socket --image image --entropy entropy --locality 0 \
         --connections "$1" >"$room/first" 2>&1 &
@@ -39,14 +40,14 @@ script_ends() {
     ends 'that script'
 }
 
-# serve LABEL IMAGE: serves no connection, with a socket of its own.
+# serve LABEL IMAGE: runs `serve` on this image for no connections, with a separate socket.
 serve() {
     run "$1" serve --socket own --image "$2" --entropy entropy --locality 0 --connections 0
     [ ! -e own ] || echo '    its socket is there'
 }
 
-# others LABEL: prints the results of other runs on the image, while one run has it. That run and the file
-# image.new stay unchanged.
+# others LABEL: prints the results of other runs on the image while one run uses it. They must change neither
+# that run nor the file image.new.
 others() {
     echo left >image.new
     [ ! -e image ] || stat -c '%i %y' image >"$room/before"
@@ -59,7 +60,7 @@ others() {
     echo "    at image.new: $(cat image.new)"
 }
 
-# A run that plays a script has the image.
+# A run that plays a script locks the image.
 rm -f image
 script_begins
 others 'a script is played'
@@ -67,7 +68,7 @@ script_ends
 [ ! -e image.new ] || echo 'image.new is there'
 run 'what it was told is there' run --image image asks
 
-# A run that serves the device has the image, even before the image exists.
+# A run that serves the device locks the image, even before the image exists.
 rm image
 device_begins 2
 others 'a device is served'
@@ -92,7 +93,7 @@ for kind in script device; do
     rm -rf socket .0
 done
 
-# If many runs begin at once, one of them continues.
+# If many runs begin at the same time, only one of them continues.
 rm image
 exec 3<>lines
 for number in 1 2 3 4 5 6 7 8; do
@@ -105,7 +106,7 @@ wait
 cat "$room"/many* >"$room/many"
 echo "eight runs at once: $(told "$room/many")"
 
-# The lock's file is next to the image, and stays. It belongs only to its owner, and is empty.
+# The lock file is next to the image, and remains there. Only its owner may access it, and it is empty.
 rm -f image*
 (umask 000 && run 'a new device' run --image image script)
 stat -c '%n %A %s' image*
@@ -124,7 +125,7 @@ run 'a link to nowhere in place of the lock' run --image image script
 [ ! -e nowhere ] || echo 'nowhere is there'
 rm image.lock
 
-# A link to an image is an image of its own. The first save replaces the link by a file.
+# A link to an image counts as a separate image. The first save replaces the link with a file.
 script_begins
 ln -s image link
 run 'a link to the image that a script has' run --image link script
@@ -132,7 +133,7 @@ stat -c '%n %F' link
 script_ends
 rm link link.lock
 
-# A path that is not a regular file is not an image. No lock is made for it.
+# A path that is not a regular file is not an image. No lock file is made for it.
 mkfifo pipe
 mkdir folder
 ln -s /dev/zero device
@@ -142,10 +143,10 @@ for kind in pipe folder device link listener folder/ missing/ missing/image ''; 
     run "the image '$kind', a script" run --image "$kind" script
     serve "the image '$kind', a served device" "$kind"
 done
-# shellcheck disable=SC2012 # the names are known
+# shellcheck disable=SC2012 # the file names are known
 echo "all that is there: $(ls -A | tr '\n' ' ')"
 
-# A folder has no random bytes to read. A pipe has those that are written to it, as soon as somebody writes.
+# Random bytes cannot be read from a folder. They can be read from a pipe as soon as somebody writes to it.
 run 'a folder of random bytes, a script' run --image image --entropy folder script
 run 'a folder of random bytes, a new device' run --image new --entropy folder script
 run 'a folder of random bytes, a served device' serve --socket own --image image --entropy folder \

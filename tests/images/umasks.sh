@@ -1,6 +1,6 @@
-# Checks the modes of the files that the program makes: an image with its lock, a log, the socket, and the state of a
-# kept device. Only their owner may read and write them, whatever the umask. Otherwise the owner's next run would have
-# no device, unless the owner is root.
+# Checks the modes of the files that the program makes: an image with its lock, a log, the socket, and the
+# state of a kept device. Their owner, and nobody else, may read and write them, whatever the umask. Without
+# these permissions the owner's next run would have no device, unless the owner is root.
 tests=$(cd "$(dirname "$0")/.." && pwd -P)
 . "$tests/common/cases.sh"
 needs python3

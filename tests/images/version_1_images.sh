@@ -1,5 +1,5 @@
-# Images of version 1, which are kept as bytes in tests/images/version_1. The program that opens one gives the
-# responses of the device in Python, and saves the same device.
+# Opens images of version 1, which are stored as hex in tests/images/version_1. The program must return the
+# same responses as the device in Python, and save the same device.
 tests=$(cd "$(dirname "$0")/.." && pwd -P)
 . "$tests/common/cases.sh"
 needs python3

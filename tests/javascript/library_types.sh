@@ -1,11 +1,12 @@
-# Checks the types of the package for JavaScript: those in the comments of its sources, and index.d.ts. The
-# sources have the types that index.d.ts declares. In a program that uses it, the marked lines are refused.
+# Checks the types of the JavaScript package: the types in the comments of its sources, and index.d.ts. The
+# sources have the types that index.d.ts declares. In a program that uses the package, the marked lines are
+# refused.
 tests=$(cd "$(dirname "$0")/.." && pwd -P)
 . "$tests/common/cases.sh"
 . "$tests/common/javascript.sh"
 needs tsc
 
-# types LABEL FILE WORDS..: prints whether a file has no type errors.
+# types LABEL FILE WORDS..: prints whether a file is free of type errors.
 types() {
     label=$1
     shift

@@ -1,7 +1,7 @@
-/* Replaces the functions of the C library by which a host changes its folder, and logs each
- * change. The environment variable DISK_LOG names the log. It gets a line for each change, with
- * the path and the file's number. LD_PRELOAD loads this library. A caller in the same process
- * calls disk_logs before and after the calls that count. */
+/* Replaces the functions of the C library with which a host changes its folder, and logs each
+ * change. The environment variable DISK_LOG names the log. Each change adds a line with the path
+ * and the inode number. LD_PRELOAD loads this library. A caller in the same process calls disk_logs
+ * to switch the log on and off. */
 #define _GNU_SOURCE
 #include <errno.h>
 #include <fcntl.h>
@@ -25,7 +25,7 @@ __attribute__((constructor)) static void begins(void) {
     if (told) disk_logs(told);
 }
 
-/* Adds a line that ends with these bytes in hex. */
+/* Adds a line to the log that ends with these bytes in hex. */
 static void note(const char *line, const unsigned char *bytes, size_t size) {
     int error = errno, file;
     char *hex = malloc(2 * size + 2);
@@ -41,11 +41,11 @@ static void note(const char *line, const unsigned char *bytes, size_t size) {
     errno = error;
 }
 
-/* Adds a line on behalf of the caller. */
+/* Adds the caller's own line to the log. */
 void disk_marks(const char *line);
 void disk_marks(const char *line) { note(line, NULL, 0); }
 
-/* Logs the change of an open file, unless it failed. */
+/* Logs a change of an open file, unless the change failed. */
 static void note_file(long done, const char *what, int file, long number,
                       const unsigned char *bytes, size_t size) {
     char link[64], path[PATH_BYTES], line[LINE_BYTES];
@@ -60,7 +60,7 @@ static void note_file(long done, const char *what, int file, long number,
     note(line, bytes, size);
 }
 
-/* Writes the path of a name in an open folder, or in the working folder. */
+/* Writes the full path of a name that is relative to an open folder or to the working folder. */
 static void path_of(int folder, const char *name, char path[PATH_BYTES]) {
     char link[64];
     if (name[0] == '/') {

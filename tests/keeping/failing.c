@@ -1,10 +1,10 @@
-/* Replaces the functions of the C library by which a host of a kept device reaches its folder,
- * the clock, random bytes and memory. The call of one number has one of the faults below.
- * LD_PRELOAD loads this library. A program reads the environment variable FAILING: `NUMBER ACT
- * ERROR REPORT`. A caller in the same process calls failing_begins, and it calls failing_goes_on
- * before and after the calls that count. The name of the call with the fault is written to the
- * file REPORT. If FAILING_CLOCK is set, the clock jumps, by at most a day. If FAILING_IN is set,
- * only calls count that name a path in this folder, or a file that is open there. */
+/* Replaces the functions of the C library with which a host of a kept device accesses its folder,
+ * the clock, random bytes and memory. One call, chosen by its number, gets one of the faults below.
+ * LD_PRELOAD loads this library. The environment variable FAILING is `NUMBER ACT ERROR REPORT`. A
+ * caller in the same process calls failing_begins instead, and failing_goes_on before and after the
+ * calls that count. The name of the call with the fault is written to the file REPORT. If
+ * FAILING_CLOCK is set, the clock jumps by at most a day. If FAILING_IN is set, a call counts only
+ * if it is on a path in this folder or on an open file there. */
 #define _GNU_SOURCE
 #include <errno.h>
 #include <fcntl.h>
@@ -42,7 +42,7 @@ static int error, is_on, jumps;
 static long number, counted;
 static char report[512], met[32], object[64];
 static const char *within;
-/* The addresses of an object. Only its calls for memory count. */
+/* The address range of a loaded object. Allocations count only if this object requests them. */
 static char *object_begins, *object_ends;
 
 static int is_object(struct dl_phdr_info *info, size_t size, void *unused) {
@@ -61,11 +61,12 @@ static int is_object(struct dl_phdr_info *info, size_t size, void *unused) {
 void failing_goes_on(int goes_on);
 void failing_goes_on(int goes_on) { is_on = goes_on; }
 
-/* Sets whether the clock jumps, for a caller in the same process. */
+/* Sets whether the clock jumps. For callers in the same process. */
 void failing_jumps(int does_jump);
 void failing_jumps(int does_jump) { jumps = does_jump; }
 
-/* Sets the fault of call number `at`. `from` is part of an object's name; "" is the program. */
+/* Sets the fault of call number `at`. `from` is a part of the name of the object whose allocations
+ * count; "" means the program. */
 void failing_begins(long at, int how, int with, const char *path, const char *from);
 void failing_begins(long at, int how, int with, const char *path, const char *from) {
     number = at;
@@ -110,7 +111,7 @@ static int may_meet(int kind, const void *caller) {
     return !(kind & CLOSES && (act == FAILS || act == FAILS_ON));
 }
 
-/* Returns the path of an open file, if only the calls of a folder count. */
+/* Returns the path of an open file, or "" if calls in all folders count. */
 static const char *path_of(int file) {
     static char path[512];
     char link[32];
@@ -126,7 +127,7 @@ static int is_within(const char *path) {
     return !within || (strncmp(path, within, size) == 0 && (path[size] == '/' || !path[size]));
 }
 
-/* Returns the fault of this call. */
+/* Counts this call, and returns its fault. */
 static enum act meets(const char *name, int kind, const char *of, const void *caller) {
     if (!is_on || act == PASSES || !may_meet(kind, caller) || !is_within(of)) return PASSES;
     long at = ++counted;
@@ -164,8 +165,8 @@ static size_t half(enum act how, size_t size) {
 
 #define CALL(type, name, kind, of, words, real) type name words MET(type, #name, kind, of, real)
 
-/* Defines a call twice: with its own name, and with its name for large files. The header
-   declares that name with other types. */
+/* Defines a function twice: with its own name, and with its name for large files, which the header
+   declares with other types. */
 #define CALL_TWICE(type, name, kind, of, words, real)                                              \
     CALL(type, name, kind, of, words, real)                                                        \
     type large_##name words __asm__(#name "64");                                                   \
@@ -225,7 +226,7 @@ CALL(ssize_t, getrandom, MOVES | WAITS, "", (void *bytes, size_t size, unsigned 
 CALL(int, madvise, OTHER, "", (void *page, size_t size, int advice),
      syscall(SYS_madvise, page, size, advice))
 
-/* Calls on the standard streams do not count: they belong to the caller. */
+/* Calls on the standard streams do not count, since those belong to the caller. */
 ssize_t read(int file, void *bytes, size_t size) {
     enum act how = file < 3 ? PASSES : meets("read", MOVES | WAITS, path_of(file), NULL);
     if (is_refused(how)) return -1;

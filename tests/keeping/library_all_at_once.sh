@@ -1,5 +1,5 @@
-# Hosts of each kind hold one device at once. They are killed, fork and are interrupted, and clocks jump.
-# all_at_once.py does that with a few processes and with 40.
+# Hosts of each kind hold one device at the same time. They are killed and interrupted, they fork, and their
+# clocks jump. all_at_once.py does this with a few processes and with 40.
 tests=$(cd "$(dirname "$0")/.." && pwd -P)
 . "$tests/common/cases.sh"
 . "$tests/common/library.sh"

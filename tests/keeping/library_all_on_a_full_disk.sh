@@ -1,8 +1,8 @@
-# Does the same as library_all_at_once.sh on a disk that is full now and then. The disk is mounted only for
-# this test, by root or by a user who may be root in a namespace.
+# Does the same as library_all_at_once.sh on a disk that is sometimes full. The disk is mounted only for this
+# test, by root or by a user who may be root in a namespace.
 if [ -z "${own_mounts:-}" ]; then
     for user in '' '--user --map-root-user'; do
-        # shellcheck disable=SC2086 # it is two words, or none
+        # shellcheck disable=SC2086 # word splitting is intended
         ! unshare $user --mount true 2>/dev/null ||
             own_mounts=yes exec unshare $user --mount sh "$0" "$@"
     done

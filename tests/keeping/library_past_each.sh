@@ -1,4 +1,4 @@
-# Makes each call of a power cycle that keeps finished journals fail in turn: past_each.py.
+# Makes each call of a power cycle that keeps finished journals fail in turn. See past_each.py.
 tests=$(cd "$(dirname "$0")/.." && pwd -P)
 . "$tests/common/cases.sh"
 . "$tests/common/library.sh"

@@ -1,5 +1,5 @@
-# In swtpm with this repository's libtpms.so.0, makes one call on the files of its states fail, fail after its effect,
-# or do half of its work, or kills swtpm at it: swtpm_states.py. One of ten runs is made.
+# In swtpm with this repository's libtpms.so.0, makes one call on its state files fail, fail after its effect,
+# or do half of its work, or kills swtpm at that call. swtpm_states.py makes every tenth of the runs.
 tests=$(cd "$(dirname "$0")/.." && pwd -P)
 . "$tests/common/cases.sh"
 . "$tests/common/library.sh"

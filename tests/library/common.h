@@ -1,4 +1,4 @@
-/* The common part of the library's callers: hex, commands, and failures with a reason. */
+/* Functions that the library's test programs share: hex, commands, and failures with a reason. */
 #ifndef COMMON_H
 #define COMMON_H
 #include "tpmsim.h"
@@ -6,7 +6,7 @@
 #include <stdlib.h>
 #include <string.h>
 
-/* FILLED is the byte that fills a buffer before a call, to show what the call writes. */
+/* FILLED is the byte with which a buffer is filled before a call, to show what the call writes. */
 enum { RANDOM_BYTES = 256, RESPONSE_BYTES = 4096, FILLED = 0xa5 };
 
 /* TPM2_Startup(CLEAR), and TPM2_GetRandom of sixteen bytes. */
@@ -34,12 +34,12 @@ static inline int is_filled(const uint8_t *room, size_t size) {
     return size == 0 || (room[0] == FILLED && memcmp(room, room + 1, size - 1) == 0);
 }
 
-/* The random bytes of a test: they count up from this one. */
+/* Writes the random bytes of a test, which count up from the byte `first`. */
 static inline void count_up(uint8_t random[RANDOM_BYTES], uint8_t first) {
     for (int i = 0; i < RANDOM_BYTES; i++) random[i] = (uint8_t)(first + i);
 }
 
-/* The response code of a response, which begins with a tag of two bytes and a size of four. */
+/* Returns the code of a response, which follows the tag of two bytes and the size of four bytes. */
 static inline uint32_t code_of(const uint8_t *response) {
     return (uint32_t)response[6] << 24 | (uint32_t)response[7] << 16 | (uint32_t)response[8] << 8 |
            response[9];
@@ -61,7 +61,7 @@ static inline uint8_t digit_of(char digit) {
     return (uint8_t)(digit - 'a' + 10);
 }
 
-/* Reads hex, and returns its size in bytes. */
+/* Decodes hex, and returns the number of decoded bytes. */
 static inline size_t hex_bytes(const char *hex, uint8_t *bytes) {
     size_t size = strlen(hex) / 2;
     for (size_t i = 0; i < size; i++)
@@ -69,7 +69,7 @@ static inline size_t hex_bytes(const char *hex, uint8_t *bytes) {
     return size;
 }
 
-/* Executes a command at locality 0 with no elapsed time. The call must succeed. */
+/* Executes a command at locality 0, with no elapsed time. The call must succeed. */
 static inline struct tpmsim_answered answered_by(struct tpmsim *device, const uint8_t *buffer,
                                                  size_t size, uint8_t *response) {
     struct tpmsim_answered answered;

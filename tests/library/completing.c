@@ -1,5 +1,5 @@
 /* Executes commands for a journal with and without the completing layer. Opens the journal in
- * another handle, and continues there. Prints the response each time. Then does the same without
+ * another handle, and continues with that handle. Prints each response. Then does the same without
  * a journal, and continues in another handle from a state text. */
 #include "common.h"
 #include "tpmsim.h"
@@ -36,7 +36,7 @@ static void begin(void) {
     must(text_size > 0 && text_size <= sizeof text, "the head does not fit");
 }
 
-/* Executes a command, adds its record to the text, and prints its response code. */
+/* Executes a command, appends its record to the journal's text, and prints its response code. */
 static void execute(const char *name, uint8_t completes, const uint8_t *buffer, size_t size) {
     static uint8_t record[TPMSIM_RECORD_ROOM], random_bytes[RANDOM_BYTES];
     tpmsim_answered answered;
@@ -51,8 +51,8 @@ static void execute(const char *name, uint8_t completes, const uint8_t *buffer, 
     printf("%s: %03x, %zu drawn\n", name, (unsigned)code_of(response), answered.drawn);
 }
 
-/* Reads at most five values of a capability, beginning with this property. Prints in hex what
- * follows the response's header and moreData. */
+/* Reads at most five values of a capability, beginning with this property. Prints them in hex,
+ * without the response's header and moreData. */
 static void list(const char *name, uint8_t completes, uint32_t capability, uint32_t property) {
     uint8_t command[] = {0x80, 1, 0, 0, 0, 22, 0, 0, 1, 0x7a, 0, 0, 0, 0, 0, 0, 0, 0, 0, 0, 0, 5};
     for (int i = 0; i < 4; i++) {
@@ -66,7 +66,7 @@ static void list(const char *name, uint8_t completes, uint32_t capability, uint3
     putchar('\n');
 }
 
-/* Lists the capabilities of the device and those of the layer itself. */
+/* Lists capabilities with the completing layer and without it. */
 static void list_capabilities(void) {
     list("commands from ContextLoad on", 1, 2, 0x161);
     list("commands from StirRandom on, without the layer", 0, 2, 0x146);
@@ -83,7 +83,7 @@ static void list_capabilities(void) {
     list("algorithms, without the layer", 0, 0, 0);
 }
 
-/* Executes a command with the layer, and prints its response without the header. */
+/* Executes a command with the completing layer, and prints its response without the header. */
 static void show(const char *name, const uint8_t *buffer, size_t size) {
     execute(name, 1, buffer, size);
     printf("  ");
@@ -91,7 +91,7 @@ static void show(const char *name, const uint8_t *buffer, size_t size) {
     putchar('\n');
 }
 
-/* Takes the context from the response to TPM2_ContextSave. */
+/* Copies the context from the response to TPM2_ContextSave. */
 static void take_context(void) {
     context_size = (size_t)(response[4] << 8 | response[5]) - 10;
     must(context_size <= sizeof context, "a context is too long");
@@ -135,7 +135,7 @@ static void swap_handles(void) {
     other = before;
 }
 
-/* Opens the text in the other handle, and continues with it. */
+/* Opens the journal in the other handle, and continues with that handle. */
 static void open_other(void) {
     size_t size_taken;
     uint8_t told = tpmsim_journal_open(&other, text, text_size, &size_taken);
@@ -159,8 +159,8 @@ static void complete_load(const char *name) {
     complete(name, command, load_command(command));
 }
 
-/* Loads a context, which was saved before a snapshot, in the device that is restored from the
-   snapshot. It can be loaded once. */
+/* Saves a context before a snapshot, and loads it in the device that is restored from the snapshot.
+   It can be loaded only once. */
 static void restore_other(void) {
     complete("a session without a journal", START_SESSION, sizeof START_SESSION);
     complete("its context", SAVE_SESSION, sizeof SAVE_SESSION);
@@ -172,7 +172,7 @@ static void restore_other(void) {
     complete_load("loaded twice");
 }
 
-/* Saves a session. It is listed as saved, and cannot be saved again. */
+/* Saves a session, which is then listed as saved and cannot be saved again. */
 static void save_session(void) {
     execute("a session", 1, START_SESSION, sizeof START_SESSION);
     save("its context", SAVE_SESSION, sizeof SAVE_SESSION);
@@ -187,8 +187,8 @@ static void save_session(void) {
     execute("its context once more", 1, SAVE_SESSION, sizeof SAVE_SESSION);
 }
 
-/* Fills the slots. The context of a flushed object can be loaded when a slot is free, also by a process that
-   opens the journal later. */
+/* Fills the slots. The context of a flushed object can be loaded when a slot is free, even after
+   the journal was opened in another handle. */
 static void fill_slots(void) {
     execute("the context of no object", 1, SAVE_OBJECT, sizeof SAVE_OBJECT);
     for (int place = 0; place < OBJECTS; place++)
@@ -208,7 +208,7 @@ static void fill_slots(void) {
     load("loaded, where no slot is free");
 }
 
-/* Changes the byte of the last record's mark that records whether the layer was on. */
+/* Changes the byte in the last record's mark that says whether the layer was on. */
 static void turn_flag(void) {
     size_t at = text_size, size_taken;
     while (text[at - 1] != '#') at--;

@@ -1,6 +1,6 @@
-/* Makes many devices in a process: 1,000 at the same time, each independent. Their memory is
- * freed. The first argument is the number of devices. With a second argument the program prints
- * how much memory the allocator has in use, which sanitizers do not report. */
+/* Makes many devices in one process, 1,000 at the same time. The devices are independent, and their
+ * memory is freed. The first argument is the number of devices. With a second argument the program
+ * prints how much memory the allocator has in use, which sanitizers do not report. */
 #include "common.h"
 #include <malloc.h>
 
@@ -24,14 +24,14 @@ static void extend(struct tpmsim *device, unsigned number) {
     must(answered_by(device, buffer, EXTEND_BYTES, response).check == 0, "no PCR is extended");
 }
 
-/* Writes the value of PCR 10. */
+/* Reads the value of PCR 10. */
 static void read_pcr(struct tpmsim *device, uint8_t value[DIGEST_BYTES]) {
     struct tpmsim_answered it = answered_by(device, READ, READ_BYTES, response);
     must(it.check == 0 && it.size == VALUE_AT + DIGEST_BYTES, "a PCR is not read");
     memcpy(value, response + VALUE_AT, DIGEST_BYTES);
 }
 
-/* Computes the value of PCR 10 after the same commands on a single device. */
+/* Computes the expected value of PCR 10, with a device that runs alone. */
 static void value_alone(unsigned number, uint8_t value[DIGEST_BYTES]) {
     struct tpmsim alone = {0};
     start_new(&alone, 1);

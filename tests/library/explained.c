@@ -1,8 +1,8 @@
-/* A caller in C that logs the commands that it executes, by the functions of docs/LIBRARY.md:
+/* Executes commands and logs them, with the functions of docs/LIBRARY.md:
 
        explained LOG
 
-   The second read of an index has another password than the index. */
+   The second read of an index uses a wrong password. */
 #include "common.h"
 #include "log_in_c.h"
 

@@ -1,6 +1,5 @@
-/* Begins a journal, executes two commands for it, opens and follows it, and begins it again with
- * a checkpoint. Prints the result each time, and whether each call keeps to the stack limit of
- * tpmsim.h. */
+/* Begins a journal, executes two commands for it, opens and follows it, and begins it again with a
+ * checkpoint. Prints each result, and whether each call observes the stack limit of tpmsim.h. */
 #define _GNU_SOURCE
 #include "common.h"
 #include "tpmsim.h"
@@ -26,7 +25,7 @@ static void *begin(void *unused) {
     return unused;
 }
 
-/* Writes a checkpoint. The host's time differs much from the journal's. */
+/* Writes a checkpoint. The host's time differs greatly from the journal's time. */
 static void *checkpoint(void *unused) {
     text_size = tpmsim_journal_checkpoint(&device, now + 1000 * WAITED, text, sizeof text);
     told = TPMSIM_DONE;
@@ -50,7 +49,7 @@ static void *follow(void *unused) {
     return unused;
 }
 
-/* Returns the size of the stack that a call uses in a thread of its own, in bytes. */
+/* Runs a call in a thread of its own, and returns the number of bytes of stack that it uses. */
 static size_t stack_of(void *(*call)(void *)) {
     pthread_attr_t attributes;
     pthread_t thread;
@@ -94,7 +93,7 @@ static void compare(const char *name) {
     printf("%s: %s\n", name, is_same ? "the same device" : "ANOTHER DEVICE");
 }
 
-/* Prints whether the head has the expected clock, after its first words. */
+/* Prints whether the journal's head has the expected clock, which follows its first words. */
 static void show_clock(const char *name, uint64_t wanted) {
     char digits[17] = "";
     memcpy(digits, text + strlen("# tpmsim journal 2 "), sizeof digits - 1);
@@ -108,7 +107,7 @@ static void check_small(void) {
     compare("a checkpoint that does not fit");
 }
 
-/* Opens a device from a checkpoint. It is the same device, and continues in the same way. */
+/* Opens a device from a checkpoint. It has the same state, and continues in the same way. */
 static void check_checkpoints(void) {
     memset(text, FILLED, sizeof text);
     remember();

@@ -1,6 +1,6 @@
-/* Hosts keep a device in a folder, in memory and in files. Prints the tasks that each call gives
- * to its host. Checks that the device always has executed exactly the answered commands,
- * whichever host was killed. */
+/* Tests hosts that keep a device in a folder, which is in memory or in the file system. Prints the
+ * tasks that each call requests from its host. Checks that the device has always executed exactly
+ * the answered commands, whichever host was killed. */
 #define _GNU_SOURCE
 #include "keeper_files.h"
 #include "keeper_known.h"
@@ -13,13 +13,13 @@ static memory folder, other_folder;
 static files disk;
 static host alive;
 
-/* Puts zeros after an incomplete record that a crash left. */
+/* Adds zeros to the journal, as a crash may. */
 static void litter(void) {
     memset(folder.journal.bytes + folder.journal.size, 0, 100);
     folder.journal.size += 100;
 }
 
-/* Kills a host before, in and after each task of EXTEND, and opens the device again. */
+/* Kills a host before, in or after each task of EXTEND in turn, and opens the device again. */
 static void kill_at_each(uint8_t force, extent how_much, int has_litter) {
     int count = 0, kills = 0;
     uint8_t fault = KILLED;
@@ -46,8 +46,8 @@ static void kill_at_each(uint8_t force, extent how_much, int has_litter) {
     tpmsim_keeper_free(&alive.keeper);
 }
 
-/* Kills a host at each task while it makes a device. Then there is a device or none, and the
- * next host can make one. */
+/* Kills a host at each task while it makes a device. Then there is a complete device or none, and
+ * the next host can make one. */
 static void kill_beginnings(void) {
     uint8_t fault = KILLED;
     for (int task = 0; fault == KILLED; task++) {
@@ -83,7 +83,7 @@ static void show_tasks(void) {
     }
 }
 
-/* Kills a host at each task while the journal is restarted. The device stays the same. */
+/* Kills a host at each task while it restarts the journal. The device stays the same. */
 static void kill_renewals(extent how_much) {
     uint8_t fault = KILLED;
     memset(&folder, 0, sizeof folder);
@@ -121,7 +121,7 @@ static void kill_at_limit(const memory *before, int count) {
     printf("killed %d times at the limit\n", kills);
 }
 
-/* Checks that the snapshot of a host is the head with which the journal begins. */
+/* Checks that a restarted journal consists of the head that TPMSIM_JOB_SHOW returns. */
 static void check_head(void) {
     is_done(host_run(&alive, TPMSIM_JOB_RENEW, host_text, 0), "no journal begins anew");
     printf("anew %s\n", alive.tasks);
@@ -152,7 +152,7 @@ static void check_limit(void) {
     kill_at_limit(&other_folder, count - 1);
 }
 
-/* Changes bytes of a journal, one at a time. The journal is refused, and stays as it is. */
+/* Changes single bytes of a journal. The journal is refused, and stays unchanged. */
 static void check_damage(void) {
     int refused = 0, tried = 0;
     memset(&folder, 0, sizeof folder);
@@ -203,7 +203,7 @@ static void check_none(void) {
     tpmsim_keeper_free(&none);
 }
 
-/* Makes a power cycle, and restores a state. Neither adds an entry to the journal. */
+/* Cycles the power, and restores a state. Neither adds an entry to the journal. */
 static void check_leaps(void) {
     static uint8_t state[TPMSIM_STATE_SIZE];
     tpmsim device = {0};
@@ -229,7 +229,8 @@ static void check_leaps(void) {
     tpmsim_keeper_free(&alive.keeper);
 }
 
-/* Makes each task of a call fail. The host then drops its device in memory, and opens it again. */
+/* Makes each task of a call fail. The host then discards its device in memory, and opens it
+ * again. */
 static void check_failures(void) {
     int count = 0;
     uint8_t fault = KILLED;
@@ -248,12 +249,13 @@ static void check_failures(void) {
     tpmsim_keeper_free(&alive.keeper);
 }
 
-/* The task of a call at which the host forks; the number of answered EXTENDs at that time; and
-   the child. */
+/* The task of a call at which the host forks; the number of EXTENDs executed by then; and the
+   child. */
 static int forked_at, expected;
 static pid_t child;
 
-/* The child that is forked in the middle of a call makes its own call, with its own lock. */
+/* The work of a child that is forked in the middle of a call. It makes its own call, with its own
+ * lock. */
 static void child_goes_on(host *it) {
     files_close(&disk.lock);
     it->does = files_do;
@@ -268,12 +270,13 @@ static seen files_fork(host *it, const tpmsim_ask *ask, const uint8_t *text) {
         child = fork();
         must(child >= 0, "no process");
         if (child == 0) child_goes_on(it);
-        poll(NULL, 0, 50); /* a child without the lock would be first */
+        poll(NULL, 0, 50); /* a child that did not lock would be first */
     }
     return files_do(it, ask, text);
 }
 
-/* Forks at each task of EXTEND after the lock is taken. Both commands are executed. */
+/* Forks at each task of EXTEND after the lock is taken. The commands of parent and child are both
+ * executed. */
 static void check_forks(int count) {
     int status, forks = 0;
     alive.does = files_fork;

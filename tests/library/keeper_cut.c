@@ -1,5 +1,5 @@
 /* Checks what a keeper reports about a command, the time of a command, what a keeper does with a
- * damaged journal, the calls that take no text, and the texts of its faults. */
+ * damaged journal, the calls without a text argument, and the texts of the keeper's faults. */
 #define _GNU_SOURCE
 #include "../common/same_state.h"
 #include "keeper_known.h"
@@ -11,7 +11,7 @@ enum { RECORDS = 5, EXTEND_FROM = 2 };
 
 static memory folder, before;
 static host alive;
-/* The size of the journal up to the end of each record. The first one is that of the head. */
+/* The size of the journal after its head, and after each of its records. */
 static size_t sizes[RECORDS + 1];
 
 static const uint8_t READ_CLOCK[] = {0x80, 1, 0, 0, 0, 10, 0, 0, 1, 0x81};
@@ -57,7 +57,7 @@ static void check_reports(void) {
     tpmsim_keeper_free(&alive.keeper);
 }
 
-/* ---- when a command comes */
+/* ---- the time of a command */
 
 static uint64_t time_of(uint8_t fault) {
     is_done(fault, "the clock is not read");
@@ -100,14 +100,14 @@ static void write_journal(void) {
     tpmsim_keeper_free(&alive.keeper);
 }
 
-/* Returns the number of records that end before a byte. */
+/* Returns the number of records that end at or before an offset. */
 static int records_before(size_t at) {
     int count = 0;
     while (count < RECORDS && sizes[count + 1] <= at) count++;
     return count;
 }
 
-/* Has a new host begin in a folder in which only this byte is changed. */
+/* Starts a new host in a folder in which one byte of the journal is changed. */
 static void turn(size_t at) {
     folder = before;
     folder.journal.bytes[at] ^= 1;
@@ -156,8 +156,8 @@ static void check_damage(void) {
     printf(", cut at each byte of %d records\n", RECORDS);
 }
 
-/* Kills a host at each task while it cuts a journal. Then the journal still has its damage, or
-   is the new one. */
+/* Kills a host at each task while it cuts a journal. Afterwards the folder contains either the
+   damaged journal or the new one. */
 static void check_kills(extent how_much) {
     uint8_t fault = KILLED;
     int kills = -1;
@@ -179,14 +179,14 @@ static void check_kills(extent how_much) {
     printf("cut: killed %d times %s a task\n", kills, how_much == ALL ? "after" : "in");
 }
 
-/* Adds bytes that a crash cannot leave. */
+/* Adds bytes that no crash leaves. */
 static void add_damage(void) {
     memset(folder.journal.bytes + folder.journal.size, 'x', 100);
     folder.journal.size += 100;
 }
 
-/* Checks that a journal that opens is not cut, nor is a missing one. A journal that was damaged
- * after it was opened is cut when the keeper is asked again. */
+/* Checks that an undamaged journal is not cut, and that a missing one is a fault. A journal that
+ * was damaged after it was opened is cut at the second request. */
 static void check_whole(void) {
     folder = before;
     memory_host(&alive, &folder, TPMSIM_FORCE_ALWAYS, FAR);
@@ -204,7 +204,7 @@ static void check_whole(void) {
     tpmsim_keeper_free(&alive.keeper);
 }
 
-/* Adds the record of READ with the response of a device that has executed one command more. */
+/* Adds a record of READ whose response is that of a device that has executed one more command. */
 static void answer_otherwise(void) {
     tpmsim device = {0};
     tpmsim_answered answered;
@@ -237,10 +237,10 @@ static void check_otherwise(void) {
     tpmsim_keeper_free(&alive.keeper);
 }
 
-/* ---- calls that take no text */
+/* ---- calls without a text argument */
 
-/* Has a call of the keeper itself cut damage off, and then begin again. If the keeper has a device in
-   memory, the device is opened again for that. */
+/* Lets a command and a power cycle cut damage off before they continue. If the keeper has a device
+   in memory, the device is opened again. */
 static void check_cuts(void) {
     turn(sizes[4]);
     must(tpmsim_keeper_cuts(&alive.keeper, 1) == TPMSIM_DONE, "damage cannot be cut");
@@ -257,7 +257,7 @@ static void check_cuts(void) {
     tpmsim_keeper_free(&alive.keeper);
 }
 
-/* A restored state replaces the device of a damaged journal. */
+/* Checks that a restored state replaces the device of a damaged journal. */
 static void check_states(void) {
     static uint8_t state[TPMSIM_STATE_SIZE], again[TPMSIM_STATE_SIZE];
     uint8_t response[RESPONSE_BYTES];
@@ -342,7 +342,7 @@ static void show_faults(void) {
     }
 }
 
-/* Makes calls that salvage or report a state, in a thread of their own. */
+/* Makes the calls that cut a journal or return a state, in a thread of their own. */
 static void *call_all(void *unused) {
     check_kills(A_PART);
     check_kills(ALL);

@@ -1,4 +1,4 @@
-/* A folder of the file system, and how a host accesses it. Each call opens the lock's file again, so
+/* A folder of the file system, and how a host accesses it. Each call opens the lock file again, so
  * that a forked process has its own lock. */
 #ifndef KEEPER_FILES_H
 #define KEEPER_FILES_H
@@ -9,8 +9,8 @@
 #include <sys/stat.h>
 #include <unistd.h>
 
-/* The folder; the lock's file while it is held; the journal's file, the `number`th that the host
- * opened; and the new journal's file. -1 is no file. */
+/* File descriptors, or -1: of the folder; of the lock file while the lock is held; of the journal,
+ * which is the `number`th one that the host has opened; and of the new journal. */
 typedef struct files {
     int folder, lock, journal, fresh;
     uint64_t number;
@@ -30,7 +30,7 @@ static inline int files_lock(files *it) {
     return 0;
 }
 
-/* Opens the file with the name journal, unless it is open already. */
+/* Opens the file `journal`, unless it is open already. */
 static inline seen files_look(files *it) {
     struct stat named, open;
     if (fstatat(it->folder, "journal", &named, 0) != 0)
@@ -101,7 +101,7 @@ static inline seen files_do(host *by, const tpmsim_ask *ask, const uint8_t *text
     return (seen){is_done ? TPMSIM_GOT_DONE : TPMSIM_GOT_FAILED, it->number, 0, text, 0};
 }
 
-/* Closes the files of a process that dies, as the system does. */
+/* Closes the files of a killed process, as the operating system does. */
 static inline void files_leave(host *by) {
     files *it = by->folder;
     files_close(&it->lock), files_close(&it->journal), files_close(&it->fresh);

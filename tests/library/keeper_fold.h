@@ -1,15 +1,15 @@
-/* The device that executed the history of a world, by the definition: a fold over its commands. It calls
- * journals and devices; it uses a keeper only for the text of a new device. */
+/* Computes the device that executed a world's history, as the definition does: by a fold over the
+ * commands. A keeper is used only to write the head for a new device. */
 #ifndef KEEPER_FOLD_H
 #define KEEPER_FOLD_H
 #include "../common/same_state.h"
 #include "keeper_folder.h"
 
-/* The head after every EACHth command is kept, to go back to it. */
+/* After every EACHth command the journal's head is stored, so that the fold can go back to it. */
 enum { EACH = 16, HEAD_BYTES = 128 * 1024 };
 
-/* Kinds of commands, and the offsets in commands of the standard that follow the clock, or the elapsed
-   time. */
+/* Kinds of commands, and the offsets of the fields that follow the clock or the elapsed time in a
+   TPM command. */
 enum { BY_CLOCK = 0, CYCLE = 1, RESTORING = 2, BY_ELAPSED = 3, NO_KIND = 9, MOMENT_AT = 1 };
 enum { LOCALITY_AFTER = 0, COMPLETES_AFTER = 1, RANDOM_AFTER = 2, BUFFER_AFTER = 258 };
 
@@ -20,7 +20,8 @@ typedef struct mark {
     uint8_t *head;
 } mark;
 
-/* The device after some commands of the world's history, the origin of its device, and its time. */
+/* The device after a number of commands of the world's history, the number of its seed, and its
+ * time. */
 static struct fold {
     tpmsim device;
     int commands, origin, marks;
@@ -36,7 +37,8 @@ static inline uint64_t number_at(const uint8_t *at, int size) {
     return number;
 }
 
-/* Writes the head of the journal of a seed's new device. Returns 0 if the seed is not valid. */
+/* Writes the head of the journal for the new device of a seed, and returns its size, or 0 if the
+ * seed is invalid. */
 static inline size_t head_of_seed(const uint8_t *seed, size_t size) {
     tpmsim_ask ask = {0};
     tpmsim_keeper keeper = {0};
@@ -59,7 +61,8 @@ static inline void fold_opens(const uint8_t *head, size_t size) {
          "a head is not opened");
 }
 
-/* The head of a checkpoint of the device, which is its whole state. */
+/* Writes the head of a checkpoint, which contains the device's whole state, and returns its
+ * size. */
 static inline size_t fold_shows(void) {
     size_t size = tpmsim_journal_checkpoint(&fold.device, 0, head_text, sizeof head_text);
     must(size <= sizeof head_text, "a head's size");
@@ -80,7 +83,7 @@ static inline void fold_forgets(void) {
     fold.commands = 0;
 }
 
-/* Goes back to the state after this many commands of the history. */
+/* Goes back to a stored state after at most this many commands of the history. */
 static inline void fold_goes_back(int commands) {
     if (fold.commands <= commands) return;
     while (fold.marks && fold.mark[fold.marks - 1].commands > commands)
@@ -96,8 +99,8 @@ static inline void fold_goes_back(int commands) {
     fold.time = it->time;
 }
 
-/* The clock at the moment of a command, and then the time of the journal. A command takes at least no
- * time, and at most 2^32 - 1 milliseconds. */
+/* Returns the clock at the moment of a command, and advances the journal's time by 0 to 2^32 - 1
+ * milliseconds. */
 static inline uint64_t fold_clock(const uint8_t *text) {
     int is_by_clock = text[0] == BY_CLOCK;
     uint64_t told = number_at(text + MOMENT_AT, is_by_clock ? 8 : 4);
@@ -107,7 +110,7 @@ static inline uint64_t fold_clock(const uint8_t *text) {
     return now;
 }
 
-/* Executes a command of the standard. Returns the size of its response and report, in bytes. */
+/* Executes a TPM command. Returns the size of its response and report, in bytes. */
 static inline size_t fold_executes(const uint8_t *text, size_t size, uint8_t *response) {
     static uint8_t record[TPMSIM_RECORD_ROOM];
     tpmsim_answered answered;
@@ -126,8 +129,8 @@ static inline size_t fold_executes(const uint8_t *text, size_t size, uint8_t *re
     return answered.size + TPMSIM_REPORT_SIZE;
 }
 
-/* Lets the completing layer forget the contexts of sessions that have ended: it does so after every
- * command, and an empty command changes nothing else. */
+/* Executes an empty command, after which the completing layer forgets the contexts of sessions that
+ * have ended. It changes nothing else. */
 static inline void fold_forgets_sessions(void) {
     static const uint8_t random[RANDOM_BYTES];
     uint8_t response[RESPONSE_BYTES];
@@ -136,7 +139,8 @@ static inline void fold_forgets_sessions(void) {
          "an empty command is not executed");
 }
 
-/* Restarts the journal with the device's state after a power cycle. The layer keeps its start. */
+/* Restarts the journal with the device's state after a power cycle. The layer's start number stays
+ * the same. */
 static inline size_t fold_cycles(const uint8_t *text) {
     static uint8_t seed[HEAD_BYTES];
     must(tpmsim_power_cycle(&fold.device) == TPMSIM_DONE, "the power is not cycled");
@@ -173,7 +177,7 @@ static inline void fold_steps(executed *next) {
     fold.commands++;
 }
 
-/* Executes the rest of the history. */
+/* Executes the commands of the history that are left. */
 static inline void fold_follows(void) {
     if (fold.origin != all->origin) {
         fold_forgets();
@@ -188,7 +192,7 @@ static inline void fold_follows(void) {
     }
 }
 
-/* Checks that the journal opens as the device that executed the history. */
+/* Checks that opening the journal returns the device that executed the history. */
 static inline void fold_compares(void) {
     static uint8_t state[2][TPMSIM_STATE_SIZE];
     tpmsim device = {0};

@@ -1,23 +1,23 @@
-/* The folder of specs/World.antt of tpm_keeping, in memory that forked processes share: the files as all
- * processes see them, and what a crash of the host may leave of them. */
+/* The folder of specs/World.antt of tpm_keeping, in memory that forked processes share: the files
+ * as all processes see them, and the contents that a crash of the host may leave. */
 #ifndef KEEPER_FOLDER_H
 #define KEEPER_FOLDER_H
 #include "keeper_host.h"
 #include <sys/mman.h>
 
-/* The model has any number of contents and of earlier files. If there are more than these, a random one
- * is forgotten, so that a crash has fewer choices. COMMANDS is the length of the longest history. */
+/* The definition allows any number of earlier contents and files. Here a random one is dropped if
+ * there are more than PAST or OLDER. COMMANDS is the maximum length of the history. */
 enum { PAST = 4, OLDER = 4, CONTENT_BYTES = 192 * 1024, COMMANDS = 2000, ARENA_BYTES = 4 << 20 };
 
-/* `commands` is the length of the history after the last command whose entry is whole here. */
+/* `commands` counts the commands of the history up to the last one whose entry is complete here. */
 typedef struct content {
     size_t size;
     int commands;
     uint8_t bytes[CONTENT_BYTES];
 } content;
 
-/* `before` is the number of commands that were executed before the head; `ends` are the offsets after
- * the entries of the later ones. The first `forced` bytes are on the disk. */
+/* `before` is the number of commands that were executed before the head was written. `ends` are the
+ * end offsets of the entries of later commands. The first `forced` bytes are on the disk. */
 typedef struct file {
     uint64_t number;
     int before;
@@ -26,14 +26,15 @@ typedef struct file {
     content now, past[PAST];
 } file;
 
-/* A command of the history with its response, both in the arena. */
+/* A command of the history and its response. Both are stored in the arena. */
 typedef struct executed {
     const uint8_t *text;
     const uint8_t *response;
     size_t size, response_size;
 } executed;
 
-/* files[names[0]] is the journal; the others had its name after the folder was forced last. */
+/* files[names[0]] is the journal. The other files had its name since the last sync of the
+ * folder. */
 typedef struct world {
     file files[1 + OLDER];
     int names[1 + OLDER], olders;
@@ -43,9 +44,9 @@ typedef struct world {
     int is_locked, locker;
     executed history[COMMANDS];
     int commands, promised, is_lasting;
-    /* The latest answer of a holder that always syncs. */
+    /* The length of the history when a holder with force=always last answered. */
     int always;
-    /* The seed of the device, and the number of its beginning. */
+    /* The seed of the device, and the number of seeds used so far. */
     const uint8_t *seed;
     size_t seed_size;
     int origin;
@@ -56,7 +57,7 @@ typedef struct world {
 
 static world *all;
 
-/* Returns the next number of a generator, below a bound. */
+/* Returns the generator's next random number, which is less than the bound. */
 static inline unsigned rolled(unsigned bound) {
     all->draws ^= all->draws << 13;
     all->draws ^= all->draws >> 7;
@@ -80,7 +81,7 @@ static inline void copy_content(content *to, const content *from) {
     memcpy(to->bytes, from->bytes, from->size);
 }
 
-/* A world without a journal. */
+/* Makes a world without a journal. */
 static inline void world_begins(uint64_t seed) {
     if (!all) {
         all = mmap(NULL, sizeof *all, PROT_READ | PROT_WRITE, MAP_SHARED | MAP_ANONYMOUS, -1, 0);
@@ -102,7 +103,7 @@ static inline void world_begins(uint64_t seed) {
     all->draws = seed * 0x9e3779b97f4a7c15u + 1;
 }
 
-/* Keeps the file's content, which may be on the disk after a crash. */
+/* Stores the present content as a past one, which a crash may leave on the disk. */
 static inline void remember(file *it) {
     int at = it->pasts < PAST ? it->pasts++ : (int)rolled(PAST);
     copy_content(&it->past[at], &it->now);
@@ -114,9 +115,9 @@ static inline void history_adds(const uint8_t *command, size_t size) {
     all->history[all->commands++] = (executed){stored(command, size), NULL, size, 0};
 }
 
-/* Cuts the file to `cut` bytes, then writes the first `count` bytes of a text of `size` at `at`. If all
- * bytes after the forced ones are written, no dropped bytes are missing. `adds` is whether the text ends
- * with a command's entry. */
+/* Cuts the file to `cut` bytes, then writes the first `count` bytes of a text of `size` bytes at
+ * the offset `at`. If the whole text is written at or before the end of the synced bytes, no
+ * dropped bytes are missing. `adds` says whether the text ends with a command's entry. */
 static inline void file_puts(file *it, size_t cut, size_t at, const uint8_t *text, size_t count,
                              size_t size, int adds) {
     content *now = &it->now;
@@ -131,15 +132,15 @@ static inline void file_puts(file *it, size_t cut, size_t at, const uint8_t *tex
     if (adds && count == size) it->ends[now->commands++ - it->before] = at + count;
 }
 
-/* Records that the whole file is on the disk, unless some of it was dropped. */
+/* Records that the whole file is on the disk, unless a part of it was dropped. */
 static inline void file_forced(file *it) {
     if (it->is_dropped) return;
     it->pasts = 0;
     it->forced = it->now.size;
 }
 
-/* The new file takes the journal's name. Its head has the state after all commands; if `whole`, after
- * all but the last, which has an entry. */
+/* Gives the journal's name to the new file. Its head contains the state after all commands. If
+ * `whole` is 1, the head contains the state before the last command, whose entry follows. */
 static inline void file_named(int whole) {
     int last = all->olders < OLDER ? ++all->olders : 1 + (int)rolled(OLDER);
     int place = all->names[last];
@@ -155,15 +156,15 @@ static inline void file_named(int whole) {
     it->ends[0] = it->now.size;
 }
 
-/* The number of commands whose entries are whole in the first `size` bytes of a content. */
+/* Returns `commands` for the first `size` bytes of a content. */
 static inline int whole_in(const file *it, const content *from, size_t size) {
     int count = 0, most = from->commands - it->before;
     while (count < most && it->ends[count] <= size) count++;
     return it->before + count;
 }
 
-/* Crashes the host. One of the files remains, with one of its contents. The content is cut at the last
- * byte that is on the disk, or later, and zeros may follow. */
+/* Crashes the host. One of the files remains, with one of its contents. The content is cut after
+ * the synced bytes or later, and zeros may follow. */
 static inline void world_crashes(void) {
     int place = all->names[rolled((unsigned)all->olders + 1)];
     file *it = &all->files[place];

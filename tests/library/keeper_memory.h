@@ -3,7 +3,7 @@
 #define KEEPER_MEMORY_H
 #include "keeper_host.h"
 
-/* PART is the size of one read, in bytes. */
+/* PART is the maximum size of one read, in bytes. */
 enum { FILE_BYTES = 512 * 1024, PART = 1000 };
 
 typedef struct memory_file {
@@ -11,7 +11,7 @@ typedef struct memory_file {
     uint8_t bytes[FILE_BYTES];
 } memory_file;
 
-/* The number of the journal is 0 if there is none. */
+/* The number of the journal is 0 if there is no journal. */
 typedef struct memory {
     uint64_t number;
     int is_locked;
@@ -62,7 +62,7 @@ static inline seen memory_does(host *it, const tpmsim_ask *ask, const uint8_t *t
         folder->number++;
         return memory_seen(folder);
     case TPMSIM_TASK_UNLOCK: memory_locks(folder, 0); break;
-    default: break; /* there is nothing to force */
+    default: break; /* there is nothing to sync */
     }
     return (seen){TPMSIM_GOT_DONE, 0, 0, text, 0};
 }

@@ -1,14 +1,14 @@
-/* The size of the stack that a call uses. */
+/* Measures how much stack a call uses. */
 #ifndef KEEPER_STACK_H
 #define KEEPER_STACK_H
 #include "common.h"
 #include <pthread.h>
 #include <sys/mman.h>
 
-/* MOST_STACK is the header's limit for a call. A host and a thread take the rest. */
+/* MOST_STACK is the limit in tpmsim.h for a call. HOST_STACK is for the host and the thread. */
 enum { STACK_BYTES = 512 * 1024, MOST_STACK = 96 * 1024, HOST_STACK = 20 * 1024 };
 
-/* Checks the size of the stack of the calls, and of the host around them. */
+/* Checks how much stack the calls use, together with the host that makes them. */
 static inline void check_stack(void *(*calls)(void *)) {
 #ifndef __SANITIZE_ADDRESS__
     pthread_attr_t attributes;

@@ -1,7 +1,8 @@
-/* Drives the compiled keeper with random events, in the world of specs/World.antt of tpm_keeping. Each
- * process has a keeper. Processes get commands, do the tasks, fail, are killed and fork; and the host
- * crashes. Each response is compared with the device that executed the history, by the definition
- * (keeper_fold.h). After each crash the journal is compared too.
+/* Drives the compiled keeper with random events, in the world of specs/World.antt of tpm_keeping.
+ * Each process has a keeper. Processes get commands, do the keeper's tasks, fail, are killed and
+ * fork, and the host crashes. Each response is compared with that of the device that executed the
+ * history according to the definition (keeper_fold.h). After each crash the journal is compared
+ * too.
  *
  *     keeper_world EVENTS SEED     this many events, with a seed
  *     keeper_world wrong EVENTS    wrong hosts; each of them has to be caught within this many events
@@ -17,7 +18,8 @@
 
 enum { PROCESSES = 5, WORLD_EVENTS = 1500, CHILD_EVENTS = 60, STATES = 8 };
 
-/* A process. It was hindered if a task of its call failed, or if an allocation failed. */
+/* A process. `was_hindered` is set if a task of its present call failed, or if an allocation
+ * failed. */
 typedef struct process {
     tpmsim_keeper keeper;
     uint8_t force, job;
@@ -55,7 +57,7 @@ static void starts(process *it) {
          "there is no keeper");
 }
 
-/* ---- what a process is asked for */
+/* ---- the jobs of a process */
 
 static void add(process *it, const void *bytes, size_t size) {
     memcpy(it->command + it->size, bytes, size);
@@ -71,7 +73,7 @@ static void add_random(process *it, size_t size) {
     while (size--) it->command[it->size++] = (uint8_t)rolled(256);
 }
 
-/* Adds the time of the host's clock, which may go back. */
+/* Appends the time of the host's clock, which may go back. */
 static void add_clock(process *it) {
     all->clock += rolled(2000);
     if (chance(50)) all->clock -= rolled((unsigned)all->clock);
@@ -151,7 +153,7 @@ static void asks(process *it) {
     counts.calls++;
 }
 
-/* ---- what a task does */
+/* ---- the effects of a task */
 
 static int is_entered(const process *it) {
     return it->job == TPMSIM_JOB_EXECUTE &&
@@ -253,7 +255,7 @@ static void is_answered(process *it) {
     counts.answers++;
 }
 
-/* Returns how a call has to end if nothing hindered it. */
+/* Returns the fault with which a call must end if no task and no allocation failed. */
 static uint8_t end_of(const process *it) {
     if (journal()->number == 0)
         return it->job == TPMSIM_JOB_BEGIN ? TPMSIM_FAULT_UNREADABLE : TPMSIM_FAULT_ABSENT;
@@ -279,7 +281,7 @@ static void goes_on(process *it, const seen *told) {
 
 /* ---- events */
 
-/* Returns the lock's holder. A process and its fork are two holders. */
+/* Returns the number of the lock's holder. A process and its forked child are two holders. */
 static int holder_of(int number) { return is_child ? PROCESSES + number : number; }
 
 /* Takes the lock, unless another process has it. */
@@ -334,8 +336,8 @@ static void dies(int number, const tpmsim_ask *ask) {
 
 static void happens(void);
 
-/* Forks all processes. The children continue for a while, and end. Their parents do nothing
-   meanwhile. */
+/* Forks all processes. The children continue for some events, and end. Meanwhile their parents do
+   nothing. */
 static void forks(void) {
     int status;
     if (is_child) return;
@@ -374,7 +376,7 @@ static void begins_anew(uint64_t seed) {
     counts.worlds++;
 }
 
-/* Returns whether a process waits for a lock that another process has. */
+/* Returns whether a process waits for a lock that another process holds. */
 static int waits(const process *it, const tpmsim_ask *ask) {
     return it->is_busy && ask->task == TPMSIM_TASK_LOCK && all->is_locked && !is_wrong(LOCKS_NOT);
 }
@@ -424,7 +426,7 @@ static void run(long events, uint64_t seed) {
     }
 }
 
-/* Runs each wrong host in a process of its own, which has to detect the mistake. */
+/* Runs each wrong host in a process of its own, where the checks must detect the mistake. */
 static void check_wrong(long events) {
     for (wrong = ANSWERS_FIRST; wrong < WRONGS; wrong++) {
         int status;

@@ -1,4 +1,5 @@
-/* Hosts with a mistake each, which check the test itself: it has to catch every one of them. */
+/* Hosts that each make one mistake. They check the test itself, which must catch every one of
+ * them. */
 #ifndef KEEPER_WRONG_H
 #define KEEPER_WRONG_H
 

@@ -1,17 +1,17 @@
 # Makes many devices in one process, and devices in threads with small stacks, with and without sanitizers.
-# library/devices.c and library/threads.c are the callers.
+# See library/devices.c and library/threads.c.
 tests=$(cd "$(dirname "$0")/.." && pwd -P)
 . "$tests/common/cases.sh"
 . "$tests/common/library.sh"
 needs cc python3
 
-# These calls use at most 64 KB of stack. The rest is for the thread and its caller.
+# A call uses at most 64 KB of stack. The rest is for the thread and the calling code.
 stack=$(((64 + 16) * 1024))
 large_stack=$((512 * 1024))
 
 compile devices devices "$archive"
 compile threads threads "$archive"
-# shellcheck disable=SC2086 # they are words
+# shellcheck disable=SC2086 # word splitting is intended
 {
     compile sanitized_devices devices $sanitizers "$archive"
     compile sanitized_threads threads $sanitizers "$archive"

@@ -1,5 +1,6 @@
-# A caller in C logs the commands that it executes, by the functions in the third C block of docs/LIBRARY.md.
-# tools/explain.py explains why one command was refused. The header has words for the number of each check.
+# A program in C logs the commands that it executes, with the functions in the third C block of
+# docs/LIBRARY.md. tools/explain.py explains why one command was refused. The header describes the number of
+# each check.
 tests=$(cd "$(dirname "$0")/.." && pwd -P)
 . "$tests/common/cases.sh"
 . "$tests/common/library.sh"

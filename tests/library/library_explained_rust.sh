@@ -1,4 +1,4 @@
-# A caller in Rust logs the commands that it executes, by the function of docs/LIBRARY.md. tools/explain.py
+# A program in Rust logs the commands that it executes, with the function of docs/LIBRARY.md. tools/explain.py
 # explains why one command was refused.
 tests=$(cd "$(dirname "$0")/.." && pwd -P)
 . "$tests/common/cases.sh"

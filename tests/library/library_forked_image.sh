@@ -1,4 +1,4 @@
-# A process with a device of an image forks: library/forked_image.py.
+# Forks a process that has opened a device from an image. See library/forked_image.py.
 tests=$(cd "$(dirname "$0")/.." && pwd -P)
 . "$tests/common/cases.sh"
 . "$tests/common/library.sh"

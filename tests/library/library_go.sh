@@ -1,4 +1,4 @@
-# A caller of the library in Go, through cgo: caller.go.
+# Tests the library from Go, through cgo. See caller.go.
 tests=$(cd "$(dirname "$0")/.." && pwd -P)
 . "$tests/common/cases.sh"
 . "$tests/common/library.sh"

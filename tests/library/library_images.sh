@@ -1,5 +1,6 @@
-# Opens damaged images. For each, the library must return what the device in Python returns. The images are
-# all prefixes of an image, and all changes of one of its bytes. images.sh has the program open some of them.
+# Opens damaged images. For each image, the library must return the same as the device in Python. The images
+# are all prefixes of an image, and that image with each single byte changed. In images.sh the program opens
+# some of them.
 tests=$(cd "$(dirname "$0")/.." && pwd -P)
 . "$tests/common/cases.sh"
 . "$tests/common/library.sh"

@@ -1,12 +1,12 @@
-# Tests the calls on a device's keeper: keeper.c, on a folder in memory and on files, without sanitizers and
-# with them.
+# Tests the calls on a device's keeper, with a folder in memory and with files. The test program, keeper.c,
+# runs without sanitizers and with them.
 tests=$(cd "$(dirname "$0")/.." && pwd -P)
 . "$tests/common/cases.sh"
 . "$tests/common/library.sh"
 needs cc
 
 compile plain keeper "$archive"
-# shellcheck disable=SC2086 # they are words
+# shellcheck disable=SC2086 # word splitting is intended
 compile checked keeper "$archive" $sanitizers
 for caller in plain checked; do
     mkdir "$room/$caller.files"

@@ -1,12 +1,12 @@
-# Tests what a keeper reports about a command, and what it does with damage: keeper_cut.c, without sanitizers
-# and with them.
+# Tests what a keeper reports about a command, and what it does with damage. The test program, keeper_cut.c,
+# runs without sanitizers and with them.
 tests=$(cd "$(dirname "$0")/.." && pwd -P)
 . "$tests/common/cases.sh"
 . "$tests/common/library.sh"
 needs cc
 
 compile plain keeper_cut "$archive"
-# shellcheck disable=SC2086 # they are words
+# shellcheck disable=SC2086 # word splitting is intended
 compile checked keeper_cut "$archive" $sanitizers
 for caller in plain checked; do
     "$room/$caller" >"$room/$caller.told" || exit 1

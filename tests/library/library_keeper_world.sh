@@ -1,14 +1,14 @@
-# Drives the compiled keeper in the world of the kept device's theorem: keeper_world.c, for 100,000 events,
-# and for fewer with sanitizers. Then the program has to catch each wrong host.
+# Drives the compiled keeper in the world that the theorem on kept devices describes. keeper_world.c runs for
+# 100,000 events, and for fewer with sanitizers. Then it must catch each wrong host.
 tests=$(cd "$(dirname "$0")/.." && pwd -P)
 . "$tests/common/cases.sh"
 . "$tests/common/library.sh"
 needs cc
 
 refusing='-Wl,--wrap=malloc -Wl,--wrap=realloc'
-# shellcheck disable=SC2086 # they are words
+# shellcheck disable=SC2086 # word splitting is intended
 compile plain keeper_world "$archive" $refusing -O1
-# shellcheck disable=SC2086 # they are words
+# shellcheck disable=SC2086 # word splitting is intended
 compile checked keeper_world "$archive" $refusing -O1 $sanitizers
 "$room/plain" 100000 1 2>"$room/counts" || cat "$room/counts"
 "$room/checked" 10000 2 2>"$room/counts" || cat "$room/counts"

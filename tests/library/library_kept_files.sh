@@ -1,4 +1,4 @@
-# A device that Python keeps in a folder: with wrong files, in threads, and in forked processes:
+# Tests a device that Python keeps in a folder, with wrong files, in threads, and in forked processes. See
 # library/kept_files.py.
 tests=$(cd "$(dirname "$0")/.." && pwd -P)
 . "$tests/common/cases.sh"

@@ -1,12 +1,12 @@
-# Tests each misuse of the library that has a defined result, with and without sanitizers: library/misuse.c.
-# This test makes an image with a right digest and a wrong body for it.
+# Tests each misuse of the library that has a defined result, with and without sanitizers. The test program,
+# library/misuse.c, needs an image with a correct digest and a wrong body, which is made here.
 tests=$(cd "$(dirname "$0")/.." && pwd -P)
 . "$tests/common/cases.sh"
 . "$tests/common/library.sh"
 needs cc python3
 
 wrap='-Wl,--wrap=malloc -Wl,--wrap=realloc'
-# shellcheck disable=SC2086 # they are words
+# shellcheck disable=SC2086 # word splitting is intended
 {
     compile misuse misuse $wrap "$archive"
     compile sanitized misuse $sanitizers $wrap "$archive"

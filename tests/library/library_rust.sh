@@ -1,4 +1,4 @@
-# A caller of the library in Rust: caller.rs.
+# Tests the library from Rust. See caller.rs.
 tests=$(cd "$(dirname "$0")/.." && pwd -P)
 . "$tests/common/cases.sh"
 . "$tests/common/library.sh"

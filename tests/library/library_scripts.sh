@@ -1,4 +1,4 @@
-# Plays the scripts that end well with the library: with the archive, with the archive and sanitizers, and
+# Plays all scripts without faults with the library: with the archive, with the archive and sanitizers, and
 # with the shared object. library/scripts.py says what is compared, and how much stack the calls may use.
 tests=$(cd "$(dirname "$0")/.." && pwd -P)
 . "$tests/common/cases.sh"
@@ -6,7 +6,7 @@ tests=$(cd "$(dirname "$0")/.." && pwd -P)
 needs cc python3
 
 compile static play "$archive"
-# shellcheck disable=SC2086 # they are words
+# shellcheck disable=SC2086 # word splitting is intended
 compile sanitized play $sanitizers "$archive"
 compile shared play "$shared" -Wl,-rpath,"$dist"
 compile stack stack "$archive"

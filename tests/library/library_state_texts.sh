@@ -1,5 +1,5 @@
-# Restores devices of the library from state texts at random moments, in Python. They are compared with a
-# device that is never restored and with the device in Python.
+# Restores devices of the library from state texts at random moments. Compares them with a device that is
+# never restored and with the device in Python.
 tests=$(cd "$(dirname "$0")/.." && pwd -P)
 . "$tests/common/cases.sh"
 . "$tests/common/library.sh"

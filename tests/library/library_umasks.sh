@@ -1,6 +1,6 @@
-# Checks the modes of the files that a device in Python makes: an image with its lock, and a kept device. Only their
-# user may read and write them, whatever the umask. Otherwise the user's next process would have no device, unless the
-# user is root.
+# Checks the modes of the files that a device in Python makes: an image with its lock, and a kept device.
+# Their user, and nobody else, may read and write them, whatever the umask. Without these permissions the
+# user's next process would have no device, unless the user is root.
 tests=$(cd "$(dirname "$0")/.." && pwd -P)
 . "$tests/common/cases.sh"
 . "$tests/common/library.sh"

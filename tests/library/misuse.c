@@ -1,7 +1,7 @@
-/* Prints each misuse of the library that has a defined result, and that result, one line each.
- * The first argument is a file with an image whose digest is right and whose body is wrong. The
- * program is linked with --wrap for malloc and realloc, so that it counts allocations, and can
- * make one of them fail. */
+/* Misuses the library in each way that has a defined result, and prints a line with each misuse and
+ * its result. The first argument is a file with an image whose digest is correct and whose body is
+ * wrong. The program is linked with --wrap for malloc and realloc, so that it can count allocations
+ * and make one of them fail. */
 #include "common.h"
 
 void *__real_malloc(size_t size);
@@ -9,7 +9,7 @@ void *__real_realloc(void *memory, size_t size);
 void *__wrap_malloc(size_t size);
 void *__wrap_realloc(void *memory, size_t size);
 
-/* The number of allocations, and the number of the allocation that fails; 0 for none. */
+/* The number of allocations so far, and the number of the allocation that fails, or 0. */
 static unsigned asked, refused;
 
 static int is_refused(void) {
@@ -25,7 +25,8 @@ void *__wrap_realloc(void *memory, size_t size) {
 
 static uint8_t random_bytes[RANDOM_BYTES], response[RESPONSE_BYTES];
 
-/* TPM2_HierarchyChangeAuth of the owner with an empty password. The new value has one byte. */
+/* TPM2_HierarchyChangeAuth for the owner, with an empty password. The new authorization value has
+ * one byte. */
 static const uint8_t CHANGE_AUTH[] = {0x80, 0x02, 0, 0, 0, 30,   0, 0, 0x01, 0x29, 0x40, 0, 0, 1, 0,
                                       0,    0,    9, 0x40, 0, 0, 9, 0, 0,    0,    0,    0, 0, 1, 'a'};
 
@@ -33,15 +34,15 @@ static const uint8_t CHANGE_AUTH[] = {0x80, 0x02, 0, 0, 0, 30,   0, 0, 0x01, 0x2
 enum { ROOM = 4096, HEAD_BYTES = 10, DIGEST_BYTES = 32 };
 static uint8_t image[ROOM], before[ROOM], behind[ROOM];
 
-/* The image of the tests' device, from its head on, and its size in bytes. */
+/* The size of the device's image, in bytes. */
 static size_t image_size;
 
 /* A state text of that device, and its size in bytes. */
 static uint8_t state[ROOM];
 static size_t state_size;
 
-/* A call that is refused leaves the holder's device as it was. The image shows that. So does the
- * pointer, which a caller must not read, but a test may. */
+/* A refused call leaves the device unchanged. Its image shows that, and so does the private
+ * pointer, which only a test may read. */
 static void *kept_pointer;
 
 static void keep(struct tpmsim *device) {
@@ -56,8 +57,8 @@ static const char *as_it_was(struct tpmsim *device) {
     return "the device is as it was";
 }
 
-/* Executes GetRandom in a case in which it is refused, once on its own and once with the
- * completing layer. Neither the response nor the answer is written. */
+/* Makes a call that is refused, to execute GetRandom once without and once with the completing
+ * layer. Neither the response nor the answer is written. */
 static unsigned refused_command(struct tpmsim *device, uint8_t locality) {
     struct tpmsim_answered answered;
     memset(&answered, FILLED, sizeof answered);
@@ -95,7 +96,7 @@ static void of_localities(struct tpmsim *device) {
     puts(as_it_was(device));
 }
 
-/* Executes buffers that are not commands. The response refuses them. */
+/* Executes buffers that are not commands. The device refuses them in its response. */
 static void of_buffers(struct tpmsim *device) {
     static const size_t sizes[] = {0, 1, 9, 4097, 1000000};
     uint8_t *buffer = taken(1000000);
@@ -111,7 +112,7 @@ static void of_buffers(struct tpmsim *device) {
     free(buffer);
 }
 
-/* Prints what a call writes into buffers of several sizes. The call returns the size of its
+/* Prints what a function writes to buffers of several sizes. The function returns the size of its
    text. */
 static void in_rooms(struct tpmsim *device, const char *label,
                      size_t (*written)(struct tpmsim *, uint8_t *, size_t)) {
@@ -139,16 +140,16 @@ static void of_rooms(struct tpmsim *device) {
     in_rooms(device, "snapshot", tpmsim_snapshot);
 }
 
-/* Returns the number of bytes of the text that differ from the image's bytes between its head and its
- * digest. */
+/* Returns the number of bytes in which a text differs from the image's body, which is between its
+ * head and its digest. */
 static size_t others_than_in_image(const uint8_t *text, size_t size) {
     size_t others = 0;
     for (size_t i = 0; i < size; i++) others += text[i] != image[HEAD_BYTES + i];
     return others;
 }
 
-/* Checks the kept state. It is the image without its head, its digest and Clock, so time does
-   not change it. */
+/* Checks the kept state, which is the image without its head and its digest, and with zeros for
+   Clock. Therefore time does not change it. */
 static void of_what_is_kept(struct tpmsim *device) {
     size_t size = tpmsim_kept(device, before, ROOM);
     must(tpmsim_save(device, image, ROOM) == HEAD_BYTES + size + DIGEST_BYTES, "another size");
@@ -169,7 +170,7 @@ static void of_what_is_kept(struct tpmsim *device) {
     printf("kept, behind TPM2_HierarchyChangeAuth to a byte: %zu bytes more\n", longer - size);
 }
 
-/* Opens a copy of the image. The copy has this size and one changed byte. */
+/* Opens a copy of the image that has this size and one changed byte. */
 static void open_changed(struct tpmsim *device, const char *label, size_t size, size_t place) {
     keep(device);
     memcpy(image, before, image_size);
@@ -196,7 +197,7 @@ static void of_images(struct tpmsim *device, const char *file) {
     puts(as_it_was(device));
 }
 
-/* Restores from a copy of the state text. The copy has this size and one changed byte. */
+/* Restores from a copy of the state text that has this size and one changed byte. */
 static void restore_changed(struct tpmsim *device, const char *label, size_t size, size_t place) {
     keep(device);
     memcpy(image, state, state_size);
@@ -223,8 +224,8 @@ static void of_states(struct tpmsim *device) {
     puts(as_it_was(device));
 }
 
-/* Calls a function that allocates. Makes its first allocation fail, then its second, and so on,
-   until it succeeds. */
+/* Calls a function that allocates memory. Makes its first allocation fail, then its second, and so
+   on, until the function succeeds. */
 static void starve(struct tpmsim *device, const char *label,
                    uint8_t (*called)(struct tpmsim *device)) {
     uint8_t told = TPMSIM_NO_MEMORY;

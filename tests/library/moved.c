@@ -1,12 +1,13 @@
-/* Plays scripts on two devices, new ones for each script. `steady` always continues. `moved` is restored from
- * its state text at random moments, in a holder that has an earlier device:
+/* Plays each script on two new devices. `steady` always continues. `moved` is restored from its
+ * state text at random moments, into a handle that contains an earlier device:
  *
  *     moved SEED ONE_IN <SCRIPTS
  *
- * play.c reads the same lines. The moved device is restored before one event in ONE_IN, by a generator that
- * begins with SEED. Both must have the same response to each event, and the same state text at the end of a
- * script. In every second script the completing layer is on for both. Prints the number of events and of
- * restores, and the size of the largest text in bytes. */
+ * The scripts have the same form as for play.c. On average, the moved device is restored before one
+ * in ONE_IN events, chosen by a random generator with the seed SEED. Both devices must return the
+ * same response to each event, and have the same state text at the end of a script. In every second
+ * script the completing layer is on for both. Prints the numbers of events and of restores, and the
+ * size of the largest text in bytes. */
 #define _POSIX_C_SOURCE 200809L
 #include "common.h"
 
@@ -25,7 +26,7 @@ static unsigned long events, restores, scripts, one_in;
 static size_t largest;
 static uint64_t generator;
 
-/* Returns the next number of the generator, xorshift64. */
+/* Returns the next random number of the generator, which is xorshift64. */
 static uint64_t next_number(void) {
     generator ^= generator << 13;
     generator ^= generator >> 7;
@@ -48,7 +49,7 @@ static void have_one_text(struct tpmsim *device, struct tpmsim *other) {
     if (size > largest) largest = size;
 }
 
-/* Restores the moved device into the other holder, which has an earlier device. */
+/* Restores the moved device into the other handle, which contains an earlier device. */
 static void move(struct player *player) {
     size_t size = text_of(moved(player), text);
     struct tpmsim *before = moved(player);

@@ -7,8 +7,8 @@
  * check, and the number of random bytes that the command drew. At the end of a script it prints the device's
  * image, and the image of the device that is opened from that image.
  *
- * A twin executes the same commands, with other bytes after the random bytes that were drawn. Its responses
- * must be the same. */
+ * A second device, the twin, executes the same commands. It gets different bytes after the random
+ * bytes that were drawn, and must return the same responses. */
 #define _POSIX_C_SOURCE 200809L
 #include "common.h"
 
@@ -34,8 +34,8 @@ static struct tpmsim_answered executed(struct player *player, struct tpmsim *dev
     return answered;
 }
 
-/* Executes a command on the twin. It gets the bytes that the device drew, followed by other
-   bytes. */
+/* Executes a command on the twin, which gets the random bytes that the device drew, followed by
+   different bytes. */
 static void execute_twin(struct player *player, const uint8_t *buffer, size_t size,
                          struct tpmsim_answered wanted, const uint8_t *response) {
     uint8_t random[RANDOM_BYTES], given[RESPONSE_BYTES];
@@ -61,7 +61,8 @@ static void execute(struct player *player, const char *hex) {
            (unsigned)answered.drawn);
 }
 
-/* Returns the image of a device. The library writes it only into a buffer that is large enough. */
+/* Returns the image of a device. The library writes an image only to a buffer that is large
+ * enough. */
 static uint8_t *image_of(struct tpmsim *device, size_t *size) {
     uint8_t none = 0;
     *size = tpmsim_save(device, &none, 0);

@@ -1,10 +1,12 @@
-/* Reports the most stack that each call uses, and for an execution also the command:
+/* Reports the maximum stack that each call uses, and for the execution of commands also the command
+ * that needs it:
  *
  *     stack <SCRIPTS
  *
- * play.c reads the same lines. Each call runs on a stack that was painted before. The result is the size of
- * the painted bytes that the call overwrites, minus the size that an empty call overwrites. The stack is
- * twice as large as a call's limit. At its far end is a page without access, which ends the program. */
+ * The scripts have the same form as for play.c. Each call runs on a stack that is filled with a
+ * pattern. The result is the number of bytes that the call overwrites, minus those that an empty
+ * call overwrites. The stack is twice as large as a call's limit. An inaccessible page at its far
+ * end ends the program. */
 #define _DEFAULT_SOURCE
 #include "common.h"
 #include <sys/mman.h>
@@ -29,7 +31,8 @@ static const char *const NAMES[CALLS] = {"nothing", "manufacture", "execute", "c
                                          "power_cycle", "save", "kept", "open", "snapshot",
                                          "restore", "free"};
 
-/* The current call, its caller, and the most stack that each call has used so far. */
+/* The current call, the context that makes it, and the maximum stack that each call has used so
+ * far. */
 static enum call current;
 static ucontext_t caller;
 static struct tpmsim device, completed;
@@ -62,8 +65,8 @@ static void called(void) {
     }
 }
 
-/* Returns the size of the stack that is still painted, from its far end on. Compares whole
-   blocks first. */
+/* Returns the number of bytes that still have the pattern, from the stack's far end on. Compares
+   whole blocks first. */
 static size_t painted_bytes(void) {
     static uint8_t painted[BLOCK_BYTES];
     size_t at = 0;
@@ -73,7 +76,7 @@ static size_t painted_bytes(void) {
     return at;
 }
 
-/* Runs a call, counts the bytes of stack that it used, and paints them again. */
+/* Runs a call, counts the bytes of stack that it used, and fills them with the pattern again. */
 static void run(enum call call) {
     ucontext_t context;
     must(getcontext(&context) == 0, "there is no context");

@@ -1,6 +1,6 @@
-/* Runs four devices in four threads. The first argument is the size of each thread's stack, in bytes.
- * Each device executes commands, and is saved and opened. A thread that did not make it frees it. All
- * four must have the same image at the end. */
+/* Runs four devices in four threads. The first argument is the size of each thread's stack, in
+ * bytes. Each device executes commands, and is saved and opened. It is freed by another thread than
+ * the one that made it. All four devices must have the same image at the end. */
 #define _POSIX_C_SOURCE 200809L
 #include "common.h"
 #include <pthread.h>
@@ -13,7 +13,7 @@ static struct {
 } commands[MOST_COMMANDS];
 static size_t command_count;
 
-/* A thread's device and its buffers. They are not on the thread's stack. */
+/* A thread's device and its buffers, which are not on the thread's stack. */
 struct work {
     struct tpmsim device;
     struct tpmsim_answered answered;
@@ -60,7 +60,7 @@ static void *free_another(void *place) {
     return NULL;
 }
 
-/* Runs a function on each of the works, each time in a thread of its own with this stack size. */
+/* Runs a function on each element of `works`, in one thread each, with this stack size. */
 static void in_threads(void *(*function)(void *), struct work *works, size_t stack) {
     pthread_t threads[THREADS];
     pthread_attr_t attributes;

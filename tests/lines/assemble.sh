@@ -1,11 +1,11 @@
-# Checks the buffers that `tpmsim asm` makes from the lines of assemble.lines, with the escapes of printf
-# (\ooo is a byte in octal), and from some lines that are too long for a file. assemble.py, next to this file,
-# writes assemble.out.
+# Checks the buffers that `tpmsim asm` assembles from the lines of assemble.lines, which may contain printf
+# escapes (\ooo is a byte in octal), and from some lines that are too long for that file. assemble.py, next to
+# this file, writes assemble.out.
 here=$(cd "$(dirname "$0")" && pwd -P)
 tests=${here%/*}
 . "$tests/common/cases.sh"
 
-# assembled LABEL LINE: prints the output, the status and standard error.
+# assembled LABEL LINE: prints the output of `tpmsim asm` for a line, its status and its standard error.
 assembled() {
     status=0
     output=$("$program" asm "$2" 2>"$room/error") || status=$?
@@ -14,7 +14,7 @@ assembled() {
     printf '%s: status %s, output "%s", error "%s"\n' "$1" "$status" "$output" "$error"
 }
 
-# zeros DIGITS: prints that many digits 0.
+# zeros DIGITS: prints this number of zeros.
 zeros() {
     printf '%0*d' "$1" 0
 }
@@ -23,7 +23,7 @@ while IFS= read -r written; do
     case $written in
     '' | '#'*) printf '%s\n' "$written" ;;
     *)
-        # shellcheck disable=SC2059 # that is what the lines are written for
+        # shellcheck disable=SC2059 # the lines are written as printf escapes
         assembled "\"$written\"" "$(printf "$written")"
         ;;
     esac
@@ -38,7 +38,7 @@ for bytes in 4067 4068 4096 32767 40000; do
     assembled "PCR_Event and $bytes bytes" "PCR_Event 00000000 pw:- $data"
 done
 
-# Any other fault is reported before the command's size, wherever it is.
+# Any other fault in the line is reported rather than the command's size.
 data=$(zeros 8192)
 assembled 'NV_Write of 4096 bytes' "NV_Write OWNER 01000000 pw:- $data 0"
 assembled 'NV_Write of 4096 bytes without an offset' "NV_Write OWNER 01000000 pw:- $data"

@@ -1,22 +1,22 @@
-# Lines that are not valid in a script. Each one is the third of four lines, between two commands. The first
-# command is answered, and the second one is not. Lines are written and shown with the escapes of printf: \t
-# is a tab, \r a carriage return, and \ooo a byte in octal.
+# Tests lines that are invalid in a script. Each of them is the third of four lines, between two commands. The
+# first command is answered, and the second one is not. Lines are written and printed with the escapes of
+# printf: \t is a tab, \r a carriage return, and \ooo a byte in octal.
 tests=$(cd "$(dirname "$0")/.." && pwd -P)
 . "$tests/common/cases.sh"
 
 # third LINE [LABEL]: plays a script whose third line is LINE.
 third() {
-    # shellcheck disable=SC2059 # a line has escapes of printf
+    # shellcheck disable=SC2059 # the line contains printf escapes
     printf "$startup\n# the second\n$1\n$startup\n" >script
     run "${2:-\"$1\"}" run script
 }
 
-# zeros BYTES: prints that many zero bytes in hex.
+# zeros BYTES: prints this number of zero bytes in hex.
 zeros() {
     printf '%0*d' "$((2 * $1))" 0
 }
 
-# Digits that are not hex, an odd number of them, and more than one space.
+# Digits that are not hex, an odd number of digits, and more than one space.
 third 'cmd 0'
 third 'cmd 0g'
 third 'cmd 800'
@@ -49,7 +49,7 @@ third 'loc 256'
 third 'loc 4294967296'
 third 'loc 18446744073709551616'
 
-# More than 4,294,967,295 milliseconds, or not a decimal number.
+# A wait of more than 4,294,967,295 milliseconds, or that is not a decimal number.
 third 'wait'
 third 'wait '
 third 'wait 4294967296'
@@ -73,7 +73,7 @@ third 'entropy 0g'
 third "entropy $(zeros 257)" 'entropy and 257 bytes'
 third "entropy $(zeros 512)" 'entropy and 512 bytes'
 
-# Anything after the word `power`, or another word.
+# Anything after the word `power`, and other first words.
 third 'power '
 third 'power 1'
 third 'Power'
@@ -81,7 +81,7 @@ third 'power\r'
 third 'poweroff'
 third 'trace'
 
-# Wrong commands in words; assemble.sh has more of them.
+# Wrong commands in words. assemble.sh tests more of them.
 third 'do'
 third 'do '
 third 'do GetRandom'
@@ -127,7 +127,7 @@ run 'the first line' run script
 printf '%s\n\n\n\ncmd 8' "$startup" >script
 run 'the last line, the fifth' run script
 
-# If there are two bad lines, the first one is reported. The same holds for standard input.
+# If there are two bad lines, the first one is reported, also for a script on standard input.
 printf '%s\nbad\nworse\n' "$startup" >script
 run 'two of them' run script
 run 'two of them on standard input' run - <script

@@ -1,5 +1,5 @@
-# Tests the limits of a script: the bytes in a line, the lines, and the milliseconds. Also checks that no
-# response is lost if there are many.
+# Tests the limits of a script: the number of bytes in a line, of lines, and of milliseconds. Also checks that
+# no response is lost if there are many.
 tests=$(cd "$(dirname "$0")/.." && pwd -P)
 . "$tests/common/cases.sh"
 
@@ -49,8 +49,8 @@ for _ in 1 2 3; do
 done >script
 run 'three commands in lines of 65536 bytes, between three empty ones' run script
 
-# A script has at most 1,048,576 lines. If it has more, these are executed, and the next one is not, whatever
-# it is.
+# A script has at most 1,048,576 lines. If it has more, only the first 1,048,576 lines are executed, whatever
+# the next line is.
 empty_lines() {
     yes '' | head -n "$1"
 }
@@ -60,7 +60,7 @@ echo cmd >>script
 run '1048576 lines' run script
 run '1048576 lines, the last without a line break' run without_line_break
 for line in '\n' '#\n' "$startup\n" 'bad\n' '#' "$startup" bad; do
-    # shellcheck disable=SC2059 # it has escapes of printf
+    # shellcheck disable=SC2059 # the text contains printf escapes
     { cat script; printf "$line"; } >longer
     run "1048576 lines and \"$line\"" run longer
 done
@@ -91,7 +91,7 @@ fi
 
 # The sum of the waits before a command is at most 4,294,967,295 milliseconds.
 waits() {
-    # shellcheck disable=SC2059 # it has escapes of printf
+    # shellcheck disable=SC2059 # the text contains printf escapes
     printf "$1\n" >script
     run "\"$1\"" run script
 }

@@ -1,4 +1,4 @@
-# Checks the lines that `tpmsim line` finds for buffers: for the `do` and `cmd` lines of the scripts, which
+# Checks the lines that `tpmsim line` finds for the buffers of all `do` and `cmd` lines in scripts, which
 # common/line.py passes to it, and for some other buffers.
 tests=$(cd "$(dirname "$0")/.." && pwd -P)
 . "$tests/common/cases.sh"
@@ -11,7 +11,7 @@ line() {
     run "$1" line "$2"
 }
 
-# A password has one form in an entry. Any other entry is written like a session's entry.
+# A password has only one form in an entry. Any other entry is written like the entry of a session.
 line 'a password' 80020000001d0000012940000001000000094000000900000100000000
 line 'one with a nonce' 80020000001e00000129400000010000000a400000090001610100000000
 line 'digits of both cases' 80010000000C0000017b0020

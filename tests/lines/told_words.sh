@@ -1,16 +1,17 @@
-# Checks the output of `tpmsim lines` and `tpmsim code`. Each command is described as in its section of
-# docs/table, and its example can be assembled. Response codes have the names of the table.
+# Checks the output of `tpmsim lines` and `tpmsim code`. Each command's line has the same form as in its
+# section of docs/table, and its example can be assembled. Response codes have the names that docs/table
+# lists.
 tests=$(cd "$(dirname "$0")/.." && pwd -P)
 . "$tests/common/cases.sh"
 table=${tests%/*}/docs/table
 
-# count WHAT NUMBER WRONG: prints how many items of a kind were checked, and how many of them are wrong.
+# count WHAT NUMBER WRONG: prints how many items of a kind were checked, and how many were wrong.
 count() {
     printf '%s: %s, of which wrong: %s\n' "$1" "$2" "$3"
 }
 
 "$program" lines >"$room/lines" || echo 'lines: failed'
-# shellcheck disable=SC2016 # the documents have these marks
+# shellcheck disable=SC2016 # the backquotes are those of the documents
 sed -n 's/^Line: `\(.*\)`\.$/\1/p' "$table"/*.md | sort >"$room/wanted"
 grep -v '^    ' "$room/lines" | sort >"$room/forms"
 diff "$room/wanted" "$room/forms" >"$room/differences"
@@ -29,7 +30,7 @@ done <"$room/lines"
 count 'examples that are assembled' "$examples" "$wrong"
 count 'commands that are told alone' "$examples" "$alone"
 
-# told_code CODE NAME: counts a code, and whether `tpmsim code` has this name for it.
+# told_code CODE NAME: counts a code, and checks that `tpmsim code` prints this name for it.
 codes=0
 wrong=0
 told_code() {
@@ -42,7 +43,7 @@ plus() {
     printf '%x' "$((0x$1 + $2))"
 }
 
-# shellcheck disable=SC2016 # as above
+# shellcheck disable=SC2016 # the backquotes are those of the documents
 sed -n 's/^| `\([0-9A-F]*\)` | \([A-Z_0-9]*\) | .*/\1 \2/p' "$table/README.md" >"$room/codes"
 while read -r code name; do
     told_code "$code" "$name"

@@ -1,5 +1,5 @@
-# Runs the two commands of the README as on an ARM64 machine. In a copy of the repository uname names that
-# machine, and programs for it run in qemu, in a namespace of their own. There the launcher verifies the
+# Runs the two commands of the README as on an ARM64 machine. In a copy of the repository, uname reports an
+# ARM64 machine, and programs for ARM64 run in qemu, in a separate namespace. There the launcher verifies the
 # program for ARM64, and not the one for x86-64.
 tests=$(cd "$(dirname "$0")/.." && pwd -P)
 . "$tests/common/cases.sh"

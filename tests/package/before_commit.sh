@@ -5,7 +5,7 @@ tests=$(cd "$(dirname "$0")/.." && pwd -P)
 needs git python3 shellcheck
 top=${tests%/*}
 
-# A folder with the tools that the script needs, and other folders with the optional tools.
+# Makes a folder with the tools that the script needs, and other folders with the optional tools.
 mkdir tools_there rt_there linters_there
 for tool in cat cut getconf git grep mv sed sh sort xargs; do
     ln -s "$(command -v "$tool")" "tools_there/$tool"
@@ -38,7 +38,7 @@ printf 'import sys\nprint(sys.path)\n' >good.py
 echo 'fn one() {}' | tee crates/tpm_one/src/lib.rt >crates/tpm_two/src/lib.rt
 git init -q . && git add . && git -c user.name=t -c user.email=t@localhost commit -q -m 'Begin'
 
-# before FOLDER..: runs the script with these folders of tools.
+# before FOLDER..: runs the script with the tools in these folders.
 before() {
     path=$room/folder/tools_there
     for folder do path=$path:$room/folder/$folder; done
@@ -53,7 +53,7 @@ before
 echo '== all is wrong'
 echo 'fn one() {}  ' >crates/tpm_one/src/lib.rt
 printf '%s\n' '[nobody](none.md)' 'It stands here.' >>README.md
-# shellcheck disable=SC2016 # the script has the name
+# shellcheck disable=SC2016 # the generated script expands it
 echo 'echo $word' >>good
 echo 'import unused' >>good.py
 before rt_there linters_there | grep -e '^[a-zA-Z.]*:' -e '^tpm_' -e '^In ' -e passed -e status

@@ -1,12 +1,12 @@
-# Prints what bash completes: the program's subcommands, options, files and names of commands. Also the
-# subcommands in the help of a newer program.
+# Prints bash's completions: subcommands, options, files and command names of the program, and the subcommands
+# in the help of a newer program.
 tests=$(cd "$(dirname "$0")/.." && pwd -P)
 . "$tests/common/cases.sh"
 needs bash python3
 top=${tests%/*}
 
-# complete_words FOLDER: reads lines of words, and prints the completions of the last word, with the
-# programs of this folder. `_` is an empty word.
+# complete_words FOLDER: reads lines of words from standard input, and prints the completions of each line's
+# last word, with the programs of this folder. `_` stands for an empty word.
 complete_words() {
     cat >complete.bash <<'CODE'
 . "$1"

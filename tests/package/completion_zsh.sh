@@ -1,11 +1,11 @@
-# Prints what zsh completes in the cases of completion_bash.sh, and the explanation of each completion.
+# Prints zsh's completions for the same words as completion_bash.sh, and the explanation of each completion.
 tests=$(cd "$(dirname "$0")/.." && pwd -P)
 . "$tests/common/cases.sh"
 needs zsh python3
 top=${tests%/*}
 
-# complete_words FOLDER: reads lines of words, and prints the completions of the last word, with the
-# programs of this folder. `_` is an empty word.
+# complete_words FOLDER: reads lines of words from standard input, and prints the completions of each line's
+# last word, with the programs of this folder. `_` stands for an empty word.
 complete_words() {
     cat >complete.zsh <<'CODE'
 _describe() { print -rl -- ${(P)@[-1]} }
@@ -39,7 +39,7 @@ tpmsim|help|_
 tpmsim-explain|-
 tpmsim-explain|_
 CODE
-# Each TPM command has a line. The first lines are enough here.
+# There is one line for each TPM command. It suffices to print the first lines.
 awk '/^==/ { lines = 0 } lines++ < 9' completed
 
 echo '== a program with another subcommand'

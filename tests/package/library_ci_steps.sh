@@ -1,5 +1,6 @@
-# Runs the steps of .github/actions/tpmsim, and those of its snippet for GitLab. They start a device, which
-# later steps reach by the variables of the job. Wrong words, and a device that does not start, end the step.
+# Runs the steps of .github/actions/tpmsim, and those of its snippet for GitLab. They start a device, and
+# later steps find it through the job's environment variables. A step fails if its inputs are wrong or if the
+# device does not start.
 tests=$(cd "$(dirname "$0")/.." && pwd -P)
 . "$tests/common/cases.sh"
 . "$tests/common/library.sh"
@@ -18,7 +19,7 @@ end_devices() {
     done
 }
 
-# A copy of the parts of the repository that the steps need, with the library under test.
+# Copies the parts of the repository that the steps need, with the library under test.
 mkdir -p "$room/source/dist" "$room/source/.github"
 cp -r "$top/.github/actions" "$room/source/.github/" && cp -r "$top/hosts" "$room/source/" &&
     cp -L "$dist/tpmsim" "$archive" "$dist/tpmsim.h" "$room/source/dist/"
@@ -47,7 +48,7 @@ for DEVICE in serve simulator; do
     mkdir "$RUNNER_TEMP"
     sed -n "s/^ *- run: '\(.*\)'\$/\1/p" "$GITHUB_ACTION_PATH/action.yml" >step
     sh -e step
-    # shellcheck disable=SC2046 # they are words
+    # shellcheck disable=SC2046 # word splitting is intended
     env $(cat "$GITHUB_ENV") python3 client.py
 
     echo "== GitLab, $DEVICE"

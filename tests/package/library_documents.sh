@@ -1,12 +1,12 @@
 # Checks the files that are installed with the program. Each link of a document leads to an installed file,
-# and the examples run. Whatever man pages and documents name is installed, or they say that it is in the
-# sources.
+# and the examples run. Each file that man pages and documents name is installed, unless they say that it is
+# in the sources.
 tests=$(cd "$(dirname "$0")/.." && pwd -P)
 . "$tests/common/cases.sh"
 needs python3
 top=${tests%/*}
 
-# The modules are left out, because this compiler has no headers for them.
+# The modules are not installed, because this stand-in for the compiler finds no headers.
 mkdir none
 printf '#!/bin/sh\nexit 1\n' >none/cc
 chmod +x none/cc
@@ -15,7 +15,7 @@ PATH=$room/folder/none:$PATH DESTDIR=$room/root PREFIX=/usr "$top/tools/install.
 documents=$room/root/usr/share/doc/tpmsim
 pages=$room/root/usr/share/man
 
-# follow: prints the broken links in all documents. There are many documents.
+# follow: prints the broken links of all documents, and counts documents and links.
 follow() {
     (cd "$documents" && find . -name '*.md' | sed 's|^\./||' | LC_ALL=C sort | tr '\n' '\0') |
         xargs -0 env PYTHONPATH= python3 -S "$tests/common/links.py" --count "$documents" |

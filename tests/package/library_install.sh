@@ -1,13 +1,13 @@
-# Checks what `tools/install.sh` does for the loader and for Python, and its messages, if there is no DESTDIR.
-# As root it calls ldconfig. It installs the package where python3 finds it.
+# Checks what `tools/install.sh` does for the dynamic loader and for Python if DESTDIR is not set, and its
+# messages. As root it calls ldconfig. It installs the package where python3 finds it.
 tests=$(cd "$(dirname "$0")/.." && pwd -P)
 . "$tests/common/cases.sh"
 needs python3
 top=${tests%/*}
 unset PYTHONPATH DESTDIR
 
-# The modules are left out, because this compiler has no headers for them. The stand-in for ldconfig writes
-# its arguments to `asked`, and prints the content of `known`.
+# The modules are not installed, because this stand-in for the compiler finds no headers. The stand-in for
+# ldconfig writes its arguments to `asked`, and prints the content of `known`.
 mkdir bin
 printf '#!/bin/sh\nexit 1\n' >bin/cc
 cat >bin/ldconfig <<END

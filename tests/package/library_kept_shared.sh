@@ -1,5 +1,5 @@
-# The C host of kept devices as a shared object, which hosts/shared.sh makes. Checks that the one in dist/ is
-# made from the current sources, and which names it defines and needs.
+# Tests the C host of kept devices as a shared object, which hosts/shared.sh makes. Checks that the shared
+# object in dist/ is made from the current sources, and which names it defines and needs.
 tests=$(cd "$(dirname "$0")/.." && pwd -P)
 . "$tests/common/cases.sh"
 . "$tests/common/library.sh"

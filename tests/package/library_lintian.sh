@@ -1,5 +1,5 @@
-# Checks that lintian finds no error in the package, and finds one in a package without a copyright file. The
-# package has the modules if their headers are installed.
+# Checks that lintian finds no error in the package, and an error in a package without a copyright file. The
+# package contains the modules if their headers are installed.
 tests=$(cd "$(dirname "$0")/.." && pwd -P)
 . "$tests/common/cases.sh"
 needs dpkg-deb python3 lintian

@@ -9,13 +9,13 @@ aarch64) machine=arm64 folder=aarch64-linux-gnu dist=$top/dist/aarch64 ;;
 *) machine=amd64 folder=x86_64-linux-gnu dist=$top/dist ;;
 esac
 
-# said COMMAND..: prints the first lines of a command's output, and its status unless that is 0.
+# said COMMAND..: prints the first lines of a command's output, and its status if it is not 0.
 said() {
     "$@" >said 2>&1 || echo "status $?" >>said
     head -n "${lines:-3}" said | sed -e "s|$root|ROOT|g" -e "s|$room|ROOM|g" -e "s|$top|TOP|g"
 }
 
-# A compiler that has no headers of other libraries, so that the modules are left out.
+# A compiler without the headers of other libraries, so that the modules are not installed.
 mkdir headers
 cat >headers/cc <<END
 #!/bin/sh
@@ -60,16 +60,16 @@ cat >program.c <<'END'
 #include <tpmsim.h>
 int main(void) { return tpmsim_version() != TPMSIM_VERSION_NUMBER; }
 END
-# shellcheck disable=SC2046 # they are words
+# shellcheck disable=SC2046 # word splitting is intended
 cc -o shared program.c $(pkg-config --cflags --libs tpmsim) && ./shared && echo 'the shared object'
-# shellcheck disable=SC2046 # as above
+# shellcheck disable=SC2046 # word splitting is intended
 cc -o static program.c $(pkg-config --cflags tpmsim) "$LD_LIBRARY_PATH/libtpmsim.a" && ./static &&
     echo 'the archive'
 cat >program.cpp <<'END'
 #include <tpmsim.hpp>
 int main() { return libtpmsim::Device().save().empty(); }
 END
-# shellcheck disable=SC2046 # as above
+# shellcheck disable=SC2046 # word splitting is intended
 c++ -std=c++17 -o shared program.cpp $(pkg-config --cflags --libs tpmsim) && ./shared &&
     echo 'the header for C++'
 cat >program.py <<'END'

@@ -1,6 +1,6 @@
-# Runs tools/release.sh in a copy of the repository whose dist/ claims to be made from its sources. Checks
-# what prevents a release, and what a release makes. The copy has only the two crates from which dist/ is
-# made.
+# Runs tools/release.sh in a copy of the repository whose dist/ appears to be built from its sources. Checks
+# what prevents a release, and which files a release makes. Of the crates, the copy contains only the two from
+# which dist/ is built.
 tests=$(cd "$(dirname "$0")/.." && pwd -P)
 . "$tests/common/cases.sh"
 needs git dpkg-deb python3
@@ -17,7 +17,7 @@ chmod +x none/cc
 cd copy || exit 1
 version=$(dist/tpmsim --version | sed 's/.* //')
 for of in '' tpmsim_library; do
-    # shellcheck disable=SC2086 # an empty word is left out
+    # shellcheck disable=SC2086 # word splitting is intended
     sum=$(. tools/lib/proved.sh && sources_checksum $of)
     sed -i "s/^${of:+library }sources: .*/${of:+library }sources: $sum/" dist/PROVED
 done
@@ -27,7 +27,7 @@ export GIT_COMMITTER_NAME=Somebody GIT_COMMITTER_EMAIL=somebody@localhost TPMSIM
 PATH=$room/folder/none:$PATH
 git init -q . && git add . && git commit -q -m 'Begin'
 
-# release LABEL: prints the output of a release, without its version, checksums of files and times.
+# release LABEL: tries a release, and prints the output without the version, checksums and times.
 release() {
     echo "== $1"
     tools/release.sh "$room/made" 2>&1 | sed -e 's/[0-9a-f]\{64\}/SUM/' -e "s/$version/VERSION/g" \

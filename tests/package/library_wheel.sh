@@ -1,6 +1,6 @@
-# tools/wheel.py makes a wheel that contains the library. pip installs it in a plain venv without a network.
-# pip also installs the folder python/, and changes nothing there. README's first example runs, and so does
-# the program.
+# Tests the wheel that tools/wheel.py makes, which contains the library. Without a network, pip installs it in
+# a new venv. pip also installs the folder python/, and changes nothing there. The first example of
+# python/README.md runs, and so does the program.
 tests=$(cd "$(dirname "$0")/.." && pwd -P)
 . "$tests/common/cases.sh"
 needs python3
@@ -11,7 +11,7 @@ export PIP_NO_COMPILE=1 PIP_NO_INDEX=1 PIP_NO_CACHE_DIR=1 PIP_DISABLE_PIP_VERSIO
 command python3 -m venv venv >said 2>&1 || skip 'there is no venv of Python (Debian: python3-venv)'
 venv=$PWD/venv
 
-# try WHAT: installs WHAT, and tries it from another folder.
+# try WHAT: installs WHAT, and uses it from another folder.
 try() {
     "$venv/bin/pip" install -q "$1" || echo "pip: status $?"
     (cd / && "$venv/bin/python" "$room/folder/example.py" | sed 's/^[0-9a-f]\{8\}$/4 random bytes/' &&

@@ -1,5 +1,6 @@
-# Checks the man pages. man reads each without a warning. They contain what the program, the header and the
-# documents say. A new subcommand is in the page as soon as the program's --help names it.
+# Checks the man pages. man prints each of them without a warning. They describe everything that the program's
+# help, the header and the documents describe. A new subcommand is in the man page as soon as the program's
+# --help lists it.
 tests=$(cd "$(dirname "$0")/.." && pwd -P)
 . "$tests/common/cases.sh"
 needs python3 man groff

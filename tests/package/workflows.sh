@@ -1,5 +1,5 @@
-# Checks that the workflows for GitHub and GitLab name only existing files and targets. steps.py runs their
-# commands with --run, which no test does.
+# Checks that the workflows for GitHub and GitLab name only existing files and targets. No test runs their
+# commands; `steps.py --run` does that.
 tests=$(cd "$(dirname "$0")/.." && pwd -P)
 . "$tests/common/cases.sh"
 needs python3

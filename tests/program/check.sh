@@ -1,17 +1,17 @@
-# Checks the output of `tpmsim check` for scripts: the number of each bad line, its fault with its column, and
-# what is expected there (docs/SCRIPTS.md, docs/LINES.md). Each tested line is between two good ones. Lines
-# are written and shown with the escapes of printf.
+# Checks the output of `tpmsim check` for scripts: the number of each bad line, its fault and column, and what
+# is expected there (docs/SCRIPTS.md, docs/LINES.md). Each tested line is between two good ones. Lines are
+# written and printed with the escapes of printf.
 tests=$(cd "$(dirname "$0")/.." && pwd -P)
 . "$tests/common/cases.sh"
 
 # second LINE [LABEL]: checks a script whose second line is LINE.
 second() {
-    # shellcheck disable=SC2059 # a line has escapes of printf
+    # shellcheck disable=SC2059 # the line contains printf escapes
     printf "# the first\n$1\n$startup\n" >script
     run "${2:-\"$1\"}" check script
 }
 
-# zeros BYTES: prints that many zero bytes in hex.
+# zeros BYTES: prints this number of zero bytes in hex.
 zeros() {
     printf '%0*d' "$((2 * $1))" 0
 }
@@ -51,7 +51,7 @@ second "entropy $(zeros 257)" 'entropy and 257 bytes'
 second 'power '
 second 'power 1'
 
-# The lines of docs/LINES.md that have faults.
+# The faulty lines of docs/LINES.md.
 second 'do Bogus'
 second 'do GetRandom'
 second 'do GetRandom x'
@@ -103,8 +103,8 @@ second 'power'
 second ''
 second '#\377'
 
-# The sum of the waits before a command has a limit. A bad wait adds nothing to it, and a power cycle does not
-# reset it.
+# The sum of the waits before a command has a limit. A bad wait adds nothing to the sum, and a power cycle
+# does not reset it.
 cat >script <<'END'
 wait 4294967295
 power
@@ -119,7 +119,7 @@ wait 1
 END
 run 'waits' check script
 
-# Each bad line is reported by its number, also after lines that are too long.
+# Each bad line is reported with its number, even after lines that are too long.
 {
     printf 'bad\n%s\n' "$startup"
     printf '#%065535d\n#%065536d\n' 0 0
@@ -129,7 +129,8 @@ run 'several' check script
 run 'several on standard input' check - <script
 run 'several, run' run script
 
-# Good scripts: one without lines, one whose last line has no end, and one whose lines a run refuses.
+# Good scripts: one without lines, one whose last line has no line break, and one whose commands the device
+# refuses.
 : >script
 run 'an empty script' check script
 printf 'cmd' >script

@@ -1,5 +1,5 @@
-# Which command lines are valid: `run [--trace] SCRIPT`, with `-` for standard input; `asm LINE`, whose line
-# is one word; and `line HEX`. kept_scripts.sh tests those of `run --image`, and check.sh those of `check`.
+# Tests which command lines are valid: `run [--trace] SCRIPT`, with `-` for standard input; `asm LINE`, where
+# the line is one argument; and `line HEX`. kept_scripts.sh tests `run --image`, and check.sh tests `check`.
 # Help and the version are printed on standard output. All other command lines are refused, although the files
 # that they name exist and are scripts.
 tests=$(cd "$(dirname "$0")/.." && pwd -P)
@@ -18,18 +18,18 @@ words() {
     echo cmd | run "tpmsim${*:+ $*}" "$@"
 }
 
-# The script is read from the file, although standard input has another script.
+# The script is read from the file, although there is another script on standard input.
 words run a
 words run ./-
 
 # The script is read from standard input, although there is a file with the name `-`.
 words run -
 
-# No words; and `run` without a script.
+# No arguments, and `run` without a script.
 words
 words run
 
-# `run` with a script and one word too many.
+# `run` with a script and one argument too many.
 words run a b
 words run - a
 words run a -
@@ -61,7 +61,7 @@ served --state state --log log
 served --image image --state state --log log
 served --log log
 
-# Commands on a state, which take one folder.
+# Subcommands on a device in a folder, which take one folder.
 words power
 words power a b
 words snapshot
@@ -73,19 +73,19 @@ words script
 words script a b
 words script --state a
 
-# `asm` with a command in words. assemble.sh has more of them.
+# `asm` with a command in words. assemble.sh tests more commands.
 run "tpmsim asm 'Startup 0'" asm 'Startup 0'
 run "tpmsim asm Bogus" asm Bogus
 run "tpmsim asm ''" asm ''
 
-# `asm` without a word, or with more than one.
+# `asm` without an argument, or with more than one.
 words asm
 run "tpmsim asm Startup 0" asm Startup 0
 run "tpmsim asm 'Startup 0' a" asm 'Startup 0' a
 run "tpmsim asm --trace 'Startup 0'" asm --trace 'Startup 0'
 run "tpmsim --trace asm 'Startup 0'" --trace asm 'Startup 0'
 
-# `line` with a buffer, whose line is printed. line.sh has more of them.
+# `line` with a buffer, whose line is printed. line.sh tests more buffers.
 words line 80010000000c000001440000
 words line 80010000000c00000144
 words line 8
@@ -103,7 +103,7 @@ words -h
 words --version
 words -V
 
-# Words that are not commands.
+# Words that are not subcommands.
 words a
 words walk a
 words ru a
@@ -113,6 +113,6 @@ words help run
 words help line
 words version
 
-# A word that is not UTF-8.
+# An argument that is not UTF-8.
 echo cmd | run 'tpmsim run \377' run "$(printf '\377')"
 run "tpmsim asm 'Startup \377'" asm "$(printf 'Startup \377')"

@@ -1,5 +1,5 @@
-# Types the lines of docs/EXPLAIN.md that are meant for the reader. Each prints the output that the page shows
-# below it.
+# Executes the shell lines of docs/EXPLAIN.md that a reader is meant to type. Each line must print the output
+# that the page shows below it.
 tests=$(cd "$(dirname "$0")/.." && pwd -P)
 . "$tests/common/cases.sh"
 . "$tests/common/typed.sh"

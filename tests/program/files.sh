@@ -1,5 +1,5 @@
-# Scripts and streams that cannot be opened, read or written. The program ends with status 3 and `tpmsim:
-# file`.
+# Tests scripts and streams that cannot be opened, read or written. The program ends with status 3 and
+# `tpmsim: file`.
 tests=$(cd "$(dirname "$0")/.." && pwd -P)
 . "$tests/common/cases.sh"
 
@@ -26,7 +26,8 @@ run 'a folder as standard input' run - <a_folder
 run 'standard input that is closed' run - <&-
 run 'standard input that is closed, and a script in a file' run script <&-
 
-# Standard input whose reads fail after the first lines: this pipe does not block, and nothing more comes.
+# Standard input from which reads fail after the first lines, since the pipe is non-blocking and nothing more
+# is written to it.
 mkfifo pipe
 exec 3<>pipe
 printf '%s\ncmd\n# half a line' "$startup" >&3
@@ -42,15 +43,15 @@ unseen() {
     report "$1" "$status"
 }
 
-# A full device. If responses are lost, that is the fault, even if a bad line follows.
+# A full device. If responses are lost, that is the reported fault, even if a bad line follows.
 exec 4>/dev/full
 unseen 'a full device' script
 unseen 'a full device, and no response' empty
 unseen 'a full device, and a bad line behind a command' bad_second_line
 unseen 'a full device, and a bad line before any command' bad_first_line
 
-# A pipe that nobody reads.
-# shellcheck disable=SC2094 # it is a pipe
+# A pipe without a reader.
+# shellcheck disable=SC2094 # both are ends of one pipe
 exec 3<>pipe 4>pipe 3<&-
 unseen 'a pipe that nobody reads' script
 unseen 'a pipe that nobody reads, and no response' empty
@@ -60,7 +61,7 @@ status=0
 timeout 60 "$program" run script 2>"$room/error" >&- || status=$?
 report 'standard output that is closed' "$status"
 
-# If standard error cannot be written, the status stays the same.
+# If nothing can be written to standard error, the exit status stays the same.
 rm "$room/error"
 for script in script bad_second_line missing; do
     status=0

@@ -1,6 +1,6 @@
-# Checks that the launcher runs a proved program, and no other. The launcher is in a copy of the repository,
-# in a folder with a space in its path. There the program of this test is shipped as the proved one. A
-# stand-in for `rt` builds another program, which prints that it was built.
+# Checks that the launcher runs a proved program, and no other program. The launcher is in a copy of the
+# repository, in a folder whose path contains a space. There the program under test is shipped as the proved
+# one. A stand-in for `rt` builds another program, which prints that it was built.
 tests=$(cd "$(dirname "$0")/.." && pwd -P)
 . "$tests/common/cases.sh"
 [ "$(uname -m)" = x86_64 ] || skip 'there is no program that tools/dist.sh ships but for x86-64'
@@ -10,7 +10,7 @@ copy="$room/a copy"
 lib=$copy/crates/tpm_line/src/lib.rt
 kept=$room/kept
 
-# The tools that the scripts need, without `rt`; and folders that come first on the path.
+# Makes a folder with the tools that the scripts need, except `rt`, and folders that come first on the path.
 mkdir "$room/tools" "$room/rt" "$room/failing" "$room/other_machine" "$room/no_checksum"
 for tool in awk cat chmod cmp cp dirname find git grep head mkdir mktemp mv readlink rm sed sh \
     sha256sum sort tar touch uname wc xargs; do
@@ -105,7 +105,7 @@ ln -s "$copy/tpmsim" "$room/link"
 with - 'by a link' "$room/link" run -
 (cd "$copy" && with - 'in its folder' sh tpmsim run -)
 
-# Another user starts the launcher, in a checkout to which nobody can write. That start leaves no stamp.
+# Another user starts the launcher, in a read-only checkout. That start leaves no stamp.
 rm -r "$copy/crates/tpmsim/out"
 chmod -R a-w "$copy"
 if [ "$(id -u)" -eq 0 ]; then
@@ -122,7 +122,7 @@ changed "$lib" 'a source'
 changed "$copy/crates.txt" 'crates.txt'
 changed "$copy/crates/tpm_tests/src/lib.rt" 'a crate that it does not stand on'
 
-# Old files and folders that are moved to the sources.
+# Old files and folders that are moved into the sources.
 echo >"$room/more.rt"
 touch -t 200001010000 "$room/more.rt"
 mv "$room/more.rt" "${lib%/*}/more.rt"
@@ -163,7 +163,7 @@ ship_module() (
         "$(checksum <"$module")" >>"$proved"
 )
 
-# What the gate reports about dist/.
+# Prints what the gate reports about dist/.
 with rt 'the gate, with other sources' "$copy/tools/dist.sh" --check
 with rt 'made anew' "$copy/tools/dist.sh"
 ship_module

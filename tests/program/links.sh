@@ -1,5 +1,5 @@
-# Checks that every link of every document leads to a file, and every #anchor to a heading of the file. In
-# test documents, each link that leads nowhere is reported by its line. The page of each command and of each
+# Checks that every link of every document leads to a file, and every #anchor to a heading of that file. In
+# test documents, each broken link is reported with its line number. The page of each command and of each
 # general check has links to its definition and its code.
 tests=$(cd "$(dirname "$0")/.." && pwd -P)
 . "$tests/common/cases.sh"
@@ -15,7 +15,7 @@ follow() {
 }
 
 echo '== the documents of the repository'
-# The names have no spaces.
+# The file names have no spaces.
 # shellcheck disable=SC2046
 follow "$top" $(cat documents)
 

@@ -1,5 +1,5 @@
-# Checks docs/MAP.md. Its list of crates is made from the first clause of each crate's root file. Its picture
-# of the crates' layers is made from crates.txt.
+# Checks docs/MAP.md. Its list of crates is generated from the first clause of each crate's root file, and its
+# picture of the layers from crates.txt.
 tests=$(cd "$(dirname "$0")/.." && pwd -P)
 . "$tests/common/cases.sh"
 needs python3

@@ -1,22 +1,22 @@
-# Checks that each response is printed before more of the script is read. So whoever types or pipes a script
-# sees each response before the next line.
+# Checks that each response is printed before more of the script is read. Therefore whoever types or pipes a
+# script sees each response before sending the next line.
 tests=$(cd "$(dirname "$0")/.." && pwd -P)
 . "$tests/common/cases.sh"
 
-# If the program ends early, this test continues.
+# If the program ends early, this test continues to run.
 trap '' PIPE
 mkfifo lines responses
 
-# begin SCRIPT: starts the program, for at most twenty seconds. It reads from one pipe, and writes its
-# responses to another.
+# begin SCRIPT: starts the program, for at most twenty seconds. The program reads from one pipe, and writes
+# its responses to another pipe.
 begin() {
     timeout 20 "$program" run "$1" <lines >responses 2>"$room/error" &
     exec 3>lines 4<responses
 }
 
-# give TEXT: sends more of the script, with the escapes of printf.
+# give TEXT: sends more of the script. TEXT may contain printf escapes.
 give() {
-    # shellcheck disable=SC2059 # it has escapes of printf
+    # shellcheck disable=SC2059 # the text contains printf escapes
     printf "$1" >&3
 }
 
@@ -55,7 +55,7 @@ exec 3>&-
 answered 'a line that the end ends'
 ended 'the end'
 
-# A line that comes byte by byte, up to its line break.
+# A line that arrives byte by byte, up to its line break.
 begin -
 for byte in c m d ' ' 8 0 0 1 0 0 0 0 0 0 0 c 0 0 0 0 0 1 4 4 0 0 0 0 '\n'; do
     give "$byte"
@@ -72,7 +72,7 @@ give 'cmd\nbad\ncmd\n'
 answered 'a line before a bad one'
 ended 'a bad line'
 
-# A pipe with a path is treated like standard input.
+# A named pipe is treated like standard input.
 mkfifo script
 begin script
 exec 5>script

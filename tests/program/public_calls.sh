@@ -1,6 +1,6 @@
-# Checks that the requested crates, calls and types (public_calls.txt) exist under their names, or that
-# docs/DECISIONS.md names their replacements. The page must list nothing else. Then the test makes each kind
-# of difference in two small crates, and the comparison must report it.
+# Checks that the requested crates, functions and types (public_calls.txt) exist, or that docs/DECISIONS.md
+# names their replacements. That page must list no other replacements. Then the test makes each kind of
+# difference in two small crates, and the comparison must report it.
 # shellcheck disable=SC2016 # the backquotes are those of a page
 tests=$(cd "$(dirname "$0")/.." && pwd -P)
 . "$tests/common/cases.sh"
@@ -105,7 +105,7 @@ END
 echo '== two crates, as their page says'
 compare asked.txt page.md .
 
-# turn FILE SCRIPT: changes a file in the copy of the two crates and their page, with sed.
+# turn FILE SCRIPT: changes a file in a copy of the two crates and their page, with a sed script.
 turn() {
     [ -d ../turned ] || cp -r . ../turned
     cp "../turned/$1" ../before

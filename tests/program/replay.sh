@@ -1,6 +1,6 @@
-# `replay` executes the commands of a journal or a log again. It prints the traces and the responses that `run
-# --trace` printed the first time. An incomplete last entry was not answered, and is left out. If the text is
-# damaged, or a response differs, the fault names the first line of the entry.
+# `replay` executes the commands of a journal or a log again. It prints the same traces and responses as `run
+# --trace` did the first time. An incomplete last entry is ignored, since its command was not answered. If the
+# text is damaged, or a response differs, the fault names the first line of the entry.
 tests=$(cd "$(dirname "$0")/.." && pwd -P)
 . "$tests/common/cases.sh"
 needs python3
@@ -31,8 +31,9 @@ do GetRandom 4
 do GetRandom 8' >script
 "$program" run --state other script >answers
 
-# changed LABEL LINES: changes lines of a copy of the journal by a line of Python, and replays it. The Python
-# function `answered` gives an entry another sum of its response, and the matching sum of its mark.
+# changed LABEL LINES: changes lines of a copy of the journal with a line of Python, and replays it. The
+# Python function `answered` changes the checksum of an entry's response, and updates the checksum in its
+# mark.
 changed() {
     python3 -c "
 lines = open('other/journal', 'rb').read().splitlines(keepends=True)

@@ -1,5 +1,6 @@
-# Tests that cannot run. tools/scripts.sh skips them with their reasons, and then .ci/run fails. Each case is
-# a copy of the repository with other tests, and with stand-ins for the other tools that the gate runs.
+# Checks how tests that cannot run are treated. tools/scripts.sh skips them with their reasons, and then
+# .ci/run fails. Each case uses a copy of the repository with different tests, and with stand-ins for the
+# other tools that the gate runs.
 tests=$(cd "$(dirname "$0")/.." && pwd -P)
 . "$tests/common/cases.sh"
 copy=$room/copy
@@ -13,7 +14,8 @@ for built in tpmsim/out/tpmsim tpmsim_lists/out/tpmsim_lists; do
     ln -s "$program" "$copy/crates/$built"
 done
 
-# played LABEL NAME..: prints the results of these tests, without those of programs that were not built.
+# played LABEL NAME..: prints the results of these tests, without the lines about programs that were not
+# built.
 played() {
     echo "$1:"
     shift
@@ -23,7 +25,7 @@ played() {
     echo "    status $status"
 }
 
-# a_test NAME LINES: makes a test with these lines, whose expected output is `right`.
+# a_test NAME LINES: makes a test script with these lines. Its expected output is `right`.
 a_test() {
     echo "$2" >"$copy/tests/$1.sh"
     echo right >"$copy/tests/$1.out"
@@ -46,9 +48,8 @@ ln -s "$program" "$copy/crates/tpmsim_lists/out/tpmsim_lists"
 played 'tests that fail, and one that cannot run' is_wrong ends_otherwise gives_no_reason \
     gives_an_empty_reason goes_on cannot_run
 
-# Makes a folder with everything on the path. Each case removes some tools from it, and runs the tests that
-# need them. If this machine lacks a tool that a test here or the gate needs, a stand-in that does nothing
-# replaces it.
+# Makes a folder with links to everything on the path. Each case removes some tools from it, and runs the
+# tests that need them. Stand-ins that do nothing replace the tools that some machines lack.
 mkdir "$room/path"
 IFS=:
 for folder in $PATH; do
@@ -63,7 +64,7 @@ done
 rm -r "$copy/tests"
 ln -s "$tests" "$copy/tests"
 
-# on_this_path LABEL NAME..: prints the results of tests with the present tools.
+# on_this_path LABEL NAME..: prints the results of tests with the tools that are in the folder now.
 on_this_path() {
     # shellcheck disable=SC2123 # the tools are found there
     (PATH=$room/path && played "$@")
@@ -95,8 +96,8 @@ without 'cc nm' starved
 failing cc torn
 failing python3 images line
 
-# The gate. Its stand-ins succeed. Its tools/scripts.sh prints what the case specifies, for the shipped
-# program and for the built ones.
+# Tests the gate, with stand-ins that succeed. The stand-in for tools/scripts.sh prints what the case
+# specifies, for the shipped program and for the built programs.
 mkdir "$room/stubs"
 printf '#!/bin/sh\necho 3 passed, 0 failed\n' >"$room/stubs/rt"
 # shellcheck disable=SC2016 # the stand-in expands them

@@ -1,7 +1,7 @@
-# Writes a device in a folder as a state text, and restores it. The device has an HMAC session, a policy
-# session with some of its assertions, a transient object and a PCR. The restored device continues as the
-# first one does. A refused text leaves the folder unchanged. common/restored_folders.py kills a run at each
-# of its calls.
+# Writes the state text of a device in a folder, and restores it. The device has an HMAC session, a policy
+# session with some of its assertions, a transient object and an extended PCR. The restored device continues
+# like the original one. A refused text leaves the folder unchanged. common/restored_folders.py kills a run at
+# each of its system calls.
 tests=$(cd "$(dirname "$0")/.." && pwd -P)
 . "$tests/common/cases.sh"
 needs cc nm python3
@@ -34,8 +34,8 @@ same() {
     if cmp "$2" "$3"; then echo "$1: the same"; else echo "$1: NOT THE SAME"; fi
 }
 
-# same_device LABEL FILE FILE: prints whether two state texts are the same, except the start of the completing
-# layer: a restored device has a new one. The start comes 176 bytes before the end, and the digest ends a text.
+# same_device LABEL FILE FILE: prints whether two state texts are the same, except for the layer's start
+# number, 176 bytes before the end, which is new for a restored device, and the digest at the end.
 same_device() {
     for text in "$2" "$3"; do
         head -c -176 "$text" >"$text.before"
@@ -66,11 +66,11 @@ sed -n 's/ .* \(ok\|[GAM][0-9]*\) / \1 /p' answers
 "$program" snapshot second >again
 same_device 'the snapshots then' later again
 
-# A journal that begins with a state text is executed again, and printed.
+# A journal that begins with a state text can be executed again, and printed as a script.
 "$program" replay second/journal >again && same 'what is answered again' answers again
 "$program" script second | sed -n '1s/\(journal 2\) .*/\1/p; 3p'
 
-# A device is replaced, also in a process that holds it.
+# A device is replaced while a process holds it. That process continues with the new device.
 mkfifo input
 "$program" run --state first - <input >"$room/held" &
 exec 3>input
@@ -92,7 +92,8 @@ run 'what was before' restore first text
 "$program" run --trace --state first after >again
 same 'what is answered then' answers again
 
-# bent LABEL LINE: changes a text by a line of Python, and restores it. The folder is unchanged.
+# bent LABEL LINE: changes a state text with a line of Python, and tries to restore it. The folder must be
+# unchanged.
 bent() {
     python3 -c "
 import hashlib
@@ -119,7 +120,7 @@ bent 'nothing' 'text = bytes()'
 "$program" run --image image before >"$room/output"
 run 'an image' restore first image
 
-# A journal whose head has right sums, but a text that is not a state.
+# A journal whose head has correct checksums, but contains a text that is not a state text.
 python3 -c "
 def fnv(data, total=0xCBF29CE484222325):
     for byte in data:
@@ -140,7 +141,7 @@ head_text() {
     sed -n '2s/^# //p' "$1" | python3 -c 'import sys; sys.stdout.buffer.write(bytes.fromhex(sys.stdin.read()))'
 }
 
-# A journal whose head is of version 1 is not opened. Its state text can be restored.
+# A journal whose head has version 1 is not opened, but its state text can be restored.
 cp -R second earlier
 python3 "$tests/common/earlier_head.py" earlier/journal
 cp earlier/journal earlier_journal

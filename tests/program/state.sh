@@ -1,5 +1,5 @@
-# A device in a folder. Sessions and PCRs keep their state from one run to the next, and a power cycle ends
-# the sessions. The history is printed as a script, which has the same responses.
+# Tests a device in a folder. Sessions and PCRs keep their state from one run to the next, and a power cycle
+# ends the sessions. The history is printed as a script, and playing that script returns the same responses.
 tests=$(cd "$(dirname "$0")/.." && pwd -P)
 . "$tests/common/cases.sh"
 needs python3
@@ -17,14 +17,14 @@ do ReadClock' >second.tpm
 echo 'do GetRandom 8' >third.tpm
 (echo 'do Startup 0'; cat second.tpm) >fourth.tpm
 
-# play LABEL WORDS..: runs the program, and keeps the responses for `replay`.
+# play LABEL WORDS..: runs the program, and stores the responses for `replay`.
 play() {
     run "$@"
     cat "$room/output" >>"$room/answered"
 }
 
-# replay LABEL: plays the output of `tpmsim script` on the device of the state text in its second line. Prints
-# whether the responses are the same.
+# replay LABEL: plays the output of `tpmsim script` on the device that its second line contains as a state
+# text. Prints whether the responses are the same.
 replay() {
     "$program" script state >told.tpm || echo 'there is no script'
     sed -n '2s/^# //p' told.tpm | python3 -c '
@@ -57,7 +57,7 @@ printf 'do Startup 0\npower\ndo Startup 0\ndo GetCapability 1 02000000 8\n' >cyc
 run 'power cycles in a script' run --trace --state state cycles.tpm
 grep -c '^cmd' state/journal
 
-# A script with a line that is not valid in a script. The lines before it are executed.
+# A script with an invalid line. The lines before that one are executed.
 printf 'do GetRandom 4\nwhat\ndo GetRandom 4\n' >bad.tpm
 run 'a bad line' run --state state bad.tpm
 grep -c '^cmd' state/journal

@@ -1,5 +1,6 @@
-# A kept device in a folder that its user may enter and change, but not read. The program cannot sync the name
-# of the device's folder there. It reports this once; if it has just made the device's folder, this is a fault.
+# Tests a kept device whose parent folder may be entered and written by its user, but not read. The program
+# cannot sync the name of the device's folder in the parent folder. It reports this once. If it has just made
+# the device's folder, this is a fault.
 tests=$(cd "$(dirname "$0")/.." && pwd -P)
 . "$tests/common/cases.sh"
 [ "$(id -u)" -ne 0 ] || needs setpriv

@@ -1,5 +1,5 @@
-# A kept device whose journal has grown to 262,144 bytes. The next command begins the journal again, with the
-# whole state of the device. The device continues like one that is not kept.
+# Tests a kept device whose journal has grown to 262,144 bytes. The next command restarts the journal with the
+# whole state of the device. The device continues like a device that is not kept.
 tests=$(cd "$(dirname "$0")/.." && pwd -P)
 . "$tests/common/cases.sh"
 

@@ -1,5 +1,5 @@
-# A kept device refuses a path that is not a folder or file of the user, a damaged journal, and a missing
-# journal. It changes nothing.
+# Checks that a kept device is refused if a path is not a folder or file of the user, or if the journal is
+# damaged or missing. Nothing is changed then.
 tests=$(cd "$(dirname "$0")/.." && pwd -P)
 . "$tests/common/cases.sh"
 needs python3
@@ -42,8 +42,8 @@ run 'a link to the folder' run --state link one
 run 'a link to the folder, with a slash' run --state link/ one
 run 'a file in the place of the folder' run --state script one
 run 'a folder above that is not there' run --state none/state one
-# damage LABEL CODE: changes the journal's bytes by a line of Python, and prints whether the file stays as it
-# is.
+# damage LABEL CODE: changes the journal's bytes with a line of Python, and prints whether the program leaves
+# the file unchanged.
 damage() {
     rm -rf state && cp -R kept state
     python3 -c "
@@ -55,7 +55,7 @@ open(path, 'wb').write(text)
 "
     cp state/journal before
     for words in 'run --state state one' 'power state' 'script state'; do
-        # shellcheck disable=SC2086 # they are words
+        # shellcheck disable=SC2086 # word splitting is intended
         timeout 60 "$program" $words >"$room/output" 2>"$room/error"
         echo "$1, ${words%% *}: status $?, $(cat "$room/error")"
         cmp before state/journal || cp before state/journal
@@ -71,7 +71,8 @@ damage 'no journal' 'text = b"something else\n"'
 damage 'an empty file' 'text = b""'
 damage 'a random byte turned' 'text = text.replace(b"entropy 00000000\n", b"entropy 00000001\n")'
 
-# An incomplete last entry was not answered. It is cut off before the next entry is written.
+# The command of an incomplete last entry was not answered. The entry is cut off before the next one is
+# written.
 for count in 1 40 100 180; do
     rm -rf state && cp -R kept state
     truncate -s "-$count" state/journal

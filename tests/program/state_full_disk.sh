@@ -1,9 +1,9 @@
-# A kept device on a full disk. Its journal is unchanged, and a command whose entry does not fit is not
-# answered. When there is space again, the device continues. The disk is mounted only for this test, by root
-# or by a user who may be root in a namespace.
+# Tests a kept device on a full disk. Its journal stays unchanged, and a command whose entry does not fit is
+# not answered. When there is space again, the device continues. The disk is mounted only for this test, by
+# root or by a user who may be root in a namespace.
 if [ -z "${own_mounts:-}" ]; then
     for user in '' '--user --map-root-user'; do
-        # shellcheck disable=SC2086 # it is two words, or none
+        # shellcheck disable=SC2086 # word splitting is intended
         ! unshare $user --mount true 2>/dev/null ||
             own_mounts=yes exec unshare $user --mount sh "$0" "$@"
     done

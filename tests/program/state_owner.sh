@@ -1,4 +1,4 @@
-# A kept device whose folder or files belong to another user is refused. It stays unchanged.
+# Checks that a kept device whose folder or files belong to another user is refused, and stays unchanged.
 tests=$(cd "$(dirname "$0")/.." && pwd -P)
 . "$tests/common/cases.sh"
 [ "$(id -u)" = 0 ] || skip 'only root can give a file to another user'

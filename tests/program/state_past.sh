@@ -1,4 +1,5 @@
-# `--keep N`: N finished journals stay in the folder of a device, as with the option keep=N of libtss2's module.
+# Tests `--keep N`, with which N finished journals stay in the folder of a device, as with the option keep=N
+# of the module for libtss2.
 tests=$(cd "$(dirname "$0")/.." && pwd -P)
 . "$tests/common/cases.sh"
 . "$tests/common/served.sh"
@@ -11,7 +12,7 @@ journals() {
     echo
 }
 
-# asks COUNT WORDS..: runs a script of COUNT commands on the device in the folder, with these words.
+# asks COUNT WORDS..: runs a script of COUNT commands on the device in the folder, with these options.
 asks() {
     count=$1
     shift
@@ -36,13 +37,13 @@ for number in 1 2 3; do
     "$program" replay "state/journal.$number" | grep -c GetRandom
 done
 
-# A killed process left a number unused. The journals with higher numbers are kept.
+# A killed process left a gap in the numbers. The journals with higher numbers are kept.
 asks 6
 rm state/journal.2
 "$program" power state --keep=3
 journals
 
-# With a smaller number N, the last journal is replaced, and the others are kept.
+# With a smaller N, the last of the N journals is replaced, and journals with higher numbers are kept.
 asks 7
 "$program" power --keep 1 state
 journals
@@ -60,7 +61,7 @@ talk 'a served device' 4096 "$(words 'GetRandom 4')"
 wait
 journals
 
-# A journal that was linked by a killed process is not linked again.
+# If a killed process has already linked the journal as a finished one, it is not linked again.
 ln -f state/journal state/journal.1
 asks 0
 "$program" power --keep 3 state
@@ -79,7 +80,7 @@ journals
 run 'nothing in the way' power --keep 3 state
 journals
 
-# The number is 0 to 99, and needs a folder.
+# The number must be 0 to 99, and the option needs a folder.
 run 'keep 99' power --keep 99 state
 run 'keep 100' power --keep 100 state
 run 'keep -1' power --keep -1 state

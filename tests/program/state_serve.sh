@@ -1,4 +1,4 @@
-# A kept device is served on a socket while runs use the same device.
+# Serves a kept device on a socket while other runs use the same device.
 tests=$(cd "$(dirname "$0")/.." && pwd -P)
 . "$tests/common/cases.sh"
 . "$tests/common/served.sh"
@@ -46,7 +46,7 @@ rm state/journal
 talk 'a journal that is gone' 100 "$read"
 ended 'a journal that is gone'
 
-# Command lines and devices that cannot be served.
+# Invalid command lines, and devices that cannot be served.
 run 'both an image and a state' serve --socket socket --state state --image image \
     --entropy entropy --locality 0 --connections 0
 run 'random bytes that are not there' serve --socket socket --state other --entropy none \

@@ -17,7 +17,8 @@ zeros() {
     head -c "$1" /dev/zero
 }
 
-# ending WHAT BYTES COMMAND..: makes a journal without the last BYTES bytes, and appends the command's output.
+# ending WHAT BYTES COMMAND..: makes a journal without its last BYTES bytes, and appends the output of
+# COMMAND.
 ending() {
     what=$1
     bytes=$2
@@ -28,13 +29,14 @@ ending() {
     cp state/journal before
 }
 
-# entries: prints the number of the journal's entries, by the output of `tpmsim script`.
+# entries: prints the number of the journal's entries in the output of `tpmsim script`.
 entries() {
     "$program" script state >told 2>"$room/error" || echo "script: status $?, $(told "$room/error")"
     echo "    entries: $(grep -c '^cmd' told)"
 }
 
-# cut WHAT BYTES COMMAND..: prints what a power cycle and the next command do with such a journal.
+# cut WHAT BYTES COMMAND..: makes a journal with `ending`, and prints what a power cycle and the next command
+# do with it.
 cut() {
     ending "$@"
     run "$what, power" power state
@@ -46,7 +48,7 @@ cut() {
     entries
 }
 
-# refused WHAT BYTES COMMAND..: does the same as `cut` for a journal whose end is damaged.
+# refused WHAT BYTES COMMAND..: like `cut`, for a journal whose end is damaged.
 refused() {
     ending "$@"
     run "$what, run" run --state state one

@@ -1,4 +1,4 @@
-# Checks that docs/THEOREMS.md lists the public functions without an `ensures`, each file with its reason.
+# Checks that docs/THEOREMS.md lists the public functions without an `ensures`, with a reason for each file.
 tests=$(cd "$(dirname "$0")/.." && pwd -P)
 . "$tests/common/cases.sh"
 needs python3

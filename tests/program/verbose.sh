@@ -1,5 +1,5 @@
-# The environment TPMSIM_VERBOSE=1 adds a second line to a fault: the path that it concerns, and the
-# system's reason. The first line stays as it is.
+# Tests the environment variable TPMSIM_VERBOSE=1, which adds to a fault a second line with the path and the
+# system's reason. The first line stays unchanged.
 tests=$(cd "$(dirname "$0")/.." && pwd -P)
 . "$tests/common/cases.sh"
 needs python3

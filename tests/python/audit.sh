@@ -1,7 +1,8 @@
-# Logs that tools/audit.py judges. The log of each script of tests/ and examples/ agrees. The log of the unlocking of a
-# disk is shown with the whole report. Then come logs that are altered, cut or too long, or that begin with another
-# device; scripts with a bad line; and wrong command lines. At the end come devices in Python, each of which does one
-# thing wrong; only the comparison with the history finds that.
+# Tests tools/audit.py, which judges logs. It finds nothing wrong in the log of any script of tests/ and
+# examples/. For the log in which a disk is unlocked, the whole report is printed. Then come logs that are
+# altered, cut or too long, or that begin with another device; scripts with a bad line; and wrong command
+# lines. At the end come devices in Python that each do one thing wrong, which only the comparison with the
+# history finds.
 tests=$(cd "$(dirname "$0")/.." && pwd -P)
 . "$tests/common/cases.sh"
 needs python3
@@ -14,7 +15,7 @@ trace() {
     "$program" run --trace "$1" >"$2" 2>/dev/null
 }
 
-# judge LABEL WORDS..: adds a case. One process runs all cases. Without words it adds a heading.
+# judge LABEL WORDS..: adds a case, or without words a heading. One process runs all cases at the end.
 judge() {
     tab=
     for word do
@@ -29,7 +30,7 @@ at() {
     grep -n "$2" whole | sed -n "$1s/:.*//p"
 }
 
-# bend FILE N LINE: writes the log to a file, with line N replaced by LINE.
+# bend FILE N LINE: writes the log to a file, and replaces line N with LINE.
 bend() {
     awk -v at="$2" -v instead="$3" 'NR == at { print instead; next } { print }' whole >"$1"
 }

@@ -1,8 +1,8 @@
-# Policies in words, by which tools/audit.py judges logs. Their digests are compared with published ones, and
-# with digests that Python's hashlib computes from the bytes below. Then logs are judged: the log of
-# tests/policies/written_policies.tpm with its whole report, the log of tests/sessions/lost_grounds.tpm, and
-# the log of a device that is not new. Then come devices in Python, each of which does one thing wrong; and
-# broken hashes, with which a use does not meet its policy. Last come files that are not policies.
+# Tests written policies, with which tools/audit.py judges logs. Their digests are compared with published
+# digests, and with digests that Python's hashlib computes from the bytes below. Then logs are judged: the log
+# of tests/policies/written_policies.tpm with its whole report, the log of tests/sessions/lost_grounds.tpm,
+# and the log of a device that is not new. Then come devices in Python that each do one thing wrong, and
+# broken hash functions, with which a use does not satisfy its policy. Last come files that are not policies.
 # shellcheck disable=SC2154 # `eval` sets the hashes
 tests=$(cd "$(dirname "$0")/.." && pwd -P)
 . "$tests/common/cases.sh"
@@ -18,8 +18,8 @@ endorsement=837197674484b3f81a90cc8d46a5d724fd52d76e06520b64f2a1da1b331469aa
 index=000b000102030405060708090a0b0c0d0e0f101112131415161718191a1b1c1d1e1f
 comparisons='eq neq sgt ugt slt ult sge uge sle ule bs bc'
 
-# Hashes, computed only by hashlib. A line has a name, an algorithm, and bytes that are joined: hex, or the
-# name of a hash above it.
+# Computes digests, with nothing but hashlib. Each line contains a name, a hash algorithm, and parts that are
+# concatenated: hex, or the name of an earlier digest.
 comparison_hashes() {
     number=0
     before=$zeros_1
@@ -75,7 +75,7 @@ END
 )
 eval "$hashes"
 
-# digest LABEL ALGORITHM WANTED: a policy, on standard input, with its expected digest.
+# digest LABEL ALGORITHM WANTED: adds the policy on standard input, and its expected digest.
 mkdir digests
 : >wanted
 digest() {
@@ -84,7 +84,7 @@ digest() {
     printf '%s\t%s\t%s\t%s\n' "$file" "$1" "$2" "$3" >>wanted
 }
 
-# Used by many programs; and the authPolicy of the TCG EK Credential Profile, PolicyA_SHA256.
+# Policies that many programs use, and the authPolicy PolicyA_SHA256 of the TCG EK Credential Profile.
 echo PolicyAuthValue | digest 'PolicyAuthValue' sha256 "$value"
 echo PolicyPassword | digest 'PolicyPassword' sha256 "$value"
 echo 'PolicySecret ENDORSEMENT -' | digest 'PolicySecret' sha256 "$endorsement"
@@ -100,7 +100,7 @@ echo 'PolicyNvWritten 1' | digest 'written' sha256 "$written"
 echo 'PolicySecret 00000010 6469736b' | digest 'a PCR, and a policyRef' sha256 "$of_pcr"
 echo "PolicySecret $index -" | digest 'a Name' sha1 "$of_name"
 
-# The digest of two PCRs is that of 64 zeros; the others are digests of the empty text.
+# The digest of the two PCRs is the digest of 64 zero bytes. The other values are digests of the empty text.
 printf 'PolicyPCR sha256:7,11 %s\nPolicyAuthValue\n' "$two_pcrs" |
     digest 'PCRs and the value' sha256 "$both"
 printf 'PolicyPCR sha256:7=%s,11=%s\nPolicyAuthValue\n' $zeros $zeros |
@@ -148,8 +148,8 @@ while IFS="$(printf '\t')" read -r file label algorithm digest; do
     echo "$label, $algorithm: $found, $agrees"
 done <wanted
 
-# The policies of tests/policies/written_policies.tpm. PCR 7 and 11 had an event each; the index has 8 bytes,
-# and OWNERWRITE, OWNERREAD, AUTHREAD and WRITTEN.
+# The policies of tests/policies/written_policies.tpm. PCR 7 and PCR 11 were each extended by one event. The
+# NV index has 8 bytes, and the attributes OWNERWRITE, OWNERREAD, AUTHREAD and WRITTEN.
 mkdir -p policies/written_policies policies/lost_grounds
 cat >policies/written_policies/disk <<END
 # The key of a disk.
@@ -203,7 +203,7 @@ trace written_policies
 echo 'A LOG WITH ITS POLICIES:'
 audit_by written_policies disk update version hash once unseal
 
-# docs/USING.md shows the policy `disk`.
+# Checks that docs/USING.md shows the policy `disk`.
 using=$tests/../docs/USING.md
 echo 'WHAT docs/USING.md SHOWS:'
 sed -n '/^# The key of a disk/,/^```/p' "$using" | sed '$d' >shown
@@ -227,8 +227,8 @@ sed -i 's|policies/written_policies/[a-z]*|FILE|; s/PolicyPCR sha256:.*/PolicyPC
 cmp by_digest by_values && echo 'the same'
 rm policies/written_policies/values
 
-# The policies of tests/sessions/lost_grounds.tpm. In the first PCR 16 is zeros. An index has 8 bytes, and the
-# owner defined it.
+# The policies of tests/sessions/lost_grounds.tpm. In the first policy, PCR 16 is zero. The NV index has 8
+# bytes, and the owner defined it.
 trace lost_grounds
 cd policies/lost_grounds || exit 1
 echo nothing >nothing
@@ -256,8 +256,8 @@ awk '/^Policy/ { name = $2 } /meets it$/ { met[name]++ } /not meet/ { print }
     END { for (name in met) print name ": " met[name] }' told | sort
 sed -n '/^Each entity/,$p' told
 
-# A policy of tests/sessions/grounds.tpm, in which an object has the empty authorization value. Then the audit
-# proves nothing.
+# A policy of tests/sessions/grounds.tpm, where an object has an empty authorization value. In this case the
+# audit proves nothing.
 trace grounds
 mkdir policies/grounds
 echo PolicyAuthValue >policies/grounds/value
@@ -265,7 +265,7 @@ echo 'AN EMPTY VALUE:'
 audit_by grounds value | grep 'empty'
 rm -r policies/grounds
 
-# A device that already has an index with a policy. The index is used after TPM2_Startup.
+# A device that already has an NV index with a policy. The index is used after TPM2_Startup.
 cat >before.tpm <<END
 do Startup 0
 do NV_DefineSpace OWNER pw:- - 01000001000b000800080020${write}0008
@@ -289,7 +289,7 @@ echo 'WEAK HASHES: what is told of each.'
 mkdir weak
 python3 "$scripts/weak_hashes.py" weak
 
-# judge LABEL WORDS..: adds a case. One process runs all cases. Without words it adds a heading.
+# judge LABEL WORDS..: adds a case, or without words a heading. One process runs all cases at the end.
 judge() {
     tab=
     for word do
@@ -312,7 +312,7 @@ head -n 20 written_policies >half
 judge 'a log that is cut' "$script" half --policy $disk
 judge 'the same policy twice' "$script" written_policies --policy $disk --policy $disk
 
-# fault LABEL LINES: adds a case with a file of these lines, which is not a policy.
+# fault LABEL LINES: adds a case with a file that contains these lines and is not a valid policy.
 faults=0
 fault() {
     faults=$((faults + 1))

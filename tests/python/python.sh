@@ -1,5 +1,5 @@
-# Runs the unit tests of the package under python/. They run this program if they need one.
-# tools/python_types.sh checks the package's types; it is not part of this test, because it needs mypy.
+# Runs the unit tests of the package in python/. They run the program under test if they need one.
+# tools/python_types.sh checks the package's types, which is not part of this test because it needs mypy.
 tests=$(cd "$(dirname "$0")/.." && pwd -P)
 . "$tests/common/cases.sh"
 needs python3
@@ -17,7 +17,7 @@ unit_tests() {
         -t "${tests%/*}/python/tests" -p "$1" 2>"$2"
 }
 
-# Two halves run at the same time, since one process would take three minutes.
+# The tests run in two processes at the same time, since one process would take three minutes.
 unit_tests 'test_e*.py' "$room/error_first" &
 first=$!
 status=0

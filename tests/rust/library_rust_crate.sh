@@ -1,5 +1,5 @@
-# tools/crate.sh makes one file that contains the library for each machine. A program elsewhere uses the
-# file's contents: README's example. The sources are unchanged.
+# Tests the crate file that tools/crate.sh makes, which contains the library for each machine. A program in
+# another folder uses the file's contents, for README's example. The sources are unchanged.
 tests=$(cd "$(dirname "$0")/.." && pwd -P)
 . "$tests/common/cases.sh"
 . "$tests/common/library.sh"

@@ -1,5 +1,5 @@
 # Checks that a device of a seed is the same in Rust and in Python, and draws the same bytes. The names of
-# codes and of commands are those of Python too.
+# response codes and of commands are the same too.
 tests=$(cd "$(dirname "$0")/.." && pwd -P)
 . "$tests/common/cases.sh"
 . "$tests/common/library.sh"

@@ -1,5 +1,5 @@
 # Plays scripts over the socket, each command in a connection of its own. The sessions, objects and PCRs of
-# one connection still exist in the next, and the responses are those of the script.
+# one connection still exist in the next one, and the responses are the same as for the script.
 tests=$(cd "$(dirname "$0")/.." && pwd -P)
 . "$tests/common/cases.sh"
 . "$tests/common/served.sh"

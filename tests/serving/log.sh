@@ -1,5 +1,6 @@
-# The log of a device that is served with --log. `tpmsim run` plays the log, and prints the responses that the
-# clients received. common/logged.py checks that for sessions, indices, a lockout, cuts and kills.
+# Tests the log of a device that is served with --log. `tpmsim run` plays the log, and prints the responses
+# that the clients received. common/logged.py checks this for sessions, NV indices, lockout, cut logs and
+# killed programs.
 tests=$(cd "$(dirname "$0")/.." && pwd -P)
 . "$tests/common/cases.sh"
 . "$tests/common/served.sh"
@@ -8,7 +9,7 @@ startup=$(words 'Startup 0')
 random=$(words 'GetRandom 8')
 change=$(words 'HierarchyChangeAuth OWNER pw:- 6f776e')
 
-# A device that has no image yet. An incomplete command is in no log.
+# A device that has no image yet. An incomplete command is not logged.
 umask 000
 options='--log log'
 begin 3
@@ -20,7 +21,7 @@ stat -c 'the log: %A' log
 grep -v '^# ' log | sed 's/^wait .*/wait, which is the host'"'"'s/'
 run 'the log on a new device with these random bytes' run --image anew --entropy entropy log
 
-# A start on its image has its own log.
+# A program that is started on the existing image writes a log of its own.
 cp image start
 cp image played
 cp image traced
@@ -38,7 +39,7 @@ for reader in audit explain; do
     cmp "$room/read" "$room/alone"
 done
 
-# A file at the path of a log stays as it was, and no device is served.
+# A file at the path of a log stays unchanged, and no device is served.
 options=''
 tried() {
     run "$1" serve --socket socket --image image --entropy entropy --locality 0 --connections 1 \

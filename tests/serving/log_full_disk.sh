@@ -1,9 +1,10 @@
-# The log of a served device on a disk that gets full. The command whose entry does not fit is not answered.
-# The program ends and reports it. The log and the image have all answered commands, as common/logged.py
-# checks. The disk is mounted only for this test, by root or by a user who may be root in a namespace.
+# Tests the log of a served device on a disk that becomes full. The command whose entry does not fit is not
+# answered. The program reports this and ends. The log and the image contain all answered commands, as
+# common/logged.py checks. The disk is mounted only for this test, by root or by a user who may be root in a
+# namespace.
 if [ -z "${own_mounts:-}" ]; then
     for user in '' '--user --map-root-user'; do
-        # shellcheck disable=SC2086 # it is two words, or none
+        # shellcheck disable=SC2086 # word splitting is intended
         ! unshare $user --mount true 2>/dev/null ||
             own_mounts=yes exec unshare $user --mount sh "$0" "$@"
     done

@@ -1,16 +1,16 @@
-# A device that is served with --save-each. Whenever the program is killed, the image has the effects of all
-# commands whose responses a client received. common/save_each.py compares the image with the Python device.
-# tools/soak/kills.sh kills the device more often.
+# Tests a device that is served with --save-each. Whenever the program is killed, the image has the effects of
+# all commands whose responses a client received. common/save_each.py compares the image with the Python
+# device. tools/soak/kills.sh kills the device more often.
 tests=$(cd "$(dirname "$0")/.." && pwd -P)
 . "$tests/common/cases.sh"
 . "$tests/common/served.sh"
 
 python3 "$tests/common/save_each.py" "$program" 22
 
-# The option may be at any position, but only once. It has no value, and only `serve` has it.
+# The option --save-each may be at any position, but only once. It has no value, and only `serve` accepts it.
 with='--socket socket --image image --entropy entropy --locality 0 --connections 0'
 echo 'do Startup 0' >script
-# shellcheck disable=SC2086 # they are words
+# shellcheck disable=SC2086 # word splitting is intended
 {
     run 'in front' serve --save-each $with
     run 'behind the others' serve $with --save-each

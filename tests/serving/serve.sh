@@ -1,5 +1,5 @@
-# A device on a socket: how a stream is divided into commands, what stays from one run to the next, and how
-# the program ends.
+# Tests a device that is served on a socket: how a stream is divided into commands, what is kept from one run
+# to the next, and how the program ends.
 tests=$(cd "$(dirname "$0")/.." && pwd -P)
 . "$tests/common/cases.sh"
 . "$tests/common/served.sh"
@@ -23,8 +23,8 @@ talk 'ten commands at once' 4096 "$startup" "$random" "$random" "$random" "$rand
     "$random" "$random" "$random" "$random"
 ended 'one connection'
 
-# A connection that ends within a command. That command is dropped, and the device serves the next connection.
-# The effects of the first connection stay.
+# A connection ends within a command. That command is dropped, and the device serves the next connection. The
+# effects of the first connection remain.
 rm -f image
 begin 3
 talk 'half a command' 4096 "$startup" 80010000
@@ -32,15 +32,15 @@ talk 'nothing' 4096
 talk 'the next connection' 4096 "$startup" "$random"
 ended 'three connections'
 
-# Two connections at once, which alternate with their bytes. The first connection is served to its end, and
-# then the second. Each gets the responses to its own commands.
+# Two connections send their bytes alternately. The first connection is served to its end, and then the second
+# one. Each gets the responses to its own commands.
 rm -f image
 begin 2
 echo 'two connections that take turns with each byte:'
 python3 "$tests/common/clients.py" turns socket "$startup" "$random" "$random" | sed 's/^/    /'
 ended 'two connections'
 
-# A size field of 9, or of 4,097, gets a response, and ends the connection.
+# A command with a size field of 9 or of 4,097 gets a response, and ends the connection.
 rm -f image
 begin 2
 talk 'a size of 9' 4096 "$startup" 800100000009 "$random"
@@ -70,8 +70,8 @@ begin 0
 ended 'no connection'
 [ ! -e image ] || echo 'an image is there'
 
-# A socket that a run left is replaced. A socket on which a process answers is not replaced, nor is a file.
-# The attempt to connect counts as one of that process's connections.
+# A socket file that an earlier run left is replaced. A socket on which a process answers is not replaced, and
+# neither is another file. The attempt to connect counts as one of that process's connections.
 begin 2
 until [ -S socket ]; do sleep 0.01; done
 run 'a socket that is answered' serve --socket socket --image other --entropy entropy \

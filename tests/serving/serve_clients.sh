@@ -1,5 +1,5 @@
-# Clients that disconnect early, clients that keep other clients waiting, and a long connection. The device serves
-# connections one after another, each to its end.
+# Tests clients that disconnect early, clients that keep other clients waiting, and a long connection. The
+# device serves connections one after another, each to its end.
 tests=$(cd "$(dirname "$0")/.." && pwd -P)
 . "$tests/common/cases.sh"
 . "$tests/common/served.sh"
@@ -9,15 +9,15 @@ random=$(words 'GetRandom 4')
 rm -f entropy
 ln -s /dev/zero entropy
 
-# client_of KIND HEX [LENGTH]: runs one of the clients in common/clients.py. For the kind `long`, the second
-# word is the length and the third one the command.
+# client_of KIND HEX [LENGTH]: runs one of the clients in common/clients.py. For the kind `long`, the
+# arguments are the length and then the command.
 client_of() {
     python3 "$tests/common/clients.py" "$1" socket "$2" ${3:+"$3"} | sed 's/^/    /'
 }
 
-# Clients that close early: after nothing, a tag, a header, or a command without its last byte. No command of
-# theirs is executed, so that TPM2_Startup succeeds after them. The last client sends a whole command, which
-# is executed although nobody reads the response.
+# Clients that close early: after nothing, a tag, a header, or a command without its last byte. None of their
+# commands is executed: a later TPM2_Startup succeeds. The last client sends a whole command, which is
+# executed although nobody reads the response.
 rm -f image
 begin 6
 client_of close ''
@@ -32,7 +32,8 @@ talk 'one that did, and read no response, has changed ownerAuth' 4096 "$startup"
     "$(words 'HierarchyChangeAuth OWNER pw:6f776e -')"
 ended 'one connection'
 
-# A client that sends nothing, or does not read its responses, keeps the device until it closes.
+# A client that sends nothing, or that does not read its responses, occupies the device until it closes the
+# connection.
 for kind in idle unread; do
     rm -f image
     begin 2

@@ -1,9 +1,10 @@
-# The clock of a served device follows the host's clock, however many commands come in a millisecond.
+# Checks that the clock of a served device follows the host's clock, however many commands arrive in a
+# millisecond.
 tests=$(cd "$(dirname "$0")/.." && pwd -P)
 . "$tests/common/cases.sh"
 . "$tests/common/served.sh"
 
-# Commands one after the other, for a second.
+# Sends one command after the other, for a second.
 rm -f entropy image
 ln -s /dev/zero entropy
 begin 1

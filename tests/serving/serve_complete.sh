@@ -1,5 +1,5 @@
-# `serve --state DIR --complete`: the completing layer answers the commands that the device in the folder does not
-# support.
+# Tests `serve --state DIR --complete`: the completing layer answers commands that the device in the folder
+# does not support.
 tests=$(cd "$(dirname "$0")/.." && pwd -P)
 . "$tests/common/cases.sh"
 . "$tests/common/served.sh"
@@ -29,7 +29,7 @@ serve 'without the layer'
 cp state/journal without
 "$program" power state || echo 'no power cycle'
 serve 'with the layer' --complete
-# Each command of the journal says whether the layer was on; --save-each does not change that.
+# In the journal, each command says whether the layer was on. --save-each does not change that.
 "$program" power state || echo 'no power cycle'
 serve 'with the layer, and each response forced to the disk' --save-each --complete
 "$program" script state | grep -c '^# completed'
@@ -37,7 +37,7 @@ serve 'with the layer, and each response forced to the disk' --save-each --compl
 sed 's/^/    /' again
 "$program" replay without | grep -v '[^0-9a-f]' | sed 's/^/    /'
 
-# An image has no place for the layer.
+# An image cannot store the state of the completing layer.
 run 'an image' serve --socket socket --image image --complete --connections 0
 run 'neither' serve --socket socket --complete --connections 0
 run 'a script' run --state state --complete -

@@ -1,5 +1,5 @@
-# The defaults of `serve` without --entropy, --locality and --connections: random bytes of the system, locality 0, and
-# any number of connections.
+# Tests `serve` without --entropy, --locality and --connections. By default it uses random bytes of the system
+# and locality 0, and serves any number of connections.
 tests=$(cd "$(dirname "$0")/.." && pwd -P)
 . "$tests/common/cases.sh"
 . "$tests/common/served.sh"
@@ -9,7 +9,7 @@ read=$(words 'PCR_Read sha256:17')
 # PCR 17 cannot be extended from locality 0.
 extend=$(words "PCR_Extend 00000011 pw:- sha256:$(printf '%064d' 1)")
 
-# serve LABEL WORDS..: serves three connections, and is killed then.
+# serve LABEL WORDS..: serves three connections, and then kills the program.
 serve() {
     label=$1
     shift
@@ -28,10 +28,10 @@ serve 'an image' --image image
 serve 'a folder' --state state
 serve 'another device in a folder' --state other
 
-# Each device has random bytes of its own.
+# Each device has different random bytes.
 sort -u random | grep -c .
 
-# The other options stay as they were.
+# Explicit values still apply, and --socket has no default.
 run 'no connection' serve --socket socket --state state --connections 0
 run 'locality 5' serve --socket socket --state state --locality 5
 run 'no random bytes' serve --socket socket --state state --entropy none

@@ -1,5 +1,5 @@
-# Connections that end with a fault, because the device cannot read or cannot write. The image has the effects
-# of the commands before. The next connection is served.
+# Tests connections that end with a fault, because the device cannot read or cannot write. The image has the
+# effects of the earlier commands, and the next connection is served.
 tests=$(cd "$(dirname "$0")/.." && pwd -P)
 . "$tests/common/cases.sh"
 . "$tests/common/served.sh"

@@ -1,5 +1,5 @@
-# Tests the command lines of `tpmsim serve`, and the files that it cannot use. The program checks the command
-# line first, then the image, the random bytes and the socket. Last comes each connection.
+# Tests the command lines of `tpmsim serve`, and the files that it cannot use. The program first checks the
+# command line, then the image, the random bytes and the socket, and finally each connection.
 common=$(cd "$(dirname "$0")/.." && pwd -P)/common
 tests=$(cd "$(dirname "$0")/.." && pwd -P)
 . "$tests/common/cases.sh"
@@ -48,7 +48,7 @@ talk() {
     [ ! -e socket ] || echo '    the socket is still there'
 }
 
-# Options in any order, and numbers with leading zeros.
+# Options in a different order, and numbers with leading zeros.
 serve 'no connection'
 run 'options in another order' serve --connections 00 --locality 04 --entropy entropy \
     --image image --socket socket
@@ -92,8 +92,8 @@ serve 'an empty file' --image empty
 serve 'a folder in place of an image' --image a_folder
 serve 'a file in place of a folder' --image empty/image
 
-# Random bytes that are missing or too few, at the manufacture or at a command. The device is saved before the
-# program ends.
+# Random bytes are missing or too few, when the device is manufactured or at a command. The device is saved
+# before the program ends.
 serve 'no random bytes' --entropy missing
 rm -f image
 serve 'too few for a new device' --entropy few
@@ -107,7 +107,8 @@ serve 'a folder in place of a socket' --socket a_folder
 serve 'a socket in no folder' --socket missing/socket
 serve 'a path that is too long' --socket "$(printf '%0108d' 0)"
 
-# An image that is too large to be written, because it has an NV index of 1,024 bytes. The old image stays.
+# An image that is too large to be written, because it contains an NV index of 1,024 bytes. The old image
+# remains.
 define=$("$program" asm 'NV_DefineSpace OWNER pw:- - 01000001000b0002000200000400')
 write=$("$program" asm "NV_Write OWNER 01000001 pw:- $(printf '%02048d' 0) 0")
 talk 'an NV index' "$startup" "$define" "$write"

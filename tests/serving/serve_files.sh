@@ -1,5 +1,5 @@
-# The files of a served device: some are links, some are removed or replaced while the device is served, and
-# the random bytes end.
+# Tests the files of a served device: some are links, some are removed or replaced while the device is served,
+# and the random bytes run out.
 tests=$(cd "$(dirname "$0")/.." && pwd -P)
 . "$tests/common/cases.sh"
 . "$tests/common/served.sh"
@@ -8,13 +8,13 @@ startup=$(words 'Startup 0')
 change=$(words 'HierarchyChangeAuth OWNER pw:- 6f776e')
 back=$(words 'HierarchyChangeAuth OWNER pw:6f776e -')
 
-# tried LABEL IMAGE: serves no connection, with this image.
+# tried LABEL IMAGE: runs `serve` for no connections, with this image.
 tried() {
     run "$1" serve --socket socket --image "$2" --entropy entropy --locality 0 --connections 0
 }
 
 # The image is a link. It is read from the link's target. A new file replaces the link, and the target stays
-# as it was.
+# unchanged.
 begin 1
 talk 'an authorization value' 4096 "$startup" "$change"
 ended 'one connection'
@@ -41,7 +41,7 @@ ln -s itself itself
 tried 'a link to a folder' leads_to_folder
 tried 'a link to itself' itself
 
-# meanwhile LABEL LINE: serves a connection during which the shell runs a line.
+# meanwhile LABEL LINE: serves a connection, and runs the shell line LINE meanwhile.
 meanwhile() {
     begin 1
     echo "$1:"
@@ -49,8 +49,8 @@ meanwhile() {
     ended 'one connection'
 }
 
-# The image is removed or blocked while the device is served. A removed image is made again. If it cannot be
-# made, the program reports that.
+# The image is removed or blocked while the device is served. A removed image is written again. If it cannot
+# be written, the program reports that.
 cp kept image
 meanwhile 'the image is removed' 'rm image'
 [ ! -f image ] || echo 'the image is there again'
@@ -63,7 +63,7 @@ meanwhile 'the folder of the image is removed' 'rm -r state'
 image=
 
 # The socket file is removed, or replaced by a folder, while the device is served. Every connected client is
-# served, also one that is still queued. A folder at the socket's path stays there after the run.
+# served, even one that is still in the queue. A folder at the socket's path remains there after the run.
 for kind in removed folder; do
     rm -f image
     begin 2
@@ -73,7 +73,7 @@ for kind in removed folder; do
 done
 rmdir socket
 
-# A file, or another run's socket, takes the path of the socket: it stays there.
+# Another file, or another run's socket, replaces the socket. It remains there after the run.
 rm -f image
 meanwhile 'a file takes the place of the socket' 'rm socket; echo taken >socket'
 cat socket
@@ -86,8 +86,8 @@ until [ ! -e socket ]; do sleep 0.01; done
 cat "$room/others"
 echo 'it has removed its socket'
 
-# There are random bytes for the manufacture, two commands, and a part of a third command. They end in the
-# second connection. The effects of the commands before are saved.
+# There are enough random bytes to manufacture the device and for two commands, but not for a third one. They
+# run out in the second connection. The effects of the earlier commands are saved.
 mv entropy enough
 head -c 868 enough >entropy
 rm -f image

@@ -1,8 +1,9 @@
-# The image of a served device on a full disk stays as it was. When there is space again, the device continues
-# from there. The disk is mounted only for this test, by root or by a user who may be root in a namespace.
+# Checks that the image of a served device on a full disk stays unchanged. When there is space again, the
+# device continues from there. The disk is mounted only for this test, by root or by a user who may be root in
+# a namespace.
 if [ -z "${own_mounts:-}" ]; then
     for user in '' '--user --map-root-user'; do
-        # shellcheck disable=SC2086 # it is two words, or none
+        # shellcheck disable=SC2086 # word splitting is intended
         ! unshare $user --mount true 2>/dev/null ||
             own_mounts=yes exec unshare $user --mount sh "$0" "$@"
     done
@@ -34,6 +35,6 @@ rm disk/full
 begin 1
 talk 'a disk with room again' 4096 "$startup" "$back"
 ended 'one connection'
-# shellcheck disable=SC2012 # the names are known
+# shellcheck disable=SC2012 # the file names are known
 echo "on it: $(ls -A disk | tr '\n' ' ')"
 umount disk

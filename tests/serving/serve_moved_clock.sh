@@ -1,6 +1,6 @@
-# The clock of a served device, while the test sets the host's clock: common/clock.c replaces the C library's.
-# The device counts whole milliseconds, and none is lost between two commands. If the host's clock goes back,
-# the device's clock does not.
+# Tests the clock of a served device while the test sets the host's clock: common/clock.c replaces the C
+# library's function. The device counts whole milliseconds, and loses none between two commands. If the host's
+# clock goes back, the device's clock does not.
 tests=$(cd "$(dirname "$0")/.." && pwd -P)
 . "$tests/common/cases.sh"
 . "$tests/common/served.sh"

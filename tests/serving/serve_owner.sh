@@ -1,5 +1,6 @@
-# The files of a served device belong only to its owner, whatever the umask: the image, which has the device's
-# seeds and authorization values, and the socket. Also tests at which paths the socket may be.
+# Checks that only the owner of a served device may access its files, whatever the umask: the image, which
+# contains the device's seeds and authorization values, and the socket. Also tests which paths the socket may
+# have.
 tests=$(cd "$(dirname "$0")/.." && pwd -P)
 . "$tests/common/cases.sh"
 . "$tests/common/served.sh"
@@ -14,20 +15,20 @@ for mask in 000 022 077; do
     echo "umask $mask: the socket is $(stat -c %A socket)"
     talk 'a connection' 4096 "$startup"
     ended 'one connection'
-    # shellcheck disable=SC2012 # the names are known
+    # shellcheck disable=SC2012 # the file names are known
     echo "umask $mask: the image is $(stat -c %A image), and beside it: $(ls -A | tr '\n' ' ')"
 done
 umask 000
 
-# An image that everybody may read is private after the first connection.
+# An image that everybody may read becomes private after the first connection.
 chmod 666 image
 begin 1
 talk 'an image that everybody may read' 4096 "$startup"
 ended 'one connection'
 stat -c %A image
 
-# A killed run left a file at the path of the new image; then links are there. The links' targets stay as they
-# are.
+# At the path of the new image there is a file that a killed run left, and later a link. The link's target
+# stays unchanged.
 echo untouched >target
 echo unfinished >image.new
 begin 1
@@ -45,17 +46,17 @@ done
 [ ! -e nowhere ] || echo 'nowhere is there'
 cat target
 
-# tried LABEL PATH: serves no connection, with its socket at this path.
+# tried LABEL PATH: runs `serve` for no connections, with the socket at this path.
 tried() {
     run "$1" serve --socket "$2" --image image --entropy entropy --locality 0 --connections 0
 }
 
-# A link at the path is not a socket, and stays.
+# A link at the socket's path is not a socket, and is not replaced.
 ln -s nowhere link
 tried 'a link in place of a socket' link
 [ -L link ] || echo 'the link is gone'
 
-# A socket's path has at most 107 bytes, and its folder at most 103.
+# A socket's path may have at most 107 bytes, and its folder's path at most 103.
 folder_of_103=$(printf '%0102d' 0)
 mkdir "$folder_of_103" "$folder_of_103"0
 tried 'a name of 107 bytes' "$(printf '%0107d' 0)"
@@ -65,12 +66,13 @@ tried 'a folder of 104 bytes' "$folder_of_103"0/sck
 tried 'no path' ''
 ls -A "$folder_of_103" "$folder_of_103"0
 
-# A run binds its socket in a folder next to it, and removes that folder. Folders that killed runs left stay.
+# A run first binds its socket in a temporary folder next to the socket's path, and then removes that folder.
+# Folders that killed runs left remain.
 mkdir .0 .1
 tried 'two folders that were left' socket
 ls -Ad .[0-9]
 
-# Two runs begin at once with the same socket. Only one of them continues.
+# Two runs begin at the same time with the same socket path. Only one of them continues.
 two() {
     timeout 60 "$program" serve --socket socket --image "$1" --entropy entropy --locality 0 \
         --connections 2 >"$room/$1" 2>&1

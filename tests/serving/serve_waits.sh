@@ -1,4 +1,4 @@
-# A client that has to wait, since another one keeps its connection, is reported once.
+# Checks that a client that has to wait, because another client's connection is still open, is reported once.
 tests=$(cd "$(dirname "$0")/.." && pwd -P)
 . "$tests/common/cases.sh"
 . "$tests/common/served.sh"
@@ -24,7 +24,7 @@ serve() {
 serve 'an image' --image image
 serve 'a folder' --state state
 
-# Nobody waits: a client that is silent for four seconds is not reported.
+# If nobody waits, a client that is silent for four seconds is not reported.
 : >"$room/error"
 timeout 60 "$program" serve --socket socket --state state --connections 1 >"$room/output" \
     2>"$room/error" &

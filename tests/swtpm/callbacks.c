@@ -1,5 +1,5 @@
-/* Finds the functions of a library by their versions. Also has swtpm's callbacks, which keep
-   states in files. */
+/* Looks up the functions of a library by name and version. Also contains the callbacks that swtpm
+   would register, which store states in files. */
 #include "caller.h"
 
 #include <dlfcn.h>
@@ -99,7 +99,8 @@ static struct libtpms_callbacks callbacks = {
 
 static void *handle;
 
-/* Finds a function. The result of dlsym is copied, because C cannot convert it to a function. */
+/* Looks up a function. Copies the result of dlvsym, because C cannot convert it to a function
+ * pointer. */
 static void find(void *place, const char *name, const char *version) {
     void *found = dlvsym(handle, name, version);
     if (found == NULL) fprintf(stderr, "caller: %s of %s is missing\n", name, version);

@@ -1,6 +1,6 @@
-/* A caller that replaces swtpm. It opens the libtpms.so.0 that its argument names, reads a line for each call
- * from standard input, and prints the result. States are files in its working folder, with the names that the
- * library uses. A line is one of these:
+/* A caller that replaces swtpm. It opens the libtpms.so.0 that its argument names, reads one line
+ * for each call from standard input, and prints the result. It stores states as files in its
+ * working folder, with the names that the library uses. A line is one of these:
  *
  *   on, off                      TPMLIB_MainInit, TPMLIB_Terminate
  *   loc N                        the locality from now on; `loc none`: none is reported
@@ -32,8 +32,8 @@ static int digit(char c) {
     return (int)(found - digits);
 }
 
-/* Returns the bytes of a word in hex, in a block of exactly their size, so that a sanitizer
-   finds reads beyond it. */
+/* Decodes a word from hex, into a block of exactly the decoded size, so that a sanitizer finds
+   reads beyond it. */
 static uint8_t *bytes_of(const char *hex, size_t *size) {
     *size = strlen(hex) / 2;
     uint8_t *bytes = malloc(*size == 0 ? 1 : *size);
@@ -91,13 +91,15 @@ static void get_state(const char *type, const char *path) {
     free(bytes);
 }
 
-/* Sets a state that must be refused with one log line. Counts the cases in which it is not. */
+/* Sets a state, which the library must refuse and report in one log line. Counts the cases in which
+ * it does not. */
 static void must_be_refused(const char *type, const unsigned char *bytes, size_t size, size_t *wrong) {
     if (library.set_state(type_of(type), bytes, (uint32_t)size) != TPM_FAIL) ++*wrong;
     if (logged_lines() != 1) ++*wrong;
 }
 
-/* Changes each byte of a state: its lowest bit, its highest bit, and all its bits. */
+/* Sets a state in which one byte is changed, for each byte: in its lowest bit, its highest bit, and
+ * all bits. */
 static void turn(const char *type, const char *path) {
     static const uint8_t masks[] = {0x01, 0x80, 0xff};
     size_t size, wrong = 0;
@@ -114,8 +116,8 @@ static void turn(const char *type, const char *path) {
     free(bytes);
 }
 
-/* Sets each beginning of a state, in a block of exactly its size, and the state with a byte
-   more. */
+/* Sets each prefix of a state, in a block of exactly its size, and the state with an additional
+   byte. */
 static void cut(const char *type, const char *path) {
     size_t size, wrong = 0;
     unsigned char *bytes = read_file(path, &size);
@@ -182,7 +184,7 @@ static void blob(void) {
     printf("DecodeBlob: %u, %zu bytes\n", result, size);
 }
 
-/* Executes the lines about the power, commands and states. */
+/* Executes a line about power, commands or states. */
 static int drive(char *words[WORDS]) {
     const char *name = words[0];
     if (strcmp(name, "on") == 0) tell("MainInit", library.main_init());
@@ -205,8 +207,7 @@ static int drive(char *words[WORDS]) {
     return 1;
 }
 
-/* Executes the lines about dynamic launches and other hardware signals, and about information on
-   the TPM. */
+/* Executes a line about dynamic launches, other hardware signals, or information on the TPM. */
 static int ask(char *words[WORDS]) {
     const char *name = words[0];
     if (strcmp(name, "hash") == 0) hash(words[1], words[2]);

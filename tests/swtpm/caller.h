@@ -1,4 +1,5 @@
-/* The parts of the caller that replaces swtpm: the library's functions, and the callbacks over files. */
+/* Declarations for the caller that replaces swtpm: the library's functions, and the callbacks that
+ * store states in files. */
 #ifndef CALLER_H
 #define CALLER_H
 
@@ -14,11 +15,12 @@ enum { TYPES = 3 };
 /* Ends the program with a reason unless a condition holds. */
 void must(int condition, const char *reason);
 
-/* A file's bytes, for the caller to free; NULL if there is no such file. */
+/* Returns the bytes of a file, which the caller must free, or NULL if the file does not exist. */
 unsigned char *read_file(const char *path, size_t *size);
 void write_file(const char *path, const unsigned char *bytes, size_t size);
 
-/* The descriptor of a file to which a library may log. The second function counts its lines, and empties it. */
+/* Returns the descriptor of a file for a library's log. The second function counts its lines, and
+ * empties it. */
 int log_to_file(void);
 size_t logged_lines(void);
 
@@ -47,8 +49,8 @@ struct library {
     TPM_BOOL (*was_manufactured)(void);
 };
 
-/* Opens a library, finds each of its functions by the version that swtpm asks for, and registers the
- * callbacks. The library's log goes to standard output. */
+/* Opens a library, looks up each of its functions with the version that swtpm needs, and registers
+ * the callbacks. The library's log goes to standard output. */
 void open_library(struct library *library, const char *path);
 
 /* Sets how the callbacks behave from now on. */
@@ -56,7 +58,8 @@ void tell_locality(const char *number);
 void let_stores_fail(int fail);
 void let_loads_fail(int fail);
 
-/* Sets whether a record's disk works, fills up as a text is written, or also breaks: nothing is cut. */
+/* Sets whether the disk of a record works, fills up while a text is written, or also fails to
+ * truncate a file. */
 void tell_disk(const char *state);
 
 #endif

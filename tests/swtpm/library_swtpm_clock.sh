@@ -1,6 +1,6 @@
-# Tests the time of a device under swtpm, for several clocks of the host. The device is in one process, or
-# continues in another process. The other host's clock is late, or ahead, even by more than the 2^32 - 1
-# milliseconds that one command can add. common/clock.c is the clock.
+# Tests the time of a device in swtpm with different clocks of the host. The device stays in one process, or
+# continues in another process on a host whose clock is late or early, even by more than the 2^32 - 1
+# milliseconds that one command can add. common/clock.c replaces the clock.
 tests=$(cd "$(dirname "$0")/.." && pwd -P)
 . "$tests/common/cases.sh"
 . "$tests/common/swtpm.sh"
@@ -8,7 +8,7 @@ cc -shared -fPIC -o "$room/clock.so" "$tests/common/clock.c" || exit 1
 CLOCK=$room/clock
 export CLOCK
 
-# clocked: plays the lines of standard input. The lines set the clock.
+# clocked: executes the lines of standard input, which also set the clock.
 clocked() {
     spell >"$room/lines"
     LD_PRELOAD=$room/clock.so timeout 60 "$room/caller" "$room/swtpm/libtpms.so.0" <"$room/lines" 2>&1

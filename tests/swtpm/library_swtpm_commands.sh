@@ -1,5 +1,5 @@
-# libtpms.so.0 with a caller that replaces swtpm. Tests power, commands, localities, when each state is
-# stored, stores that fail, and the information on the TPM. swtpm/caller.c is the caller.
+# Tests libtpms.so.0 with a caller that replaces swtpm, swtpm/caller.c: power, commands, localities, when each
+# state is stored, stores that fail, and the information on the TPM.
 tests=$(cd "$(dirname "$0")/.." && pwd -P)
 . "$tests/common/cases.sh"
 . "$tests/common/swtpm.sh"

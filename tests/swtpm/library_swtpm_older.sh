@@ -1,7 +1,8 @@
-# The states of a running device that an older libtpms.so.0 left. Its volatile state was the journal since power-on:
-# swtpm/journal_state. swtpm/make_journal_state.py wrote it with such a library. The device continues with its
-# sessions, objects, the context of a session, and a launch. Damaged states are refused; so is a journal with the
-# context of an object (swtpm/journal_of_objects), which the layer now writes in another form.
+# Tests the states of a running device that an older libtpms.so.0 wrote. Its volatile state was the journal
+# since power-on (swtpm/journal_state), which swtpm/make_journal_state.py wrote with the older library. The
+# device continues with its sessions, objects, the context of a session, and a dynamic launch. Damaged states
+# are refused. A journal with the context of an object (swtpm/journal_of_objects) is also refused, since the
+# layer now writes that context in another form.
 tests=$(cd "$(dirname "$0")/.." && pwd -P)
 . "$tests/common/cases.sh"
 . "$tests/common/swtpm.sh"

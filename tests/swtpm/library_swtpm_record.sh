@@ -1,6 +1,6 @@
-# The records of libtpms.so.0, if TPMSIM_RECORD requests them. There is a journal for each period from
-# power-on to power-off, and for each device that continues. The program plays the journals. Also tests a
-# record that cannot be begun or written. swtpm/caller.c is the caller.
+# Tests the records that libtpms.so.0 writes if TPMSIM_RECORD is set. There is one journal for each period
+# from power-on to power-off, and for each device that continues in another process. The program plays the
+# journals. Also tests a record that cannot be begun or written. See swtpm/caller.c.
 tests=$(cd "$(dirname "$0")/.." && pwd -P)
 . "$tests/common/cases.sh"
 . "$tests/common/swtpm.sh"

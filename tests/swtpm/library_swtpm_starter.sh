@@ -1,5 +1,6 @@
-# Tests tpmsim-swtpm, which is also libvirt's swtpm, and swtpm_setup. A program that replaces swtpm prints how
-# it was started. hosts/build.sh builds the same bytes of libtpms each time, and reports what it lacks.
+# Tests tpmsim-swtpm, which libvirt also runs as its swtpm, and swtpm_setup. A stand-in for swtpm prints how
+# it was started. hosts/build.sh builds the same bytes of libtpms each time, and reports which tools are
+# missing.
 tests=$(cd "$(dirname "$0")/.." && pwd -P)
 . "$tests/common/cases.sh"
 . "$tests/common/swtpm.sh"
@@ -17,7 +18,7 @@ chmod +x "$room/bin/swtpm"
 export room
 tools=/usr/bin:/bin
 
-# started LABEL PROGRAM PATH: starts the program with this path, and prints the result.
+# started LABEL PROGRAM PATH: starts the program with PATH as its search path, and prints the result.
 started() {
     label "$1"
     PATH=$3 "$2" socket '--log=two words' '' 2>&1 | sed "s|$room|ROOM|g"
@@ -43,7 +44,7 @@ sed 's|/usr/bin /usr/local/bin|/nowhere|' "$program" >"$room/swtpm/elsewhere"
 chmod +x "$room/swtpm/elsewhere"
 started 'without swtpm' "$room/swtpm/elsewhere" "$room/tools"
 
-# setup WORDS..: runs swtpm_setup. A program that replaces swtpm succeeds.
+# setup WORDS..: runs swtpm_setup, with a stand-in for swtpm that succeeds.
 setup() {
     PATH=$room/good:$tools "$room/swtpm/swtpm_setup" "$@" 2>&1
     echo "status $?"
@@ -70,7 +71,7 @@ printf '#!/bin/sh\n[ "$*" != "-E -" ] || exit 1\nexec cc "$@"\n' >"$room/bin/wit
 chmod +x "$room/bin/without_headers"
 CC=$room/bin/without_headers "$build" libtpms "$room/twice" 2>&1 | sed "s|$build|tool|"
 
-# The build writes nothing into the folder of its sources.
+# The build writes nothing to the folder of its sources.
 mkdir "$room/copy" && cp -R "$tests/../hosts" "$room/copy"
 cd "$room/copy" || exit 1
 find . | sort >"$room/before"

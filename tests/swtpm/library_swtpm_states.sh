@@ -1,6 +1,6 @@
-# The states of libtpms.so.0 with a caller that replaces swtpm: a device that continues in another process,
-# and the content of its volatile state. Also states of other devices and libraries, and states in which each
-# byte is changed, that are cut, or that are set at the wrong time. swtpm/caller.c is the caller.
+# Tests the states of libtpms.so.0 with a caller that replaces swtpm, swtpm/caller.c: a device that continues
+# in another process, and the content of its volatile state. Also tests states of other devices and libraries,
+# states in which a byte is changed or that are cut, and states that are set at the wrong time.
 tests=$(cd "$(dirname "$0")/.." && pwd -P)
 . "$tests/common/cases.sh"
 . "$tests/common/swtpm.sh"

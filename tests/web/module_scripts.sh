@@ -1,5 +1,5 @@
-# Tests the module for web pages in node. It imports nothing. It plays each script as the program does, with
-# the same responses, traces, and first bad line.
+# Tests the module for web pages in node. The module imports nothing, and plays each script like the program,
+# with the same responses, traces, and first bad line.
 tests=$(cd "$(dirname "$0")/.." && pwd -P)
 . "$tests/common/cases.sh"
 needs node python3

@@ -31,7 +31,7 @@ same lines
 for code in $codes; do
     "$top/dist/tpmsim" code "$code" 2>program.error || echo 'no such code'
 done >program.codes
-# shellcheck disable=SC2086 # they are words
+# shellcheck disable=SC2086 # word splitting is intended
 words codes $codes >module.codes
 same codes
 

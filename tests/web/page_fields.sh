@@ -1,5 +1,5 @@
-# Compares the fields of commands and responses. The page, in JavaScript, and tools/explain.py, in Python,
-# have the same fields for all scripts.
+# Compares the fields of commands and responses: for all scripts, the page, in JavaScript, must show the same
+# fields as tools/explain.py, in Python.
 tests=$(cd "$(dirname "$0")/.." && pwd -P)
 . "$tests/common/cases.sh"
 needs node python3

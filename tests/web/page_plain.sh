@@ -1,5 +1,4 @@
-# Checks that the page decrypts the parameters that sessions encrypted in scripts as the device in Python
-# does.
+# Checks that the page decrypts the encrypted parameters in scripts like the device in Python.
 tests=$(cd "$(dirname "$0")/.." && pwd -P)
 . "$tests/common/cases.sh"
 needs node python3

@@ -1,5 +1,5 @@
-# Plays scripts as the page does, in node: responses, logs, edits, and the lessons' tasks. Compares the
-# devices that it reads with the device in Python.
+# Plays scripts in node as the page does: responses, logs, edits, and the lessons' tasks. Compares the device
+# states that the page reads with the device in Python.
 tests=$(cd "$(dirname "$0")/.." && pwd -P)
 . "$tests/common/cases.sh"
 needs node python3

@@ -1,14 +1,14 @@
 #!/bin/sh
-# Runs a command in the repository as on a Debian machine on ARM64: in a root of Debian's packages for arm64,
-# with the package that tools/deb.sh makes; qemu runs programs for ARM64. It changes nothing of this machine:
-# apt works in its own folder, nothing is installed, and the root and the kernel's note of qemu are visible
-# only in their own namespaces. Not part of the gate.
+# Runs a command in the repository as on an ARM64 machine with Debian: in a root file system of Debian's
+# packages for arm64, with the package that tools/deb.sh makes. qemu runs the programs for ARM64. The script
+# changes nothing on this machine: apt works in its own folder, nothing is installed, and the root file system
+# and the kernel's entry for qemu are visible only in their own namespaces. Not part of the gate.
 #
-#   tools/interop/arm64.sh FOLDER              plays the package there (arm64_package.sh)
-#   tools/interop/arm64.sh FOLDER COMMAND..    runs this there, in a clone of the last commit, for example
+#   tools/interop/arm64.sh FOLDER              tests the package there (arm64_package.sh)
+#   tools/interop/arm64.sh FOLDER COMMAND..    runs a command there, in a clone of the last commit, for example
 #                                              tools/scripts.sh 'nv/*'
 #
-# FOLDER keeps the root for the next time: 700 MB, of which 180 MB are downloaded. Needs what
+# The root file system stays in FOLDER for the next run: 700 MB, of which 180 MB are downloaded. Needs what
 # tools/lib/arm64.sh needs, Debian's apt, git, and what tools/deb.sh needs for ARM64.
 set -u
 umask 022
@@ -22,35 +22,35 @@ root=$folder/root
 log=$folder/log
 : >"$log" || exit 1
 
-# The packages of a machine that the repository's commands need.
+# The packages that the repository's commands need on a machine.
 packages='base-files base-passwd bash binutils coreutils dash debianutils diffutils findutils g++ gcc git
     grep gzip hostname libc-bin libc6-dev libtpms-dev libtss2-dev make mawk ncurses-base pkg-config
     procps python3 sed socat swtpm tar tpm2-tools util-linux'
 
-# fail REASON: ends the script, and shows the end of the log.
+# fail REASON: ends the script, and prints the end of the log.
 fail() {
     tail -n 20 "$log" >&2
     echo "$0: $1" >&2
     exit 1
 }
 
-# foreign WORDS..: apt for ARM64, which sees no package that is installed here.
+# foreign WORDS..: runs apt-get for ARM64, without regard to the packages that are installed here.
 foreign() {
     apt-get -q -y -o APT::Architecture=arm64 -o APT::Architectures::=arm64 -o APT::Sandbox::User= \
         -o Dir::State="$folder/state" -o Dir::State::status="$folder/status" \
         -o Dir::Cache="$folder/cache" "$@" >>"$log" 2>&1
 }
 
-# Downloads the packages, and qemu as one file that needs no other.
+# Downloads the packages, and qemu as a single, statically linked file.
 fetch() {
     mkdir -p "$folder/state/lists/partial" "$folder/cache/archives/partial" && : >"$folder/status" &&
         foreign update || return 1
-    # shellcheck disable=SC2086 # they are words
+    # shellcheck disable=SC2086 # word splitting is intended
     foreign --no-install-recommends --download-only install $packages &&
         (cd "$folder" && apt-get -q download qemu-user-static) >>"$log" 2>&1
 }
 
-# Unpacks the packages. Then does the part of their installation scripts that matters here.
+# Unpacks the packages. Then does those parts of their installation scripts that are needed here.
 unpack() {
     mkdir -p "$root.new" "$folder/qemu" &&
         dpkg-deb -x "$folder"/qemu-user-static_*.deb "$folder/qemu" || return 1
@@ -64,8 +64,8 @@ unpack() {
         echo 'root:x:0:' >"$root.new/etc/group" && mv "$root.new" "$root"
 }
 
-# Puts the package and a clone of the last commit into the root, and replaces those of the previous
-# run.
+# Copies the package and a clone of the last commit into the root file system. They replace those of the
+# previous run.
 bring() {
     rm -rf "$folder/made" "$root/repository"
     tools/deb.sh --machine aarch64 "$folder/made" >>"$log" 2>&1 &&
@@ -80,7 +80,7 @@ fi
 bring || fail 'the package is not there'
 [ "$#" -gt 0 ] || set -- tools/interop/arm64_package.sh
 
-# shellcheck disable=SC2016 # the shells within read the names
+# shellcheck disable=SC2016 # the inner shells expand the variables
 with_arm64 "$(note_of_arm64 "$folder/qemu/usr/bin/qemu-aarch64-static" FO)" sh -c '
     root=$1
     shift

@@ -1,7 +1,7 @@
 #!/bin/sh
-# Plays the installed package on an ARM64 machine: the program, the module for libtss2, the one for swtpm,
+# Tests the installed package on an ARM64 machine: the program, the module for libtss2, the module for swtpm,
 # Microsoft's protocol and the Python package; and in the repository the two commands of the README.
-# tools/interop/arm64.sh copies this script there. Each line reports a success.
+# tools/interop/arm64.sh copies this script to the machine. Each output line reports the result of a check.
 set -u
 top=$(CDPATH='' cd "$(dirname "$0")/../.." && pwd -P) || exit 1
 work=$(mktemp -d) || exit 1
@@ -15,7 +15,7 @@ end() {
 trap end EXIT
 cd "$work" || exit 1
 
-# check LABEL COMMAND..: whether a command or a function succeeds.
+# check LABEL COMMAND..: reports whether a command or a function succeeds.
 check() {
     label=$1
     shift
@@ -53,12 +53,12 @@ reads_back() {
     tool nvread -C o -s 8 0x1000001 | cmp - data
 }
 
-# starts PROGRAM WORDS..: whether a program starts a device.
+# starts PROGRAM WORDS..: succeeds if a program answers TPM2_Startup with SUCCESS.
 starts() {
     echo 'do Startup 0' | "$@" - | grep -qx 80010000000a00000000
 }
 
-# serve COMMAND..: starts a server, and waits for its line or its socket.
+# serve COMMAND..: starts a server, and waits for its first output or its socket.
 serve() {
     "$@" >served 2>&1 &
     server=$!
@@ -69,14 +69,14 @@ serve() {
     done
 }
 
-# measure WHERE: extends and reads a PCR, and draws random bytes, by tpm2-tools.
+# measure WHERE: with tpm2-tools, extends and reads a PCR, and draws random bytes.
 measure() {
     check "$1: pcrextend" tool pcrextend "16:sha256=$(printf %064d 1)"
     check "$1: pcrread" reads_pcr
     check "$1: getrandom" draws
 }
 
-# keep WHERE: defines, writes and reads an index.
+# keep WHERE: defines, writes and reads an NV index.
 keep() {
     printf 12345678 >data
     check "$1: nvdefine" tool nvdefine -C o -s 8 0x1000001

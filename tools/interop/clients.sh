@@ -1,8 +1,9 @@
 #!/bin/sh
-# Other clients of libtss2 use a kept device with its completing layer, by the module that hosts/build.sh
-# builds: Debian's tpm2-pytss, clevis with an AES parent, and tpm2-abrmd with tpm2-tools on it. The script
-# reports for each client whether it succeeded. For FAPI, whose profiles all need RSA or ECC keys, it
-# reports how far tss2_provision gets. Not part of the gate. It installs nothing, and leaves no files.
+# Uses a kept device and its completing layer with other clients of libtss2, through the module that
+# hosts/build.sh builds: Debian's tpm2-pytss, clevis with an AES parent, and tpm2-abrmd with tpm2-tools on top
+# of it. The script reports for each client whether it succeeded. For FAPI, whose profiles all need RSA or ECC
+# keys, it reports how far tss2_provision gets. Not part of the gate. It installs nothing, and leaves no
+# files.
 #
 #   tools/interop/clients.sh
 #
@@ -19,7 +20,7 @@ passed=0
 failed=0
 skipped=0
 
-# check LABEL COMMAND..: counts a command that must succeed.
+# check LABEL COMMAND..: runs and counts a command that must succeed.
 check() {
     label=$1
     shift
@@ -32,7 +33,7 @@ check() {
     fi
 }
 
-# has CLIENT TOOL: whether a client is installed.
+# has CLIENT TOOL: succeeds if a client is installed.
 has() {
     command -v "$2" >found && return
     echo "skipped: $1: there is no $2"
@@ -87,7 +88,7 @@ END
 
 clevis_by_aes() {
     echo 'a secret' >secret
-    # shellcheck disable=SC2016 # sh expands them
+    # shellcheck disable=SC2016 # the inner sh expands the arguments
     check 'clevis: encrypt' sh -c 'clevis encrypt tpm2 "$1" <secret >sealed' sh \
         '{"hash":"sha256","key":"aes128cfb","pcr_bank":"sha256","pcr_ids":"16"}'
     check 'clevis: decrypt' sh -c 'clevis decrypt <sealed | cmp - secret'
@@ -119,8 +120,8 @@ END
     check 'tpm2-abrmd: objects and sessions of six tools' dbus-run-session -- sh abrmd.sh
 }
 
-# fapi: prints how far FAPI gets: the last fault of tss2_provision and of tss2_getinfo, with this folder's
-# own keystore.
+# fapi: prints how far FAPI gets: the last fault of tss2_provision and of tss2_getinfo, with a keystore in
+# this folder.
 fapi() {
     mkdir -p fapi/user fapi/system fapi/log
     cat >fapi/config <<END
@@ -129,7 +130,7 @@ fapi() {
  "tcti": "$TPM2TOOLS_TCTI", "system_pcrs": [], "ek_cert_less": "yes"}
 END
     for tool in 'tss2_provision' 'tss2_getinfo --info fapi/info'; do
-        # shellcheck disable=SC2086 # they are words
+        # shellcheck disable=SC2086 # word splitting is intended
         if TSS2_FAPICONF=$folder/fapi/config timeout 60 $tool >output 2>error; then
             echo "FAPI: $tool: it goes"
         else

@@ -5,10 +5,10 @@ gate. It installs nothing, and leaves no files.
 
     tools/interop/day.py
 
-Needs Debian's tpm2-tools, swtpm, swtpm-tools and what `hosts/build.sh tcti` needs. TPMSIM_ARCHIVE names
-another archive of the library. It prints how many steps pass on each device, and which steps pass on
-swtpm but not on a tpmsim, grouped by reason. A step that differs without a reason is WRONG, and so is a
-step that has a reason but passes; the status is then 1.
+Needs Debian's tpm2-tools, swtpm, swtpm-tools and what `hosts/build.sh tcti` needs. TPMSIM_ARCHIVE
+names another archive of the library. It prints how many steps pass on each device, and which steps
+pass on swtpm but not on tpmsim, grouped by reason. A step that differs without a reason is WRONG,
+and so is a step that has a reason but passes. The status is 1 if a step is WRONG.
 """
 
 from __future__ import annotations
@@ -32,7 +32,7 @@ Maker = Callable[[], Device]
 
 
 def build_module(folder: Path) -> Path:
-    """Returns the folder of the module for libtss2 and of tpmsim-power."""
+    """Builds the module for libtss2 and tpmsim-power in a folder, and returns the folder."""
     subprocess.run([TOP / "hosts" / "build.sh", "tcti", folder], check=True)
     return folder
 
@@ -55,7 +55,7 @@ def is_less(swtpm: Outcome, tpmsim: Outcome) -> bool:
 
 
 def wrong_steps(swtpm: list[Outcome], tpmsim: list[Outcome]) -> Iterator[str]:
-    """Yields a line for each step whose reason is missing, unknown or superfluous."""
+    """Yields a line for each step whose reason is missing, unknown or not needed."""
     for theirs, ours in zip(swtpm, tpmsim, strict=True):
         step = ours.step
         if is_less(theirs, ours) and step.reason not in REASONS:

@@ -46,10 +46,10 @@ class Device:
     """A device, and how tpm2-tools connect to it."""
 
     name = ""
-    #: The words of TPM2TOOLS_TCTI.
+    #: The value of TPM2TOOLS_TCTI.
     tcti = ""
-    # Whether the objects and sessions that a tool left loaded are flushed after each step, as a
-    # resource manager does.
+    # Whether the objects and sessions that a tool leaves loaded are flushed after each step, as a
+    # resource manager would do.
     is_flushed = True
 
     def __init__(self, folder: Path) -> None:
@@ -68,7 +68,9 @@ class Device:
 
 
 class Module(Device):
-    """A tpmsim in a folder, through the module for libtss2, which flushes them itself."""
+    """A tpmsim in a folder, through the module for libtss2, which itself flushes objects and
+    sessions.
+    """
 
     name = "tpmsim"
     is_flushed = False

@@ -1,13 +1,13 @@
 #!/bin/sh
-# Boots Linux guests with QEMU on a tpmsim under swtpm: SeaBIOS and OVMF, each with tpm-tis and tpm-crb.
-# Firmware and kernel must leave the same PCRs as under swtpm with its own libtpms. The guest extends a
-# PCR, seals data to it, sleeps and wakes (S3), reboots and unseals the data. A guest in another run of
-# QEMU unseals them too. Then a running guest is saved with its TPM, and continues in another QEMU. Not
-# part of the gate: it takes minutes. It installs nothing, and leaves only its folder, if one is named.
+# Boots Linux guests in QEMU with a tpmsim in swtpm: SeaBIOS and OVMF, each with tpm-tis and tpm-crb. Firmware
+# and kernel must leave the same PCR values as with swtpm's own libtpms. The guest extends a PCR, seals data
+# to it, sleeps and wakes (S3), reboots and unseals the data. A guest in another run of QEMU unseals the data
+# too. Then a running guest is saved with its TPM, and continues in another QEMU. Not part of the gate, since
+# it takes minutes. It installs nothing, and leaves only its folder, if one is named.
 #
-#   tools/interop/guest.sh [FOLDER]                   all of that
-#   tools/interop/guest.sh FOLDER FIRMWARE DEVICE     one of the four, as seabios tpm-tis
-#   tools/interop/guest.sh FOLDER moves               the guest that is saved while it runs
+#   tools/interop/guest.sh [FOLDER]                   all of these tests
+#   tools/interop/guest.sh FOLDER FIRMWARE DEVICE     one combination, for example seabios tpm-tis
+#   tools/interop/guest.sh FOLDER moves               only the guest that is saved while it runs
 #
 # Needs Debian's qemu-system-x86, qemu-utils, ovmf, swtpm, libtpms-dev, busybox-static, tpm2-tools, socat, and a
 # kernel with the TPM's drivers built in: the file that $KERNEL names, or Debian's cloud kernel, which apt-get
@@ -71,7 +71,7 @@ make_guest() {
     (cd "$root" && find . | busybox cpio -o -H newc 2>/dev/null | gzip -1) >"$folder/initramfs"
 }
 
-# begin_tpm swtpm|tpmsim NAME: starts the TPM of a guest, with the state of that name.
+# begin_tpm swtpm|tpmsim NAME: starts the TPM of a guest, whose state is in the folder NAME.
 begin_tpm() {
     rm -f "$run/ctrl"
     mkdir -p "$folder/$2"
@@ -87,7 +87,8 @@ begin_tpm() {
     done
 }
 
-# boot NAME TPM STATE WORDS: boots a guest, and waits until it is off; NAME is the run's folder.
+# boot NAME TPM STATE WORDS: boots a guest, and waits until it is off. NAME is the run's folder. WORDS are for
+# the kernel's command line.
 boot() {
     run=$folder/$1
     rm -rf "$run"
@@ -115,14 +116,13 @@ boot() {
     tr -d '\r' <"$run/serial" | sed -n 's/^.*RESULT //p' >"$run/results"
 }
 
-# measured NAME: prints the PCRs that firmware and kernel left, as the guest of a run reported them
-# first.
+# measured NAME: prints the PCR values that firmware and kernel left, as the guest of a run first reported
+# them.
 measured() {
     awk '/^VERSION/ { boots++ } boots == 1 && /^(VERSION|PCR|LOG)/' "$folder/$1/results"
 }
 
-# check NAME BOOTS COUNT: checks that the guest of a run booted this often, and reported this many
-# right results.
+# check NAME BOOTS COUNT: checks that the guest of a run booted BOOTS times, and reported COUNT right results.
 check() {
     while IFS= read -r line; do
         case $line in
@@ -137,7 +137,7 @@ check() {
     fi
 }
 
-# replays NAME: executes the records of a run's boots again, and checks that the responses are the
+# replays NAME: executes the recorded commands of a run's boots again, and checks that the responses are the
 # same.
 replays() {
     for record in "$folder/$1"/record/*.tpm; do
@@ -157,7 +157,7 @@ END
     done
 }
 
-# combination FIRMWARE DEVICE: runs all trials of one combination.
+# combination FIRMWARE DEVICE: runs all tests of one combination.
 combination() {
     firmware=$1
     device=$2
@@ -180,7 +180,7 @@ combination() {
     for run in "$name-pcrs" "$name-first" "$name-again"; do replays "$run"; done
 }
 
-# machine NAME WORDS..: starts a QEMU for a guest that moves, whose TPM has its own state.
+# machine NAME WORDS..: starts a QEMU for the guest that moves, with a TPM that has its own state.
 machine() {
     run=$folder/$1
     shift
@@ -202,7 +202,7 @@ monitor() {
     echo "$*" | timeout 60 socat -t 10 - "UNIX-CONNECT:$run/monitor" 2>&1 | tr -d '\r'
 }
 
-# `told TEXT TIMES`: waits until the guest has printed a text this often.
+# `told TEXT TIMES`: waits until the guest has printed a text TIMES times.
 told() {
     for _ in $(seq 3000); do
         times=$(grep -c "RESULT $1" "$run/serial" 2>/dev/null)
@@ -214,13 +214,14 @@ told() {
     return 1
 }
 
-# moved NAME: checks that the PCRs that the guest printed last are those after two extends and one.
+# moved NAME: checks that the last printed PCR values are those after two extends of PCR 20 and one of PCR 15.
 moved() {
     tr -d '\r' <"$run/serial" | sed -n 's/^.*RESULT MOVE //p' | tail -n 2 >"$run/pcrs"
     if cmp -s "$run/pcrs" "$folder/moved_pcrs"; then ok "$1"; else fail "$1: $(cat "$run/pcrs")"; fi
 }
 
-# Saves a guest at locality 2, and loads it again; then moves it to another QEMU with another swtpm.
+# Saves a guest whose TPM is at locality 2, and loads it again. Then moves it to another QEMU with another
+# swtpm.
 moves() {
     printf '20 %s\n15 %s\n' \
         6A4F8C2FE171394674DC8F8CCEFB497B809900F19A5E0A00D7B10CEE285954FD \

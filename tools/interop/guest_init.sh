@@ -1,12 +1,13 @@
 #!/bin/busybox sh
 # shellcheck shell=dash
-# The work of a guest of tools/interop/guest.sh, whose Linux starts this as its first process. Lines that begin
-# with RESULT are for tools/interop/guest.sh. `guest=` on the kernel's command line says what to do:
+# The work of a guest of tools/interop/guest.sh, whose kernel starts this script as the first process.
+# tools/interop/guest.sh reads the lines that begin with RESULT. `guest=` on the kernel's command line says
+# what to do:
 #
 #   pcrs   prints the PCRs that firmware and kernel left
-#   move   extends PCR 20 from locality 2 and PCR 15 from locality 0, waits while its machine moves to another
-#          QEMU, and does the same again there
-#   work   prints the PCRs too; then it makes an NV index and a sealed object, and reboots. If they exist
+#   move   extends PCR 20 from locality 2, waits while its machine moves to another QEMU, extends PCR 20 again,
+#          and extends PCR 15 from locality 0
+#   work   prints the PCRs too. Then it makes an NV index and a sealed object, and reboots. If they exist
 #          already, it opens them. With `sleep` it sleeps in between (S3)
 /bin/busybox mkdir -p /proc /sys /dev /tmp /bin /sbin
 /bin/busybox --install -s /bin
@@ -47,8 +48,8 @@ off() {
     poweroff -f
 }
 
-# at_locality_2 HEX: sends a command by the registers of tpm-tis, which stays at locality 2, and prints
-# the response code.
+# at_locality_2 HEX: sends a command through the registers of tpm-tis, and prints the response code. tpm-tis
+# then stays at locality 2.
 at_locality_2() {
     base=0xFED42
     devmem ${base}000 8 2

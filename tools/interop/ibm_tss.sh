@@ -1,10 +1,10 @@
 #!/bin/sh
-# Uses a served device with IBM's tools, Debian's tss2, which connect to it over TCP and socat, with one
-# connection for each tool. It reports for each tool whether it succeeded. The sessions encrypt by
+# Uses a served device with IBM's tools (Debian: tss2), which connect to it over TCP and socat, with one
+# connection for each tool. It reports for each tool whether it succeeded. The sessions encrypt with
 # TPM_ALG_XOR, and stay loaded from one tool to the next. Not part of the gate. It installs nothing, and
 # leaves no files. Needs tss2 and socat, and rt if the program is not built yet.
 #
-#   tools/interop/ibm_tss.sh [PORT]    on this port of 127.0.0.1, or on 2321
+#   tools/interop/ibm_tss.sh [PORT]    on this port of 127.0.0.1; by default 2321
 set -u
 
 top=$(CDPATH='' cd "$(dirname "$0")/../.." && pwd -P)
@@ -34,8 +34,7 @@ sleep 0.5
 export TPM_INTERFACE_TYPE=socsim TPM_SERVER_TYPE=raw TPM_SERVER_NAME=127.0.0.1
 export TPM_COMMAND_PORT="$port" TPM_ENCRYPT_SESSIONS=0 TPM_DATA_DIR="$folder"
 
-# The attributes of a session's entry: the session continues (1), and it decrypts (20), encrypts
-# (40), or does both.
+# The attributes of a session in hex: continueSession (1) with decrypt (20), with encrypt (40), or with both.
 in=21 out=41 both=61
 
 # tool WORDS..: runs a tool, for at most ten seconds.
@@ -73,8 +72,8 @@ tool startup -c
 tool hierarchychangeauth -hi o -pwdn owner
 head -c 1024 /dev/urandom >data
 
-# Sessions of both hashes, bound and unbound: an index is written and read through them, in two
-# parts, and an HMAC of 1,024 bytes is computed.
+# Tests sessions with both hash algorithms, bound and unbound. An NV index is written and read with them, in
+# two parts, and an HMAC of 1,024 bytes is computed.
 tool startauthsession -se h -bi 40000001 -pwdb owner
 tool startauthsession -se h -halg sha1
 tool nvdefinespace -hi o -ha 01000001 -sz 1024 -pwdp owner -pwdn index -se0 02000000 $in
@@ -89,7 +88,7 @@ tool hmac -hk 80000000 -if data -halg sha256 -os mac -pwdk key -se0 02000000 $bo
 tool hmac -hk 80000000 -if data -halg sha256 -os again -pwdk key -se0 02000001 $both
 same mac again
 
-# An index that can be written once. Its policy consists of the code of TPM2_PolicyNvWritten and a
+# An NV index that can be written once. Its policy is the command code of TPM2_PolicyNvWritten, followed by a
 # 0.
 echo 0000018f00 >assertion
 tool policymaker -if assertion -of once
@@ -104,7 +103,7 @@ refused 0000099d nvwrite -ha 01000002 -if record -se0 03000002 1
 tool nvread -ha 01000002 -sz 8 -of back
 same record back
 tool policyrestart -ha 03000002
-# shellcheck disable=SC2238 # it is a file
+# shellcheck disable=SC2238 # `hash` is a file here
 head -c 32 data >hash
 tool policycphash -ha 03000002 -cp hash
 tail -c 32 data >other

@@ -1,8 +1,9 @@
 #!/bin/sh
-# libvirt starts, saves, restores and ends a guest, and reverts it to a snapshot. One guest has a TPM of type
-# `emulator`, with the swtpm and swtpm_setup of `hosts/build.sh libtpms`, which come first on the daemon's path;
-# another one has type `external`, whose swtpm is already running. The daemon belongs to a session of the present
-# user, or of nobody if that is root. Not part of the gate. It installs nothing, and leaves no files.
+# Uses libvirt to start, save, restore and end a guest, and to revert it to a snapshot. One guest has a TPM of
+# type `emulator`, with the swtpm and swtpm_setup of `hosts/build.sh libtpms`, which come first on the
+# daemon's path. Another guest has a TPM of type `external`, whose swtpm is already running. The daemon runs
+# as the present user, or as nobody if that is root. Not part of the gate. It installs nothing, and leaves no
+# files.
 #
 #   tools/interop/libvirt.sh
 #
@@ -47,7 +48,7 @@ end() {
 trap end EXIT
 trap 'exit 1' HUP INT PIPE TERM
 
-# check LABEL COMMAND..: counts a command that must succeed.
+# check LABEL COMMAND..: runs and counts a command that must succeed.
 check() {
     label=$1
     shift
@@ -60,8 +61,8 @@ check() {
     fi
 }
 
-# guest NAME BACKEND [DEVICE]: prints a guest whose TPM has this backend, and perhaps another
-# device.
+# guest NAME BACKEND [DEVICE]: writes the description of a guest whose TPM has this backend, and perhaps
+# another device.
 guest() {
     cat >"$folder/home/$1.xml" <<END
 <domain type='qemu'><name>$1</name><memory unit='MiB'>64</memory><vcpu>1</vcpu>
@@ -72,7 +73,7 @@ END
     virsh define "$folder/home/$1.xml"
 }
 
-# is_ours NAME: whether the swtpm that libvirt started for this guest contains our device.
+# is_ours NAME: succeeds if the swtpm that libvirt started for this guest uses this repository's device.
 is_ours() {
     for process in $(pgrep -x swtpm); do
         tr '\0' ' ' <"/proc/$process/cmdline" | grep -q "$folder/home" || continue
@@ -85,8 +86,7 @@ is_stored() {
     find "$folder/home" -name tpm2-00.permall | grep -q .
 }
 
-# Whether the firmware's TPM2_HierarchyChangeAuth was executed, which is its last command before it
-# boots.
+# Whether TPM2_HierarchyChangeAuth was executed, which is the firmware's last command before it boots.
 is_used() {
     grep -q '^cmd 8002.\{8\}00000129' "$folder/home/record"/boot-*.tpm
 }

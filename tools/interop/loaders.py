@@ -1,6 +1,6 @@
 #!/usr/bin/env python3
-"""Boots loaders with QEMU on a tpmsim under swtpm, and on swtpm with its own libtpms. On both, each
-loader must extend the same PCRs by the same SHA-1 and SHA-256 digests, and every extend must
+"""Boots loaders in QEMU with a tpmsim in swtpm, and with swtpm's own libtpms. With both TPMs, each
+loader must extend the same PCRs with the same SHA-1 and SHA-256 digests, and every extend must
 succeed.
 
     tools/interop/loaders.py ATTACHED [LOADER..]
@@ -38,9 +38,9 @@ AAVMF = ("/usr/share/AAVMF/AAVMF_CODE.fd", "/usr/share/AAVMF/AAVMF_VARS.fd")
 
 @dataclass(frozen=True)
 class Loader:
-    """How a loader is booted: QEMU's arguments, and the keys that are typed after each text on its
-    console. The boot is complete when the last text appears. `refused` lists texts that must not
-    appear.
+    """How a loader is booted: QEMU's arguments, and the texts on its console with the keys that are
+    typed after them. The boot is complete when the last text appears. `refused` lists texts that
+    must not appear.
     """
 
     machine: str
@@ -82,7 +82,9 @@ class Boot:
 
 
 def make_grub(folder: pathlib.Path) -> None:
-    """Makes a folder from which ovmf starts GRUB. GRUB's module tpm measures its actions."""
+    """Makes a folder from which ovmf starts GRUB, with GRUB's module tpm, which measures GRUB's
+    actions.
+    """
     place = folder / "EFI/BOOT"
     place.mkdir(parents=True)
     config = folder / "grub.cfg"
@@ -106,7 +108,7 @@ def words_of(loader: Loader, folder: pathlib.Path, drive: pathlib.Path) -> list[
 
 
 def spoken_with(machine: subprocess.Popen[bytes], loader: Loader) -> Boot:
-    """Types what the loader needs, and reads until its last text appears."""
+    """Types the loader's keys, and reads its console until the last expected text appears."""
     assert machine.stdin is not None and machine.stdout is not None
     boot, at, ends = Boot(), 0, time.monotonic() + SECONDS
     for wanted, typed in loader.steps:
@@ -129,8 +131,8 @@ def spoken_with(machine: subprocess.Popen[bytes], loader: Loader) -> Boot:
 
 
 def shared_part(command: bytes) -> str:
-    """Returns the PCR that a PCR_Extend names, and its SHA-1 and SHA-256 digests, in hex. swtpm's
-    own libtpms also has SHA-384 and SHA-512 banks.
+    """Returns the PCR of a PCR_Extend, and its SHA-1 and SHA-256 digests, in hex. Only swtpm's own
+    libtpms also has SHA-384 and SHA-512 banks.
     """
     pcr = command[HEAD_BYTES : HEAD_BYTES + 4]
     at = HEAD_BYTES + 8 + int.from_bytes(command[HEAD_BYTES + 4 : HEAD_BYTES + 8]) + 4
@@ -145,8 +147,8 @@ def shared_part(command: bytes) -> str:
 
 
 def extends_of(log: str) -> list[tuple[str, str]]:
-    """Returns the shared part and the response code, in hex, of each PCR_Extend in a level-20
-    log.
+    """Returns the PCR with its digests, and the response code, of each PCR_Extend in a swtpm log of
+    level 20.
     """
     form = r"SWTPM_IO_(Read|Write): length \d+\s*\n((?:\s*(?:[0-9A-F]{2} ?)+\s*\n)+)"
     extends, last = [], b""
@@ -160,8 +162,8 @@ def extends_of(log: str) -> list[tuple[str, str]]:
 
 
 def booted(program: str, loader: Loader, drive: pathlib.Path) -> Boot:
-    """Boots a loader, from a drive if it has one, on the TPM of a program that takes swtpm's
-    arguments.
+    """Boots a loader, from a drive if it has one, with the TPM of a program that has swtpm's
+    command line.
     """
     with tempfile.TemporaryDirectory() as room:
         folder = pathlib.Path(room)
@@ -183,7 +185,7 @@ def booted(program: str, loader: Loader, drive: pathlib.Path) -> Boot:
 
 
 def judged(ours: Boot, theirs: Boot) -> list[str]:
-    """Returns the faults of a boot."""
+    """Returns the faults of the two boots of a loader, and their differences."""
     boots = (("tpmsim", ours), ("swtpm", theirs))
     faults = [f"{whose}: {boot.fault}" for whose, boot in boots if boot.fault]
     if not ours.extends:

@@ -1,4 +1,4 @@
-"""The reasons why a tpmsim does less than swtpm, which day.steps and rest.steps name."""
+"""The reasons why tpmsim supports less than swtpm, which day.steps and rest.steps refer to."""
 
 from __future__ import annotations
 

@@ -1,5 +1,5 @@
-"""Steps that tpm2-tools execute on a device: the parser of a file of steps, whose format day.steps
-describes, and the functions that play them.
+"""Steps that tpm2-tools execute on a device. Parses files of steps, whose format day.steps
+describes, and plays the steps.
 """
 
 from __future__ import annotations
@@ -21,14 +21,14 @@ TOOL = re.compile(r"\btpm2_(\w+)")
 
 @dataclasses.dataclass(frozen=True)
 class Step:
-    """A line of a file of steps."""
+    """A step, which is one line of a file of steps."""
 
     command: str
-    # The response code with which it must be refused; empty: it must succeed.
+    # The response code with which the step must be refused, or empty if it must succeed.
     code: str = ""
-    # The name of the reason why a tpmsim does less than swtpm; empty: it does as much.
+    # The name of the reason why tpmsim does less than swtpm, or empty if it does the same.
     reason: str = ""
-    #: Whether it counts: a preparation and a power cycle do not.
+    #: Whether the step counts. Preparations and power cycles do not count.
     counts: bool = True
 
     @property
@@ -41,9 +41,7 @@ class Step:
 
 @dataclasses.dataclass(frozen=True)
 class Outcome:
-    """The outcome of a step: whether everything was as required, and the last line of standard
-    error.
-    """
+    """The outcome of a step: whether it passed, and the last line of standard error."""
 
     step: Step
     passed: bool

@@ -1,14 +1,14 @@
 #!/bin/sh
-# Uses a tpmsim under swtpm: with Debian's tpm2-tools, by libtss2's transport `swtpm`, policy tools included,
-# and with swtpm_ioctl. It reports for each case whether it went as expected. It restarts swtpm, moves the
-# running device from one swtpm to another, kills it, fills its disk, and damages its stored state. Not part of
-# the gate. It installs nothing, and leaves no files.
+# Uses a tpmsim in swtpm: with Debian's tpm2-tools, including the policy tools, through libtss2's transport
+# `swtpm`, and with swtpm_ioctl. It reports for each test whether the result was as expected. It restarts
+# swtpm, moves the running device from one swtpm to another, kills swtpm, fills its disk, and damages its
+# stored state. Not part of the gate. It installs nothing, and leaves no files.
 #
 #   tools/interop/swtpm_tools.sh
 #
-# Needs Debian's swtpm, swtpm-tools, libtpms-dev, tpm2-tools, libtss2-tcti-swtpm0, socat and busybox. $ATTACHED is
-# the folder of `hosts/build.sh libtpms`; if it is not set, the script makes one. A case that cannot be tried is
-# reported as skipped, with its reason.
+# Needs Debian's swtpm, swtpm-tools, libtpms-dev, tpm2-tools, libtss2-tcti-swtpm0, socat and busybox.
+# $ATTACHED is the folder of `hosts/build.sh libtpms`; if it is not set, the script makes one. A test that
+# cannot run is reported as skipped, with its reason.
 set -u
 
 top=$(CDPATH='' cd "$(dirname "$0")/../.." && pwd -P) || exit 1
@@ -55,13 +55,13 @@ begin_tpm() {
     done
 }
 
-# end_tpm: ends swtpm, if there is one.
+# end_tpm: ends swtpm, if it is running.
 end_tpm() {
     [ -z "$tpm" ] || { kill "$tpm" 2>/dev/null && wait "$tpm" 2>/dev/null; }
     tpm=
 }
 
-# ioctl WORDS..: sends a message over the control channel; its output is in the file output.
+# ioctl WORDS..: sends a message over the control channel, and writes the output to the file `output`.
 ioctl() {
     timeout 20 swtpm_ioctl --tcp "127.0.0.1:$((port + 1))" "$@" >output 2>error
 }
@@ -114,7 +114,7 @@ simple() {
     tool nvundefine 0x1500016 -C o
 }
 
-# A key that is sealed to PCR 10, through contexts that each tool saves for the next.
+# Seals a key to PCR 10 and unseals it. Each tool saves a context for the next tool.
 sealing() {
     tool createprimary -C o -G aes128cfb -g sha256 -c primary.context
     tool startauthsession -S trial.context
@@ -156,10 +156,10 @@ policies() {
     tool shutdown
 }
 
-# The PCR that a moved device must have, and its policy session.
+# The digest with which a PCR is extended.
 extended=0000000000000000000000000000000000000000000000000000000000000007
 
-# The device moves while it runs, with a PCR, a session and an object.
+# Moves the running device, with a PCR, a session and an object, to another swtpm.
 moves() {
     mkdir from to
     begin_tpm "$folder/from" --flags not-need-init || return
@@ -214,7 +214,7 @@ bent() {
     { head -c "$size" "$1"; printf '\377'; tail -c "+$((size + 2))" "$1"; } >bent_file
 }
 
-# own_state FILE: saves the volatile state of a swtpm with its own libtpms.
+# own_state FILE: saves the volatile state of swtpm with its own libtpms.
 own_state() {
     mkdir own
     swtpm socket --tpm2 --tpmstate "dir=$folder/own" --ctrl "type=unixio,path=$folder/own/ctrl" \
@@ -227,7 +227,7 @@ own_state() {
     end_tpm
 }
 
-# Damaged states are refused, and so are those of swtpm's own libtpms; the stored state is
+# Checks that damaged states are refused, and so are states of swtpm's own libtpms. The stored state is
 # unchanged.
 damage() {
     own_state own_volatile
@@ -250,7 +250,7 @@ damage() {
     end_tpm
 }
 
-# swtpm is killed after a response, and the device has executed everything that was answered.
+# Kills swtpm after a response, and checks that the device has executed all answered commands.
 kills() {
     mkdir killed
     begin_tpm "$folder/killed" --flags not-need-init,startup-clear || return
@@ -269,8 +269,8 @@ kills() {
     if [ "$lost" -eq 0 ]; then ok '20 kills, nothing lost'; else fail "$lost of 20 kills lost a write"; fi
 }
 
-# On a full disk, the command and each later one fail. With free space again, everything works, and the
-# earlier data are still there.
+# On a full disk, a command that changes the state fails, and so does each later command. When there is space
+# again, everything works, and the earlier data are still there.
 full_disk() {
     mkdir full
     if ! mount -t tmpfs -o size=16k tmpfs full 2>error; then
@@ -295,14 +295,14 @@ full_disk() {
     umount full
 }
 
-# extend_17: sends TPM2_PCR_Extend of PCR 17 at the locality that was set, because tpm2-tools set their
-# own, and prints the response code.
+# extend_17: sends TPM2_PCR_Extend of PCR 17, and prints the response code. It does not use tpm2-tools,
+# because they would change the locality.
 extend_17() {
     printf '%s' "80020000004100000182000000110000000940000009000001000000000001000b$extended" |
         busybox xxd -r -p | socat -t 2 - "TCP:127.0.0.1:$port" | head -c 10 | busybox xxd -p | cut -c 13-20
 }
 
-# The functions of the control channel, except the states.
+# Tests the functions of the control channel, except those about states.
 control() {
     mkdir control
     begin_tpm "$folder/control" || return

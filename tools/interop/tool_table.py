@@ -33,7 +33,7 @@ COLUMNS = 118
 
 @dataclasses.dataclass
 class Results:
-    """The outcomes of all steps on each device, in the same order. The steps of the day come
+    """The outcomes of all steps on each device, in the same order. The steps of day.steps come
     first.
     """
 
@@ -43,7 +43,7 @@ class Results:
     served: list[Outcome] = dataclasses.field(default_factory=list)
 
     def reasons_of(self, tool: str) -> set[str]:
-        """Returns the reasons why steps of a tool pass only on swtpm."""
+        """Returns the reasons of those steps of a tool that pass only on swtpm."""
         pairs = zip(self.swtpm, self.tpmsim, strict=True)
         return {ours.step.reason for theirs, ours in pairs if is_less(theirs, ours) and tool in ours.step.tools}
 
@@ -88,7 +88,7 @@ def listed(tools: list[str]) -> str:
 
 
 def rows(tools: list[str], results: Results) -> Iterator[str]:
-    """Yields a row of the table for each reason."""
+    """Yields a row of the table for each reason that applies to a tool."""
     for reason, sentence in REASONS.items():
         less = [tool for tool in tools if reason in results.reasons_of(tool)]
         if less:
@@ -102,7 +102,7 @@ def paragraph(text: str) -> str:
 
 
 def block(tools: list[str], results: Results) -> str:
-    """Returns what the document contains between its marks."""
+    """Returns the text that the document must contain between its marks."""
     whole = [tool for tool in tools if does(tool, results.tpmsim) and not results.reasons_of(tool)]
     served = [tool for tool in tools if does(tool, results.served)]
     nowhere = [tool for tool in tools if not does(tool, results.swtpm) and not does(tool, results.tpmsim)]
@@ -120,7 +120,7 @@ def block(tools: list[str], results: Results) -> str:
 
 
 def put(text: str, new: str) -> str:
-    """Returns the document with another block between the marks."""
+    """Returns the document with a new text between its marks."""
     front, _, rest = text.partition(BEGIN)
     _, _, back = rest.partition(END)
     return front + BEGIN + new + END + back

@@ -2,14 +2,14 @@
 # Uses a device with Debian's tpm2-tools, each tool in its own process, and reports for each tool whether
 # it succeeded. Not part of the gate. It installs nothing, and leaves no files.
 #
-#   tools/interop/tpm2_tools.sh            by each of the three ways
-#   tools/interop/tpm2_tools.sh WAY..      by these:
+#   tools/interop/tpm2_tools.sh            in each of these three ways
+#   tools/interop/tpm2_tools.sh WAY..      in these ways:
 #
-#   socket    a served device, which the tools reach by their `cmd` transport and socat. Needs
+#   socket    a served device, which the tools access through their `cmd` transport and socat. Needs
 #             tpm2-tools and socat, and rt if the program is not built yet
-#   module    a kept device alone, by the module that hosts/build.sh makes. Needs tpm2-tools and what
-#             that script needs; TPMSIM_ARCHIVE names another archive here too
-#   complete  the same with the completing layer, and with tools that pass contexts on
+#   module    a kept device without the completing layer, through the module that hosts/build.sh makes.
+#             Needs tpm2-tools and what that script needs; TPMSIM_ARCHIVE may name another archive
+#   complete  a kept device with the completing layer, and tools that pass contexts to each other
 set -u
 
 top=$(CDPATH='' cd "$(dirname "$0")/../.." && pwd -P)
@@ -26,7 +26,7 @@ cd "$folder" || exit 1
 tools=0
 failed=0
 
-# fail REASON: ends the script, because a way cannot be tried.
+# fail REASON: ends the script, because it cannot use a device in the requested way.
 fail() {
     echo "$0: $1" >&2
     exit 2
@@ -91,7 +91,7 @@ loaded() {
 # PCR 10 after it was extended with a digest of zeros that ends with 1, as computed by hashlib.
 extended=$(python3 -c 'import hashlib; print(hashlib.sha256(bytes(63) + b"\1").hexdigest())')
 
-# The tools that need only the device.
+# Tests the tools that need no completing layer.
 device() {
     tool startup -c
     tool selftest -f
@@ -115,7 +115,7 @@ device() {
     tool dictionarylockout -c
 }
 
-# NV indices of each type.
+# Tests NV indices of each type.
 indices() {
     tool nvdefine 0x1500016 -C o -s 8 -a 'ownerread|ownerwrite|authread|authwrite' -p pass
     refused 14a nvread 0x1500016 -C o -s 8
@@ -146,8 +146,8 @@ indices() {
     done
 }
 
-# A key that is sealed to PCR 10, with persistent handles. Without the completing layer the tool that
-# loads it fails to save its context afterwards; the object keeps its handle.
+# Seals a key to PCR 10 and unseals it, with persistent handles. Without the completing layer, the tool that
+# loads the key cannot save its context afterwards. The object keeps its handle.
 sealing() {
     tool createprimary -C o -G aes128cfb -g sha256
     tool evictcontrol -C o -c 0x80000000 0x81000001
@@ -170,7 +170,7 @@ sealing() {
     refused 99d unseal -c 0x81000002 -p pcr:sha256:10
 }
 
-# The state of a device after a power cycle.
+# Tests the state of a device after a power cycle.
 power_cycle() {
     tool shutdown -c
     made/tpmsim-power state || wrong 'the power cycle'
@@ -191,7 +191,7 @@ ending() {
     tool shutdown
 }
 
-# Tools that pass contexts to each other, and request features that the device alone lacks.
+# Tests tools that pass contexts to each other, and that need features of the completing layer.
 contexts() {
     tool getrandom --hex 16
     for what in algorithms properties-fixed properties-variable handles-loaded-session; do
@@ -263,7 +263,7 @@ serve() {
     export TPM2TOOLS_TCTI="cmd:socat - UNIX-CONNECT:$folder/socket"
 }
 
-# keep WORDS: builds the module, through which the tools use a new device, with further words.
+# keep WORDS: builds the module. Then the tools use a new device through it, with further options.
 keep() {
     [ -e made ] || "$top/hosts/build.sh" tcti made || exit 2
     rm -rf state

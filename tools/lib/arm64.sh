@@ -1,6 +1,6 @@
-# Runs programs for ARM64 on another machine: the kernel runs them by qemu, in namespaces of their own, so
-# that no other program is affected. Needs unshare, and Linux 6.7 or newer that lets the user make
-# namespaces. Other scripts read this file by `.`.
+# Runs programs for ARM64 on another machine: the kernel runs them with qemu, in separate namespaces, so that
+# no other program is affected. Needs unshare, and Linux 6.7 or newer with user namespaces. Other scripts
+# source this file.
 # shellcheck shell=sh
 
 # note_of_arm64 QEMU FLAGS: prints the kernel's entry that names QEMU as the interpreter of programs for
@@ -11,9 +11,9 @@ note_of_arm64() {
     printf '%s\n' ":tpmsim-arm64:M::$magic:$mask:$1:$2"
 }
 
-# with_arm64 NOTE COMMAND..: runs a command in such namespaces.
+# with_arm64 NOTE COMMAND..: runs a command in namespaces in which the kernel has the entry NOTE.
 with_arm64() {
-    # shellcheck disable=SC2016 # the shell within reads the names
+    # shellcheck disable=SC2016 # the inner shell expands the variables
     unshare --map-root-user --mount sh -c '
         note=$1
         shift

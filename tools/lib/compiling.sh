@@ -1,5 +1,5 @@
-# Shared by the scripts that compile a crate with `rt`'s own tools, over the libraries below it. They read
-# this file by `.` in the repository's folder, after tools/lib/proved.sh.
+# Functions for the scripts that compile a crate with `rt`'s own tools and the libraries below the crate. They
+# source this file in the repository's folder, after tools/lib/proved.sh.
 # shellcheck shell=sh
 
 # kit_folder: prints the folder of Rattle's toolchain.
@@ -7,7 +7,7 @@ kit_folder() {
     found=$(readlink -f "$(command -v rattle)") && echo "${found%/bin/*}"
 }
 
-# compile REPOSITORY CRATE FILE [WORDS..]: proves a crate over the libraries that are built in a repository,
+# compile REPOSITORY CRATE FILE [WORDS..]: proves a crate with the libraries that are built in a repository,
 # and compiles it to a file: a static library to an archive, a program to an object file.
 compile() (
     crates=$1/crates

@@ -1,8 +1,8 @@
-# Empty Debian systems, for the scripts of tools/soak, which read this file by `.`. They set `work`, a folder of
-# their own, `machine`, the folder of the machine, and `mirror`, and define `fail REASON`.
-# shellcheck shell=sh disable=SC2154 # as above
+# Makes new Debian systems for the scripts of tools/soak, which source this file. They set `work` to a folder
+# of their own, `machine` to the folder of the machine, and `mirror`, and define `fail REASON`.
+# shellcheck shell=sh disable=SC2154 # those scripts set the variables
 
-# needs_for_machines: fails if this user cannot make a machine, or a tool for it is missing.
+# needs_for_machines: ends the script if this user cannot make a machine, or if a tool is missing.
 needs_for_machines() {
     [ "$(id -u)" -eq 0 ] || fail 'only root can make a machine'
     for tool in debootstrap unshare chroot; do
@@ -10,7 +10,7 @@ needs_for_machines() {
     done
 }
 
-# make_base: makes $work/base, the machine of which all others are copies.
+# make_base: makes the machine $work/base, from which all others are copied.
 make_base() {
     mkdir "$work/cache" || fail 'there is no folder for packages'
     debootstrap --cache-dir="$work/cache" --variant=minbase bookworm "$work/base" "$mirror" \
@@ -19,9 +19,10 @@ make_base() {
     apt update
 }
 
-# in_machine SHM WORDS..: runs a command in the machine, as root. Its mounts end when the command ends.
+# in_machine SHM WORDS..: runs a command in the machine, as root, with a /dev/shm of this size (or `none`).
+# The machine's mounts end with the command.
 in_machine() {
-    # shellcheck disable=SC2016 # the shell within expands them
+    # shellcheck disable=SC2016 # the inner shell expands the variables
     unshare --mount --propagation private --pid --fork --kill-child sh -c '
         machine=$1 shm=$2
         shift 2

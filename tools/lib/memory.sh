@@ -1,4 +1,4 @@
-# Shared by the scripts that work in memory, which read this file by `.`.
+# Functions for the scripts that store files in memory, which source this file.
 # shellcheck shell=sh
 
 # gigabytes_free: prints how many gigabytes of memory are free.
@@ -6,8 +6,8 @@ gigabytes_free() {
     awk '/^MemAvailable:/ { gigabytes = int($2 / 1000000) } END { print gigabytes + 0 }' /proc/meminfo
 }
 
-# folder_in_memory GIGABYTES: makes a folder in memory, if that much is free, and prints its path. Other
-# users may pass through it, and programs in it may run.
+# folder_in_memory GIGABYTES: makes a folder in memory, if that much is free, and prints its path. Other users
+# may enter it, and programs in it can be executed.
 folder_in_memory() {
     [ "$(df -Pk /dev/shm | awk 'NR == 2 { print $4 }')" -ge $((1000000 * $1)) ] || return 1
     made=$(mktemp -d /dev/shm/tpmsim.XXXXXX) || return 1
@@ -17,8 +17,8 @@ folder_in_memory() {
     return 1
 }
 
-# folder_for_proofs NUMBER: makes a folder in memory for the files of NUMBER proofs at a time, and prints
-# its path. For each proof 1 GB must be free for its files, and 3 GB for the prover.
+# folder_for_proofs NUMBER: makes a folder in memory for the files of NUMBER simultaneous proofs, and prints
+# its path. Each proof needs 1 GB for its files and 3 GB for the prover.
 folder_for_proofs() {
     [ "$(gigabytes_free)" -ge $((4 * $1)) ] && folder_in_memory "$1"
 }

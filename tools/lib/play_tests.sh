@@ -13,15 +13,15 @@ lists=$top/crates/tpmsim_lists/out/tpmsim_lists
 work=$1
 shift
 
-# name_of FILE: its path in the repository, or among the scripts that were made.
+# name_of FILE: prints the path of a file in the repository, or among the generated scripts.
 name_of() {
     name=${1#"$top/"}
     echo "${name#"$work/"}"
 }
 
-# first_difference TEST WANTED: prints the first line of standard output that differs from the expected
-# one and, for a script, the line of the script that printed it. Each cmd and do line prints one line,
-# or two with a trace; `power` prints one line with a trace.
+# first_difference TEST WANTED: prints the first line of standard output that differs from the expected one
+# and, for a script, the line of the script that printed it. Each cmd or do line prints one line, or two if
+# there is a trace. `power` prints one line, only if there is a trace.
 first_difference() {
     awk -v test="$(name_of "$1")" -v out="$(name_of "$2")" '
         BEGIN { traces = out ~ /trace$/ }
@@ -53,7 +53,7 @@ name_program() {
     esac
 }
 
-# is_skipped TEST STATUS: whether a test that ended with this status was skipped, and gave a reason.
+# is_skipped TEST STATUS: succeeds if a shell test ended with status 77 (skipped), and printed a reason.
 is_skipped() {
     case $1,$2 in
     *.sh,77) [ "$(grep -c . "$output")" -eq 1 ] && [ "$(wc -l <"$output")" -eq 1 ] ;;
@@ -70,7 +70,7 @@ run() {
     esac
 }
 
-# has_error FILE: whether standard error equals the file, or is empty if there is no file.
+# has_error FILE: succeeds if standard error is the same as the file, or empty if there is no file.
 has_error() {
     if [ -f "$1" ]; then
         cmp -s "$1" "$error"

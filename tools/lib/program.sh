@@ -1,12 +1,12 @@
-# Prints the path of a program that is proved and made of the current sources: the one that was built
-# here, unless a source is newer, or the one in dist/, if dist/PROVED names it and the sources. If
-# there is neither, tools/build.sh builds one first. Other scripts read this file by `.` in the
-# repository's folder. The launcher does so at each start, and so it starts few processes.
+# Prints the path of a program that is proved and built from the current sources. This is the program that was
+# built here, unless a source is newer, or the program in dist/, if dist/PROVED has the checksums of it and of
+# the sources. If there is neither, tools/build.sh builds one first. Other scripts source this file in the
+# repository's folder. The launcher does so at each start, so this file must start few processes.
 # shellcheck shell=sh
 . tools/lib/proved.sh
 stamp=crates/tpmsim/out/verified-$machine
 
-# Whether dist/ contains a program for this machine.
+# Whether dist/ can contain a program for this machine.
 is_served() {
     case $system in
     'Linux x86_64' | 'Linux aarch64') true ;;
@@ -14,8 +14,8 @@ is_served() {
     esac
 }
 
-# Whether the program of dist/ was verified, and nothing in the repository on which it depends has
-# changed or moved since. Whoever can write the stamp can write this file too.
+# Whether the program in dist/ was verified, and nothing in the repository on which it depends has been
+# changed or moved since. Whoever can write the stamp can also write this file.
 is_verified() {
     [ -f "$stamp" ] && is_served && changed=$(
         find crates.txt HANDLES dist crates -regex 'crates/[^/]*/out' -prune -o \
@@ -23,12 +23,12 @@ is_verified() {
     ) && [ -z "$changed" ]
 }
 
-# Whether the program of dist/ is proved and runs here; if not, `fault` contains the reason.
+# Whether the program in dist/ is proved and runs here. If not, `fault` contains the reason.
 is_good() {
     fault='dist/ has programs for Linux on x86-64 and on ARM64 alone'
     is_served || return 1
     fault="$shipped was proved of other sources than these"
-    # shellcheck disable=SC2119 # those of tpmsim
+    # shellcheck disable=SC2119 # the default crate is meant
     is_proved sources "$(sources_checksum)" || return 1
     fault="$shipped is not the program that $proved names"
     is_proved program "$(checksum <"$shipped")" || return 1
@@ -37,8 +37,8 @@ is_good() {
     return 1
 }
 
-# Verifies the program of dist/. The stamp has the time at which the verification began, so that a
-# later change counts. If no stamp can be written, the next start verifies again.
+# Verifies the program in dist/. The stamp's time is the time at which the verification began, so that any
+# later change is noticed. If no stamp can be written, the next start verifies again.
 verify() {
     new=$stamp.$$
     mkdir -p "${stamp%/*}" 2>/dev/null

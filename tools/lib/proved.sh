@@ -1,10 +1,10 @@
-# Shared by the scripts that find, build and ship the proved program. They read this file by `.` in the
+# Functions for the scripts that find, build and ship the proved program. They source this file in the
 # repository's folder.
-# shellcheck shell=sh disable=SC2034 # other scripts use the names
+# shellcheck shell=sh disable=SC2034 # other scripts use the variables
 built=crates/tpmsim/out/tpmsim
 
-# ship MACHINE: names the shipped files for a machine: dist/aarch64 has those for ARM64, dist/ those for
-# x86-64.
+# ship MACHINE: sets the paths of the shipped files for a machine, which are in dist/aarch64 for ARM64 and in
+# dist/ for x86-64.
 ship() {
     distribution=dist
     [ "$1" != aarch64 ] || distribution=dist/aarch64
@@ -16,13 +16,13 @@ ship() {
     proved=$distribution/PROVED
 }
 
-# By default they are the files for this machine; TPMSIM_MACHINE names another one, for example to make a
+# By default these are the files for this machine. TPMSIM_MACHINE names another machine, for example to make a
 # package for it.
 system=$(uname -sm)
 machine=${TPMSIM_MACHINE:-${system#Linux }}
 ship "$machine"
 
-# uses CRATE: prints the libraries that the crate's line names.
+# uses CRATE: prints the libraries that the crate's line in crates.txt names.
 uses() {
     sed -n -e "s/^$1\( [^:]*\)\{0,1\}://p" crates.txt
 }
@@ -46,8 +46,8 @@ crates_below() {
         }' crates.txt
 }
 
-# sources [CRATE]: prints the files and folders from which a program or the library is made. CRATE is its
-# crate, tpmsim by default.
+# sources [CRATE]: prints the files and folders from which a program or the library is built. CRATE is its
+# crate, by default tpmsim.
 sources() {
     below=$(crates_below "${1:-tpmsim}") || return 1
     echo crates.txt
@@ -59,19 +59,19 @@ sources() {
     done
 }
 
-# is_newest FILE [CRATE]: whether a file exists, and no source or folder of sources is newer.
+# is_newest FILE [CRATE]: succeeds if a file exists, and no source or folder of sources is newer.
 is_newest() {
-    # shellcheck disable=SC2086 # no name of a source has a space
+    # shellcheck disable=SC2086 # source names have no spaces
     [ -e "$1" ] && sources=$(sources "${2:-tpmsim}") &&
         newer=$(find $sources -newer "$1" -print -quit 2>/dev/null) && [ -z "$newer" ]
 }
 
-# are_built CRATE..: whether each of these libraries and programs was built here by `rt ci`, and none of its
-# sources is newer. `rt ci` leaves no file of a static library; for one, all crates below it must be built.
+# are_built CRATE..: succeeds if each of these libraries and programs was built here by `rt ci`, and no source
+# is newer. For a static library, of which `rt ci` leaves no file, all crates below it must be built.
 are_built() {
     for crate do
         if grep -q "^$crate staticlib" crates.txt; then
-            # shellcheck disable=SC2046 # no name of a crate has a space
+            # shellcheck disable=SC2046 # crate names have no spaces
             are_built $(crates_below "$crate") || return 1
             continue
         fi
@@ -86,15 +86,15 @@ checksum() {
     sum=$(sha256sum) && echo "${sum%% *}"
 }
 
-# sources_checksum [CRATE]: prints the SHA-256 of the sources: that of the lines that sha256sum writes
+# sources_checksum [CRATE]: prints the checksum of the sources: the SHA-256 of the lines that sha256sum prints
 # for the files, in the order of their paths in the repository.
 sources_checksum() {
     sources=$(sources "$@") || return 1
-    # shellcheck disable=SC2086 # as above
+    # shellcheck disable=SC2086 # source names have no spaces
     checksum_of $sources
 }
 
-# kept_sources_checksum: prints the same for the sources of libtpmsim-kept.so.0.
+# kept_sources_checksum: prints the checksum of the sources of libtpmsim-kept.so.0.
 kept_sources_checksum() {
     checksum_of hosts/kept hosts/shared.sh library/tpmsim.h
 }
@@ -111,19 +111,19 @@ proved_line() {
     [ ! -f "$proved" ] || sed -n "s/^$1: //p" "$proved"
 }
 
-# is_proved NAME SUM: whether dist/PROVED has this checksum on the line with this name.
+# is_proved NAME SUM: succeeds if dist/PROVED has this checksum on the line with this name.
 is_proved() {
     [ -n "$2" ] && [ "$(proved_line "$1")" = "$2" ]
 }
 
-# Prints the faults of the checksums of the C host of a kept device, one a line.
+# Checks the checksums of the C host of a kept device, and prints the faults, one on each line.
 faults_of_kept() {
     [ -f "$kept_shared" ] || { echo "$kept_shared is not there" && return; }
     is_proved 'kept sources' "$(kept_sources_checksum)" || echo "$kept_shared was made of other sources than these"
     is_proved 'kept shared object' "$(checksum <"$kept_shared")" || echo "$kept_shared is not what $proved names"
 }
 
-# Prints the faults of the checksums of the module for web pages, one a line.
+# Checks the checksums of the module for web pages, and prints the faults, one on each line.
 faults_of_module() {
     [ -f "$module" ] || { echo "$module is not there" && return; }
     is_proved 'web sources' "$(sources_checksum tpmsim_web)" ||

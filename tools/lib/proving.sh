@@ -1,13 +1,13 @@
-# Shared by build.sh and library.sh, which prove crates in a copy. They read this file by `.` in the
-# repository's folder, and set `crates`, the crates to be proved, `total`, their number, `log`, a file,
-# and `top`, that folder.
-# shellcheck shell=sh disable=SC2154 # the names above
+# Functions for build.sh and library.sh, which prove crates in a copy. They source this file in the
+# repository's folder, and set `crates` to the crates to be proved, `total` to their number, `log` to a file,
+# and `top` to the repository's folder.
+# shellcheck shell=sh disable=SC2154 # those scripts set the variables
 
 # copy_crates FOLDER: copies these crates to a folder, without the wrong bodies, which only the gate
 # tries.
 copy_crates() {
     mkdir -p "$1/crates" && cp HANDLES "$1" || return 1
-    # shellcheck disable=SC2086 # they are words
+    # shellcheck disable=SC2086 # word splitting is intended
     tar cf - -C crates --exclude=out --exclude=must-fail $crates | (cd "$1/crates" && tar xf -) ||
         return 1
     for crate in $crates; do
@@ -15,7 +15,7 @@ copy_crates() {
     done >"$1/crates.txt"
 }
 
-# Logs the output of `rt`, and prints the crates that are proved.
+# Logs the output of `rt`, and reports each crate that is proved.
 tell() {
     number=0
     while IFS= read -r line; do
@@ -30,8 +30,8 @@ tell() {
     done
 }
 
-# Proves the crates in this folder; crates that do not use each other are proved at the same time. The
-# caller judges the result by the files that it leaves.
+# Proves the crates in this folder. Crates that do not use each other are proved at the same time. The caller
+# has to check the result by the files that are left.
 prove_all() {
     git init --quiet && sh "$top/tools/lib/rt_ci.sh" </dev/null 2>&1 | tell
 }

@@ -3,12 +3,12 @@
 
     tools/man/documents.py ROOT FOLDER [PATH=PLACE]..
 
-FOLDER below ROOT then contains them, at their paths in the repository. PATH is another installed
-file of the repository, and PLACE its path below ROOT. Links between documents lead to installed
-files; any other link becomes its text. Programs have their installed names, which
-packaging/pages.toml lists, except in README.md, which is about the sources. Documents for
-developers are left out. A script does not name the program that wrote it, because that program is
-not installed. Needs only python3.
+They are installed in FOLDER below ROOT, with their paths in the repository. PATH is another
+installed file of the repository, and PLACE its path below ROOT. Links between documents lead to
+installed files; any other link is replaced with its text. Programs have their installed names,
+which packaging/pages.toml lists, except in README.md, which is about the sources. Documents for
+developers are not installed. A script does not name the program that wrote it, because that program
+is not installed. Needs only python3.
 """
 
 import functools
@@ -62,7 +62,7 @@ class Documents:
         self.places = {it: os.path.join(folder, it) for it in ours} | others
 
     def piece(self, document: str, found: re.Match[str]) -> str:
-        """Returns code unchanged, and the replacement of a link."""
+        """Returns the replacement of a link, and any code unchanged."""
         text, file = found["text"], found["file"]
         if text is None or not file or SITE.match(file):
             return found[0]

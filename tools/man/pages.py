@@ -3,9 +3,9 @@
 
     tools/man/pages.py FOLDER [--program PROGRAM]
 
-packaging/pages.toml says what each page is made from. FOLDER then contains the pages, such as tpmsim.1. The
-program is dist/tpmsim, or PROGRAM. The status is 1, with a line on standard error, if a section or a
-program is missing. Needs only python3.
+packaging/pages.toml says what each page is made from. The pages, such as tpmsim.1, are written to
+FOLDER. The program is dist/tpmsim, or PROGRAM. The status is 1, with a line on standard error, if a
+section or a program is missing. Needs only python3.
 """
 
 import functools
@@ -55,12 +55,12 @@ class Page:
 
 
 def words_of(text: str) -> str:
-    """Returns the help of a program, which contains no links."""
+    """Returns the roff of a help text, which contains no links."""
     return roff.line(roff.inline(text, lambda text, _: text))
 
 
 def option_lines(text: str) -> Iterator[str]:
-    """Yields a help's list of options, arguments or subcommands, as paragraphs with a tag."""
+    """Yields the options, arguments or subcommands that a help text lists, as tagged paragraphs."""
     for each in text.split("\n"):
         found = OPTION.match(each)
         if found and not found[1].startswith(("-h,", "-V,", "help ")):
@@ -71,11 +71,11 @@ def option_lines(text: str) -> Iterator[str]:
 
 
 class Manual:
-    """All pages, and which of them contains a section of a document."""
+    """All pages, and the page that contains each section of a document."""
 
     def __init__(self, program: str) -> None:
         self.program = program
-        # A key is a page's name, followed by its section if two pages have the same name.
+        # A key is a page's name, followed by its section number if two pages have the same name.
         told = pages_told()["pages"].items()
         self.pages = {key: Page(key.partition(".")[0], **page) for key, page in told}
         self.version = said(["tpmsim", "--version"], program).split()[-1]
@@ -87,7 +87,8 @@ class Manual:
                 self.places |= {(part.document, anchor): page for anchor in part.anchors}
 
     def place_of(self, path: str, anchor: str) -> Page | None:
-        """Returns the page that contains a section; without an anchor, the page with most of the document.
+        """Returns the page that contains a section or, without an anchor, the page with most of the
+        document.
         """
         if anchor:
             return self.places.get((path, anchor))
@@ -95,8 +96,8 @@ class Manual:
         return max(pages, key=pages.count) if pages else None
 
     def link(self, page: Page, document: str, text: str, target: str) -> str:
-        """Returns what replaces a link on a page: its text, and the page that contains its
-        target.
+        """Returns the replacement of a link on a page: the link's text, and the page that contains
+        its target.
         """
         file, _, anchor = target.partition("#")
         if ":" in file:
@@ -145,7 +146,9 @@ class Manual:
         yield from roff.code(self.synopsis(page))
 
     def files(self, lines: list[str]) -> Iterator[str]:
-        """Yields the installed places of folders that these lines name by their paths in the repository."""
+        """Yields the installed paths of the folders that these lines mention with their paths in
+        the repository.
+        """
         named = sorted({f"\\fB{it}\\fR" for it in FOLDER.findall(FONT.sub("", "\n".join(lines)))})
         ours = [it for it in named if INSTALLED.search(it)]
         others = [it for it in named if it not in ours]
@@ -164,7 +167,7 @@ class Manual:
         yield from (".SH SEE ALSO", words_of(others))
 
     def body(self, page: Page) -> Iterator[str]:
-        """Yields the lines of all sections after the page's own front part."""
+        """Yields the title part of a page, and then the lines of all its sections."""
         yield from self.head(page)
         if page.commands:
             yield from self.commands(page.commands)
@@ -176,7 +179,7 @@ class Manual:
             yield from roff.code(said(words, self.program).rstrip().split("\n"))
 
     def write(self, folder: pathlib.Path) -> None:
-        """Writes all pages, and for each other name of a page a page that refers to it."""
+        """Writes all pages, and for each alternative name of a page a page that refers to it."""
         folder.mkdir(parents=True, exist_ok=True)
         for page in self.pages.values():
             (folder / page.file()).write_text("\n".join(self.lines(page)) + "\n")

@@ -1,7 +1,7 @@
 """Converts the part of Markdown that the documents use to roff, with the macros of man(7).
 
-It reads headings, paragraphs, lists with `-`, tables, fenced or indented code, and within a line code,
-links, `**words**` and `*words*`. A table row becomes a paragraph tagged with the first cell.
+It reads headings, paragraphs, lists with `-`, tables, fenced or indented code, and, within a line,
+code, links, `**words**` and `*words*`. A table row becomes a paragraph tagged with the first cell.
 """
 
 import re
@@ -19,12 +19,12 @@ PIECE = re.compile(
     r"|\*\*(?P<strong>.+?)\*\*|(?<![\w*])\*(?P<soft>[^*\s][^*]*)\*(?![\w*])"
 )
 
-# Makes the replacement of a link from the link's text and target.
+# A function from a link's text and target to the link's replacement.
 Link = Callable[[str, str], str]
 
 
 def escaped(text: str) -> str:
-    """Returns a text in which every byte that has a meaning in roff is escaped."""
+    """Returns a text in which every character with a special meaning in roff is escaped."""
     return text.replace("\\", "\\e").replace("-", "\\-").replace("'", "\\(aq").replace("`", "\\(ga")
 
 
@@ -34,7 +34,7 @@ def line(text: str) -> str:
 
 
 def plain(text: str) -> str:
-    """Returns the roff of text outside of code."""
+    """Returns the roff of a text that is not code."""
     unescaped = re.sub(r"\\([\\|`*_<>#])", r"\1", text)
     return escaped(unescaped).replace("\\-", "-").replace("\\(aq", "'")
 
@@ -103,7 +103,9 @@ def paragraph(lines: list[str], link: Link) -> str:
 
 
 def roff(text: str, link: Link, depth: int = 0) -> Iterator[str]:
-    """Yields the roff lines of a Markdown text, ignoring the `depth` levels above its headings."""
+    """Yields the roff lines of a Markdown text, whose headings are `depth` levels deeper than on
+    the page.
+    """
     lines, at = text.split("\n"), 0
     while at < len(lines):
         here, end = lines[at], at + 1

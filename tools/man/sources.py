@@ -27,7 +27,7 @@ def pages_told() -> dict[str, Any]:
 
 
 def installed(text: str) -> str:
-    """Returns a text with the installed names of programs."""
+    """Returns a text in which the programs have their installed names."""
     for path, name in pages_told()["names"].items():
         text = re.sub(rf"(?<![\w/.]){re.escape(path)}(?![\w/])", name, text)
     return text
@@ -50,14 +50,14 @@ def anchor_of(heading: str) -> str:
 
 
 def headings_of(text: str) -> list[tuple[int, int, str]]:
-    """Returns the line of each heading, its level and its anchor; code contains no headings."""
+    """Returns the offset, the level and the anchor of each heading outside of code."""
     blank = FENCED.sub(lambda found: re.sub(r"[^\n]", " ", found[0]), text)
     return [(each.start(), len(each[1]), anchor_of(each[2])) for each in HEADING.finditer(blank)]
 
 
 def part_of(name: str) -> Part:
-    """Returns the section that `DOCUMENT#anchor` names; for `DOCUMENT`, the text above all
-    sections.
+    """Returns the section that `DOCUMENT#anchor` names or, for `DOCUMENT`, the text before the
+    first section.
     """
     document, _, anchor = name.partition("#")
     text = (TOP / document).read_text()
@@ -84,8 +84,8 @@ def said(words: list[str], program: str) -> str:
 
 
 def help_parts(text: str) -> dict[str, str]:
-    """Returns the parts of a help text by their headings; the part before the first one has
-    none.
+    """Returns the parts of a help text by their headings. The part before the first heading has the
+    key "".
     """
     pieces = re.split(r"^(\w+):(?: |\n|$)", text, flags=re.M)
     return {"": pieces[0].strip(), **dict(zip(pieces[1::2], pieces[2::2]))}
@@ -100,6 +100,6 @@ def usage_of(text: str) -> list[str]:
 
 
 def declarations_of(header: str) -> list[str]:
-    """Returns the lines of the functions that a header declares."""
+    """Returns the lines of a header that declare functions."""
     text = COMMENT.sub("", (TOP / header).read_text())
     return "\n".join(DECLARATION.findall(text)).split("\n")

@@ -1,15 +1,15 @@
 #!/bin/sh
-# Tests the files for ARM64 in qemu more than the gate does. It plays each script of tests/ with the program
-# and with both files of the library, whose calls may use no more stack than tpmsim.h says. It plays tests of
-# hosts/ whose callers are compiled for that machine, among them 300 kills of processes that hold a device. It
-# takes some ten minutes. Needs Debian's qemu-user and gcc-aarch64-linux-gnu, and what tools/lib/arm64.sh
-# needs.
+# Tests the files for ARM64 in qemu more thoroughly than the gate. It plays each script of tests/ with the
+# program and with both files of the library, whose calls may use no more stack than tpmsim.h says. It runs
+# tests of hosts/ whose test programs are compiled for ARM64. One of them kills 300 processes that hold a
+# device. It takes some ten minutes. Needs Debian's qemu-user and gcc-aarch64-linux-gnu, and what
+# tools/lib/arm64.sh needs.
 #
-# The other tests of hosts/ need what qemu 7.2 does not have: sanitizers, orphans that get a chosen parent,
-# and memory that is empty in a forked child, by which the module detects a fork.
+# The other tests of hosts/ need features that qemu 7.2 lacks: sanitizers, adopting orphaned processes, and
+# memory that is wiped in a forked child, with which the module detects a fork.
 #
-#   tools/soak/aarch64.sh           all of these
-#   tools/soak/aarch64.sh NAME..    these: scripts, library, and the tests of hosts/ by their names
+#   tools/soak/aarch64.sh           all tests
+#   tools/soak/aarch64.sh NAME..    only these: scripts, library, or tests of hosts/ by name
 set -u
 top=$(CDPATH='' cd "$(dirname "$0")/../.." && pwd -P) || exit 1
 cd "$top" || exit 1
@@ -30,8 +30,8 @@ for tool in nm ar strip objdump; do
 done
 ln -s "$(command -v aarch64-linux-gnu-gcc)" "$work/tools/cc"
 
-# compare NAME TEST COMMAND..: checks whether a test prints the expected output, which is in the file next to
-# it.
+# compare NAME TEST COMMAND..: checks whether a command prints the expected output, which is in the file next
+# to the test.
 compare() {
     name=$1
     test=$2
@@ -47,7 +47,7 @@ compare() {
     failed=$((failed + 1))
 }
 
-# Tests the library without sanitizers; the output lacks their lines.
+# Tests the library without sanitizers. Their lines are missing in the output.
 cat >"$work/library.sh" <<END
 tests=$top/tests
 . "\$tests/common/cases.sh"

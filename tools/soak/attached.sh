@@ -1,8 +1,8 @@
 #!/bin/sh
-# Attacks the kept device of hosts/kept. Its processes are killed before a system call, or a call fails, or
-# they fork. In between the host crashes: the disk then contains the synced data, and a random part of the
-# rest. With force=always no answered command may be lost; with force=power no power cycle. It is not part of
-# the gate; tests/attached/attached_crashes.sh is. Needs cc and python3.
+# Attacks the kept device of hosts/kept. Its processes are killed before a system call, system calls fail, and
+# processes fork. Now and then the host crashes: the disk then contains the synced data, and a random part of
+# the other data. With force=always no answered command may be lost. With force=power no power cycle may be
+# lost. It is not part of the gate; tests/attached/attached_crashes.sh is. Needs cc and python3.
 #
 #   tools/soak/attached.sh             ten minutes, with seed 1
 #   tools/soak/attached.sh 60 7        one minute, with seed 7
@@ -25,7 +25,7 @@ trap 'rm -rf "$room" ${in_memory:+"$in_memory"}' EXIT
 . "$tests/common/attached.sh"
 needs cc python3
 
-# shellcheck disable=SC2086 # they are words
+# shellcheck disable=SC2086 # word splitting is intended
 attach crashes crashes $wrapped_calls
 extended 4000 >"$room/values"
 "$room/crashes" "$room/values" "$seconds" "$seed" 2>&1

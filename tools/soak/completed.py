@@ -1,5 +1,5 @@
 """Explains journals of random commands with the completing layer, as
-python/tests/test_completion.py does in the gate. It compares the library's responses with those of
+python/tests/test_completion.py does in the gate, and compares the library's responses with those of
 the layer in Python.
 
     tools/python.sh tools/soak/completed.py SECONDS [SEED]

@@ -1,5 +1,6 @@
-"""Explains the journals and logs in a folder, and compares the explanations with the digests of the
-responses in them. Then compares each script of tests/ and examples/ with a program's output:
+"""Explains the journals and logs in a folder, and compares the explanations with the response
+digests that they contain. Then explains each script of tests/ and examples/, and compares the
+explanation with a program's output:
 
     explained.py FOLDER PROGRAM
 """
@@ -15,19 +16,19 @@ OTHERWISE = "the response is another one than was recorded, by its sum"
 
 
 def faults_of(play, events):
-    """Returns the faults of the log itself, which a test has damaged."""
+    """Returns the faults of a log that a test has damaged."""
     words = [it.words for event in events for it in event.differences if it.words != OTHERWISE]
     return [*([play.fault] if play.fault else []), *play.damages, *words]
 
 
 def others_of(events):
-    """Returns the events whose explained response differs from the recorded one."""
+    """Returns the events whose explanation differs from the recorded response."""
     return [it for it in events if it.differences or (it.reason is None) == bool(it.refused)]
 
 
 def logs(folder):
-    """Returns the events of each complete log, and the number of logs with an incomplete end;
-    prints damaged ones.
+    """Returns the events of each undamaged log, and the number of logs with an incomplete end.
+    Prints the damaged logs.
     """
     found, cuts = dict[pathlib.Path, list](), 0
     for path in sorted(pathlib.Path(folder).iterdir()):
@@ -50,7 +51,7 @@ def scripts(program):
 
 
 def report(found, words):
-    """Prints the number of events of each kind; returns those whose explanation differs."""
+    """Prints the number of events, and returns those whose explanation differs."""
     for path, events in found.items():
         other = others_of(events)
         if other:

@@ -1,13 +1,13 @@
 #!/bin/sh
-# Plays the shell tests, and explains each journal and log that they leave. A command must be explained as
-# accepted or refused, as the digest of its response in the log shows. Journals that a test has damaged
-# are listed with their damage. Then it explains all scripts of tests/ and examples/ in the same way, with
-# the responses of dist/tpmsim. Needs python3.
+# Plays the shell tests, and explains each journal and log that they leave. The explanation must agree with
+# the digest of each response in the log. Journals that a test has damaged are listed with their damage. Then
+# it explains all scripts of tests/ and examples/ in the same way, with the responses of dist/tpmsim. Needs
+# python3.
 #
-#   tools/soak/explained.sh            all
+#   tools/soak/explained.sh            all tests
 #   tools/soak/explained.sh attached_cut 'swtpm/*'
 #
-# The status is 1 if the explanation of a whole log differs from its responses.
+# The status is 1 if the explanation of an undamaged log differs from its responses.
 set -u
 
 top=$(CDPATH='' cd "$(dirname "$0")/../.." && pwd -P) || exit 1

@@ -1,18 +1,18 @@
 #!/bin/sh
-# Plays tools/scripts.sh of the last commit in empty Debian systems: with git and python3; with a C compiler
-# too; with python3-minimal; with everything that packaging/debian_packages names; and without git and
-# python3. No test may fail there. Then it installs the packages that the last line but one names, and plays
-# again: now that line must name none. It takes half an hour or more, and is not part of the gate.
+# Runs tools/scripts.sh of the last commit in new Debian systems: with git and python3; with a C compiler too;
+# with python3-minimal; with all packages that packaging/debian_packages lists; and without git and python3.
+# No test may fail there. Then it installs the packages that the line before the last one names, and runs the
+# tests again: now that line must be missing. It takes half an hour or more, and is not part of the gate.
 #   tools/soak/fresh_machines.sh           each machine of the list below
-#   tools/soak/fresh_machines.sh NAME..    these
+#   tools/soak/fresh_machines.sh NAME..    only these machines
 #
 # Needs root, Debian's debootstrap and util-linux, some 5 GB in TMPDIR, and a mirror: MIRROR, or else
-# deb.debian.org. It mounts in its own namespace, which ends with it, and removes the folder that it made.
+# deb.debian.org. It mounts only in its own namespace, which ends with the script, and removes its folder.
 set -u
 top=$(CDPATH='' cd "$(dirname "$0")/../.." && pwd -P) || exit 1
 mirror=${MIRROR:-http://deb.debian.org/debian}
 
-# A machine: its name, /dev/shm (the size of a folder in memory, or none), the user who plays, and its
+# One machine on each line: its name, the size of /dev/shm (or none), the user who runs the tests, and its
 # packages.
 machines="
 python    4g   root  git python3
@@ -32,15 +32,15 @@ fail() {
 
 . "$top/tools/lib/machines.sh"
 
-# play SHM USER: runs the tests in the machine, and saves their output in the file `said`.
+# play SHM USER: runs the tests in the machine, and stores their output in the file `said`.
 play() {
     as=
     [ "$2" = root ] || as='setpriv --reuid 1000 --regid 1000 --clear-groups env HOME=/home/user'
-    # shellcheck disable=SC2086 # they are words
+    # shellcheck disable=SC2086 # word splitting is intended
     in_machine "$1" $as timeout 1800 sh -c 'cd /home/user/tpmsim && tools/scripts.sh' >"$work/said" 2>&1
 }
 
-# judge NAME STATUS: prints the result of a machine, and counts it if a test failed there.
+# judge NAME STATUS: prints the result of a machine, and counts the machine if a test failed.
 judge() {
     echo "$1: $(tail -n 1 "$work/said")"
     [ "$2" -eq 0 ] && tail -n 1 "$work/said" | grep -q '^[0-9]* passed, 0 failed' && return
@@ -48,7 +48,7 @@ judge() {
     grep -v -e '^ok: ' -e '^skipped: ' "$work/said" | sed 's/^/    /'
 }
 
-# named: prints the packages that the tests name, with which more tests would run.
+# named: prints the packages that the tests report, with which more tests could run.
 named() {
     sed -n 's/^More is played after: apt-get install //p' "$work/said"
 }
@@ -68,7 +68,7 @@ play_machine() {
     judge "$name" "$status"
     packages=$(named)
     if [ -n "$packages" ]; then
-        # shellcheck disable=SC2086 # they are words
+        # shellcheck disable=SC2086 # word splitting is intended
         apt install $packages
         status=0
         play "$shm" "$user" || status=$?
@@ -86,11 +86,11 @@ trap 'exit 130' INT TERM
 failed=0
 make_base
 machine=$work/machine
-# shellcheck disable=SC2046 # they are words
+# shellcheck disable=SC2046 # word splitting is intended
 [ "$#" -gt 0 ] || set -- $(echo "$machines" | awk 'NF { print $1 }')
 for wanted do
     echo "$machines" | grep -q "^$wanted " || fail "$wanted is no machine"
-    # shellcheck disable=SC2046 # they are words
+    # shellcheck disable=SC2046 # word splitting is intended
     play_machine $(echo "$machines" | grep "^$wanted ")
 done
 echo "$failed failed"

@@ -1,5 +1,5 @@
-"""Finds the functions in a crate's files, with their lines and paths, and the prover's messages
-about them.
+"""Finds the functions in the files of a crate, with their lines and paths, and the prover's
+messages about each of them.
 """
 
 from __future__ import annotations
@@ -15,7 +15,7 @@ HEAD = re.compile(
     rf"{BLOCK.pattern} (?:(?:\w+::)*(?P<trait>\w+)(?:<(?P<arguments>\w+(?:, \w+)*)>)? for )?"
     r"(?:\w+::)*(?P<type>\w+)\b(?!.* for )"
 )
-# a line of a message that names a position in a file
+# a line of a message that begins with a position in a file
 PLACE = re.compile(r"(?:note: )?(?:\./)?(\S+?\.(?:rt|antt)):(\d+):\d+: (.*)")
 
 
@@ -27,7 +27,7 @@ class Function:
     first: int
     end: int
     name: str
-    # whether the name is unique in the file
+    # whether no other function of the file has this name
     is_alone: bool
     # the type or the trait of its block, as the prover writes it; empty outside of a block, and
     # None if it cannot be determined
@@ -53,27 +53,28 @@ class Function:
         return "\n".join(lines[self.first : self.end])
 
     def module(self) -> str:
-        """Returns the path of its file's module within the crate; empty for the root."""
+        """Returns the path of the file's module within the crate, or an empty string for the root.
+        """
         return re.sub(r"src/(lib$|main$)?", "", self.file[: -len(".rt")]).replace("/", "::")
 
     def path(self) -> str:
-        """Returns the function's path within the crate, or the last segments of the path if the
-        rest is not clear; otherwise the module of its file.
+        """Returns the end of the function's path within the crate: its owner or module, and its
+        name. If the owner is unknown, returns the module.
         """
         if self.owner is None:
             return self.module()
         return "::".join(filter(None, [self.owner or self.module(), self.name]))
 
     def told_in(self, said: list[str]) -> dict[str, str]:
-        """Returns the messages about it, by its path within the crate. If its owner is not clear,
-        includes those about every function of this name in this file.
+        """Returns the messages about this function, by its path. If its owner is unknown, includes
+        those about every function of this name in the file.
         """
         paths = rf"{self.module()}\S*\b{self.name}" if self.owner is None else self.path()
         told = re.compile(rf"fn \w+::({'(?:[^ ]+::)?' if self.owner else ''}{paths}): (.*)")
         return {match[1]: match[2] for line in said if (match := told.match(line))}
 
     def is_proved_in(self, said: list[str]) -> bool:
-        """Whether all messages about it say that it is proved."""
+        """Whether there are messages about this function, and all say that it is proved."""
         words = self.told_in(said).values()
         return bool(words) and all(it == "proved" for it in words)
 
@@ -85,7 +86,7 @@ def is_fault(line: str) -> bool:
 
 
 def functions_of(file: str, text: str) -> list[Function]:
-    """Returns the functions of a file, each with the comments and attributes above it."""
+    """Returns the functions of a file. Comments and attributes above a function belong to it."""
     lines = text.split("\n")
     found = [(at, match[5]) for at, line in enumerate(lines) if (match := FUNCTION.match(line))]
     names = collections.Counter(name for _, name in found)
@@ -113,7 +114,7 @@ def owner_of(lines: list[str], at: int) -> str | None:
 
 
 def without_parameters(head: str) -> str:
-    """Returns the head of a block without the parameters after its first word."""
+    """Returns the head of a block without the generic parameters after its first word."""
     word, opened, rest = head.partition("<")
     if not opened or not BLOCK.fullmatch(word):
         return head
@@ -125,7 +126,7 @@ def without_parameters(head: str) -> str:
 
 
 def head_of(lines: list[str], at: int) -> int:
-    """Returns the first line of the comments and attributes above a line."""
+    """Returns the number of the first line of the comments and attributes above a line."""
     while at > 0 and lines[at - 1].lstrip().startswith(("///", "#[")):
         at -= 1
     return at

@@ -5,7 +5,7 @@
 #   tools/soak/histories.sh 100000     100,000 events, from seed 1 on: half a minute
 #   tools/soak/histories.sh 5000 7     5,000 events, from seed 7 on
 #
-# The last line counts them; the status is 1 if anything differs.
+# The last line counts the events. The status is 1 if anything differs.
 set -u
 
 is_number() {

@@ -7,11 +7,11 @@
 # some minutes.
 #
 #   tools/soak/images.sh             ten thousand altered bodies, with seed 1
-#   tools/soak/images.sh 7           ten thousand, with seed 7
-#   tools/soak/images.sh 7 100       a hundred, with seed 7
+#   tools/soak/images.sh 7           ten thousand altered bodies, with seed 7
+#   tools/soak/images.sh 7 100       a hundred altered bodies, with seed 7
 #
-# If the responses differ, it says so, keeps the first differing outputs, and prints their path. Its
-# last line is `N agree, M differ`.
+# If responses differ, it reports that, keeps the first outputs that differ, and prints their path. Its last
+# line is `N agree, M differ`.
 set -u
 
 top=$(CDPATH='' cd "$(dirname "$0")/../.." && pwd -P) || exit 1

@@ -1,5 +1,5 @@
 #!/bin/sh
-# Installs each package in an empty Debian of its own, and uses it there as its documents say:
+# Installs each package in a new Debian system, and uses it there as its documents say:
 #
 #   deb      apt-get installs it: the loader and man find it, and README's commands, the examples in words, C and
 #            Python, tpm2-tools and a program in C run. apt-get removes everything again.
@@ -7,12 +7,12 @@
 #   crate    Debian's cargo tests the unpacked crate, and README's example in Rust runs.
 #   module   Debian's go tests the folder go/ of a clone, and README's example in Go runs.
 #
-#   tools/soak/installed_machines.sh           each of these
-#   tools/soak/installed_machines.sh NAME..    these
+#   tools/soak/installed_machines.sh           all four packages
+#   tools/soak/installed_machines.sh NAME..    only these
 #
-# Each check is a line, and a failed one has its output. The status is 1 if one fails. Needs root, what tools/deb.sh and
-# tools/crate.sh need, Debian's debootstrap and util-linux, 3 GB in TMPDIR, and a mirror: MIRROR, or else
-# deb.debian.org. It is not part of the gate.
+# It prints a line for each check, with the output if the check fails. The status is 1 if a check fails. Needs
+# root, what tools/deb.sh and tools/crate.sh need, Debian's debootstrap and util-linux, 3 GB in TMPDIR, and a
+# mirror: MIRROR, or else deb.debian.org. It is not part of the gate.
 set -u
 top=$(CDPATH='' cd "$(dirname "$0")/../.." && pwd -P) || exit 1
 mirror=${MIRROR:-http://deb.debian.org/debian}
@@ -30,7 +30,7 @@ block() {
     awk -v fence="\`\`\`$1" '/^```/ { shown = $0 == fence && !blocks++; next } shown' "$2"
 }
 
-# check WHAT WORDS..: checks that a command succeeds in the machine; prints its output if not.
+# check WHAT WORDS..: checks that a command succeeds in the machine. If not, prints its output.
 check() {
     what=$1
     shift
@@ -43,7 +43,7 @@ check() {
     fi
 }
 
-# Puts a script into the machine, from standard input.
+# Copies a script from standard input into the machine.
 script() {
     cat >"$machine/root/$1"
 }

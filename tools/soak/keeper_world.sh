@@ -1,12 +1,12 @@
 #!/bin/sh
-# Drives the compiled keeper by the folder and crashes that the kept device's theorem defines, as
-# tests/library/library_keeper_world.sh does for fewer events. It is not part of the gate. Needs cc.
+# Drives the compiled keeper with the folder and the crashes that the theorem on kept devices defines, like
+# tests/library/library_keeper_world.sh, but for more events. It is not part of the gate. Needs cc.
 #
-#   tools/soak/keeper_world.sh               a million events, of seed 1
-#   tools/soak/keeper_world.sh 5000000 7     five million, of seed 7
+#   tools/soak/keeper_world.sh               a million events, with seed 1
+#   tools/soak/keeper_world.sh 5000000 7     five million events, with seed 7
 #
-# It prints that each response and each journal agreed with the history, or which did not, and how much
-# was tried.
+# It prints that each response and each journal agreed with the history, or which of them did not, and the
+# numbers of events of each kind.
 set -u
 
 tests=$(CDPATH='' cd "$(dirname "$0")/../../tests" && pwd -P) || exit 1

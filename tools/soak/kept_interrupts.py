@@ -1,14 +1,14 @@
-"""Interrupts the calls of devices that Python keeps in a folder, and checks that none is lost:
+"""Interrupts the calls of devices that Python keeps in a folder, and checks that no device is lost:
 
     tools/python.sh tools/soak/kept_interrupts.py 200      200 folders, of seed 1: about two minutes
     tools/python.sh tools/soak/kept_interrupts.py 200 7    of seed 7
 
 In each folder three processes hold one device for half a second. They increment an NV index,
-power-cycle the device, and open it again. Meanwhile KeyboardInterrupt is raised in them: by a timer
-in every second folder, up to three times a call; by a tracer at a random line in the other folders.
-Then the folder is opened. A device is lost if opening fails, if the index has fewer increments than
-were answered or more than were requested, or if a process reports damage or waits forever. The last
-line gives the totals; the status is 1 if a device is lost.
+power-cycle the device, and open it again. Meanwhile KeyboardInterrupt is raised in them: in every
+second folder by a timer, up to three times during a call; in the other folders by a tracer, at a
+random line. Then the folder is opened. A device is lost if opening fails, if the index has fewer
+increments than were answered or more than were requested, or if a process reports damage or waits
+forever. The last line contains the totals. The status is 1 if a device is lost.
 """
 
 import json
@@ -35,7 +35,8 @@ SUCCESS, INITIALIZE = number(0, 4), number(0x100, 4)
 
 @dataclass
 class Counts:
-    """The events of one process, or of all. `unknown` counts the interrupted increments."""
+    """The events of one process, or of all processes. `unknown` counts the interrupted increments.
+    """
 
     answered: int = 0
     unknown: int = 0
@@ -50,8 +51,9 @@ class Counts:
 
 
 class Interrupts:
-    """Raises KeyboardInterrupt, `left` times at most, during a call. Nothing is called between the
-    last line of a call and the line that ends this, so no handler runs there.
+    """Raises KeyboardInterrupt during a call, at most `left` times. Between the last line of the
+    call and the line that disables the interrupts no function is called, so that no signal handler
+    runs there.
     """
 
     def __init__(self, choices, counts, is_traced):
@@ -85,7 +87,7 @@ class Interrupts:
             self.left = self.choices.randrange(MOST_INTERRUPTS + 1)
 
     def during(self, act):
-        """Returns the result of an action; None if it is interrupted."""
+        """Returns the result of an action, or None if it is interrupted."""
         self.counts.calls += 1
         try:
             try:
@@ -138,7 +140,7 @@ class Player:
 
 
 def forked(folder, increment, seed, is_traced):
-    """Starts a process that plays; returns it, and the pipe for its counts."""
+    """Starts a process that uses the device. Returns the process, and the pipe for its counts."""
     reads, writes = os.pipe()
     child = os.fork()
     if not child:
@@ -151,7 +153,7 @@ def forked(folder, increment, seed, is_traced):
 
 
 def ended(child, reads, until):
-    """Returns the counts of a process; a process that does not end counts as waiting forever."""
+    """Returns the counts of a process. A process that does not end counts as waiting forever."""
     while time.monotonic() < until and not os.waitid(
         os.P_PID, child, os.WEXITED | os.WNOHANG | os.WNOWAIT
     ):
@@ -164,7 +166,7 @@ def ended(child, reads, until):
 
 
 def compared(folder, caller, index, before, counts):
-    """Returns the faults of a folder, given these counts; empty if there are none."""
+    """Compares a folder's device with these counts. Returns the fault, or an empty text."""
     try:
         with KeptDevice(folder) as caller.device:
             caller.device.power_cycle()

@@ -1,15 +1,15 @@
 #!/bin/sh
-# Kills a served device at random moments while clients connect one after another, and checks the image
-# after each kill, as tests/serving/killed.sh does a few times. Then it serves a device with --save-each
-# as often, and kills it immediately after a response, as tests/serving/save_each.sh does. It is not
+# Kills a served device at random moments while clients connect one after another, and checks the image after
+# each kill, as tests/serving/killed.sh does a few times. Then it serves a device with --save-each the same
+# number of times, and kills it immediately after a response, as tests/serving/save_each.sh does. It is not
 # part of the gate. Needs python3.
 #
-#   tools/soak/kills.sh               1,000 kills, of seed 1
-#   tools/soak/kills.sh 5000 7        5,000 kills, of seed 7
+#   tools/soak/kills.sh               1,000 kills, with seed 1
+#   tools/soak/kills.sh 5000 7        5,000 kills, with seed 7
 #
-# Its first line says that all was right, or what was wrong; then it keeps the last image, and prints its
-# path. The second line says when the kills happened, which differs from run to run. The other lines are
-# about --save-each.
+# Its first line says that everything was right, or what was wrong. In the latter case it keeps the last
+# image, and prints its path. The second line says when the kills happened, which differs from run to run. The
+# other lines are about --save-each.
 set -u
 
 top=$(CDPATH='' cd "$(dirname "$0")/../.." && pwd -P) || exit 1

@@ -3,9 +3,9 @@
 # tests/serving/serve_clients.sh does with five million bytes. It is not part of the gate. Needs python3.
 #
 #   tools/soak/long_stream.sh          100 million bytes of commands
-#   tools/soak/long_stream.sh 500      500 million
+#   tools/soak/long_stream.sh 500      500 million bytes
 #
-# Each command must get a response, and it must be SUCCESS. The last line says how the program ended.
+# Each command must be answered with SUCCESS. The last line says how the program ended.
 set -u
 
 top=$(CDPATH='' cd "$(dirname "$0")/../.." && pwd -P) || exit 1

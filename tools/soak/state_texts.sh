@@ -1,12 +1,13 @@
 #!/bin/sh
 # Plays random events on devices of the library and on the Python device. After some of the events both
-# continue from the same state text. It compares answers and state texts, byte for byte, with a device
-# that is never restored. Needs python3, and the library in dist/, or the one that TPMSIM_LIBRARY names.
+# continue from the same state text. It compares their responses and state texts, byte for byte, with those of
+# a device that is never restored. Needs python3, and the library in dist/, or the one that TPMSIM_LIBRARY
+# names.
 #
 #   tools/soak/state_texts.sh 100000   100,000 events, from seed 1 on: a minute or two
 #   tools/soak/state_texts.sh 5000 7   5,000 events, from seed 7 on
 #
-# The last line counts them; the status is 1 if anything differs.
+# The last line counts the events. The status is 1 if anything differs.
 set -u
 
 is_number() {

@@ -1,10 +1,10 @@
 #!/bin/sh
-# Makes each call of swtpm on the files of its states fail in turn, with libtpms.so.0 of this repository, in
-# some 1,000 runs. tests/keeping/library_swtpm_files.sh makes one in ten of them. Needs cc, python3, swtpm,
-# libtpms-dev and libtss2-dev. Not part of the gate.
+# Makes each call of swtpm on its state files fail in turn, with this repository's libtpms.so.0, in some 1,000
+# runs. tests/keeping/library_swtpm_files.sh makes one in ten of them. Needs cc, python3, swtpm, libtpms-dev
+# and libtss2-dev. Not part of the gate.
 #
 #   tools/soak/swtpm_states.sh       all calls
-#   tools/soak/swtpm_states.sh 10    one call in ten
+#   tools/soak/swtpm_states.sh 10    every tenth call
 #
 # At the end it prints the number of runs. If something was wrong, it prints that, and the status is 1.
 set -u

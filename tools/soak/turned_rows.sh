@@ -1,20 +1,20 @@
 #!/bin/sh
-# Tries the patches under wrong/turned. Each changes the code of a command together with the definition of
-# its row, and with the proofs that repeat the row. So the device behaves wrongly, and yet all crates below
-# tpm_step are proved. But its history determines another behaviour, so a law of tpm_step, or of another
-# crate of laws, must fail. All patches are tried before a piece of work is declared done. Patches that
-# name different laws of one crate are tried in one copy of that crate and of those below it. `rt ci`
-# proves the copy, from nothing if the kit has stored no proofs. Needs rt, and git.
+# Tries the patches under wrong/turned. Each changes the code of a command together with the definition of its
+# row, and with the proofs that repeat the row. The device then behaves wrongly, and yet all crates below
+# tpm_step are proved. But the history determines a different behaviour. Therefore a law of tpm_step, or of
+# another crate of laws, must fail. All patches are tried before a piece of work is declared done. Patches
+# that name different laws of one crate are tried in one copy of that crate and of the crates below it. `rt
+# ci` proves the copy, from scratch if the kit has stored no proofs. Needs rt, and git.
 #
-#   tools/soak/turned_rows.sh                    all of them
-#   tools/soak/turned_rows.sh pcr_16_restored    one of them, or several
+#   tools/soak/turned_rows.sh                    all patches
+#   tools/soak/turned_rows.sh pcr_16_restored    one patch, or several
 #
 # A patch begins with a description of the wrong behaviour, and with one or two lines:
 #
 #   law: FILE NAME       the law that must be refused, in crates/tpm_step/proofs/FILE.antt
 #   crate: CRATE         if the law is in crates/CRATE/proofs/FILE.antt instead
 #
-# The last line is `N of M turned rows refused`; the status is 0 if all are.
+# The last line is `N of M turned rows refused`. The status is 0 if all are refused.
 set -eu
 
 cd "$(dirname "$0")/../.."
@@ -30,12 +30,12 @@ fi
 room=$(mktemp -d)
 trap 'rm -rf "$room"' EXIT
 
-# said NAME PATCH: prints the content of the line with this name in the head of a patch.
+# said NAME PATCH: prints the value of the line NAME at the head of a patch.
 said() {
     sed -n "/^diff /q; s/^$1: //p" "$2"
 }
 
-# patch_of NAME: prints the file of a patch.
+# patch_of NAME: prints the path of a patch.
 patch_of() {
     echo "wrong/turned/$1.patch"
 }
@@ -46,8 +46,8 @@ crate_of() {
     echo "${crate:-tpm_step}"
 }
 
-# turn NAME..: makes a copy of the crate of their laws and of those below it, without wrong bodies, and
-# applies these patches to it.
+# turn NAME..: copies the crate whose laws these patches name, and the crates below it, without wrong bodies.
+# Applies the patches to the copy.
 turn() {
     rm -rf "$room/copy"
     crates="$(crates_below "$(crate_of "$1")") $(crate_of "$1")"
@@ -69,7 +69,7 @@ refused_crates() {
     sed -n 's/^rt: \([a-z0-9_]*\).* NOT PROVED.*/\1/p' "$room/log" | sort -u
 }
 
-# law_at CRATE FILE LINE: prints the law that a line of a proof belongs to.
+# law_at CRATE FILE LINE: prints the law to which a line of a proof file belongs.
 law_at() {
     awk -v at="$3" '
         NR > at { exit }
@@ -89,7 +89,7 @@ refused_laws() {
         done | sort -u
 }
 
-# fail_at_laws NAME..: whether each law that these patches name is among the refused ones.
+# fail_at_laws NAME..: reports for each of these patches whether the law that it names was refused.
 fail_at_laws() {
     refused_laws "$(crate_of "$1")" >"$room/laws"
     for name do
@@ -103,8 +103,9 @@ fail_at_laws() {
     done
 }
 
-# try_together NAME..: applies these patches to a copy. Everything below the crate of laws must be proved,
-# and so must its laws over rows, if it has any. The crate must be refused at the law of each patch.
+# try_together NAME..: applies these patches to a copy, and proves it. All crates below the crate of laws must
+# be proved, and so must that crate's laws about rows, if it has any. The crate must be refused at the law
+# that each patch names.
 try_together() {
     turn "$@" || return 0
     if prove; then
@@ -121,8 +122,8 @@ try_together() {
     fi
 }
 
-# is_apart NAME OTHER..: whether the law of a patch is in the same crate as the laws of the others, and
-# differs from all of them.
+# is_apart NAME OTHER..: succeeds if the law of a patch is in the same crate as the laws of the other patches,
+# and differs from all of them.
 is_apart() {
     law=$(said law "$(patch_of "$1")")
     crate=$(crate_of "$1")
@@ -157,7 +158,7 @@ group() {
 : >"$room/refused"
 group "$@"
 while read -r together; do
-    # shellcheck disable=SC2086 # as above
+    # shellcheck disable=SC2086 # names have no spaces
     try_together $together </dev/null
 done <"$room/groups"
 refused=$(wc -l <"$room/refused")

@@ -1,8 +1,7 @@
 #!/usr/bin/env python3
 """Tries the wrong bodies (mutants) under wrong/: each changes the meaning of one function or
-definition, and the prover must refuse it. They are like those in the crates' must-fail/, which every
-run of the gate tries. All of these are tried before a piece of work is declared done (docs/gate.json
-names its commit).
+definition, and the prover must refuse it. The gate tries only those in the crates' must-fail/. All
+others are tried before a piece of work is declared done (docs/gate.json names its commit).
 
     tools/soak/wrong_bodies.py                       all of them
     tools/soak/wrong_bodies.py tpm_pcr               those of one crate, or of several
@@ -12,17 +11,17 @@ The crates need the libraries that `rt ci` built here. If a source is newer, `rt
 in a copy without wrong bodies. Then the wrong bodies of each crate are tried, for as many crates at a
 time as there are processors, or as JOBS says.
 
-The prover checks each function against the contracts of its callees, and reports which functions have
-failing goals of their own. So wrong bodies of different functions share one check, over only these
-functions: a body is refused if a function that it changes has such a goal. A wrong body is tried by
-itself if that does not decide it, or if it changes a constant or a definition. It is then tried over
-the functions that name the constant and, if these are proved nevertheless, over the whole crate. Each
-check continues from an earlier one of its crate, and the first from what is stored in the crate's
-out/.
+The prover checks each function against the contracts of its callees, and reports which functions
+have failing goals of their own. Therefore wrong bodies of different functions share one check of
+only these functions: a body is refused if a function that it changes has a failing goal. A wrong
+body is tried by itself if the shared check does not decide it, or if it changes a constant or a
+definition. Then the functions that name the constant are checked and, if these are proved
+nevertheless, the whole crate. Each check continues from an earlier one, and the first from the
+results in the crate's out/.
 
 It prints a line for each body, and at the end `N of M wrong bodies refused`. The status is 0 if all
-are refused. It is 1 if one is not refused, or if one is bad: it cannot be applied, compiled or parsed,
-or it is refused only because a proof file names something that it removed. Such a refusal shows
+are refused. It is 1 if a body is not refused, or is bad: it cannot be applied, compiled or parsed,
+or is refused only because a proof file names something that it removed. Such a refusal shows
 nothing about a contract. It needs rt.
 """
 
@@ -56,11 +55,11 @@ ITEM = re.compile(
 UNREAD = re.compile(
     r"is not in scope|has no field|is no name|operand is missing|expected the end|cannot continue"
 )
-# The borrow checker does not cover some functions. Such a function is not proved, whatever its body
-# does.
+# The borrow checker does not cover some functions. These functions are not proved, whatever their
+# bodies do.
 COMPILER_ERROR = re.compile(r"\berror\[[\w-]+\]|the borrow checker does not cover this function")
-# If a proof file names what an edit removed, or cites such a proof, the refusal shows nothing about
-# a contract.
+# If a proof file names something that an edit removed, or cites such a proof, the refusal shows
+# nothing about a contract.
 GONE = re.compile(
     r"(?:note: )?(?:\./)?proofs/.*(?:has no field|is not in scope|has no `|was not admitted|was rejected)"
 )
@@ -88,7 +87,7 @@ def kit() -> pathlib.Path:
 
 
 class BadEdit(Exception):
-    """A wrong body that shows nothing about a contract; the message says why."""
+    """A wrong body that cannot be tried, or whose refusal shows nothing about a contract."""
 
 
 @dataclasses.dataclass(frozen=True)
@@ -102,13 +101,13 @@ class Turn:
 
 @dataclasses.dataclass(frozen=True)
 class Edit:
-    """A wrong body as written, under a heading that says what it makes wrong."""
+    """A wrong body as it is written in the file, under a heading that says what is wrong."""
 
     name: str
     text: str
 
     def turns(self) -> tuple[Turn, ...]:
-        """The edits: lines `file: `, followed by pairs of lines `old: ` and `new: `."""
+        """Returns the edits: lines `file: `, followed by pairs of lines `old: ` and `new: `."""
         turns, file, old = [], "", ""
         for line in self.text.split("\n"):
             word, _, rest = line.partition(":")
@@ -136,16 +135,17 @@ class WrongBody:
     turns: tuple[Turn, ...]
     # the functions that the edit changes; empty if it also changes something outside of functions
     functions: frozenset[Function]
-    # in that case the functions that name a changed constant or type
+    # if that set is empty, the functions that name a changed constant or type
     naming: frozenset[Function]
 
     def to_check(self) -> frozenset[Function]:
-        """The functions over which it is tried first; empty for the whole crate."""
+        """Returns the functions that are checked first for this body, or none for the whole crate.
+        """
         return self.functions or self.naming
 
 
 Group = list[WrongBody]
-# the number of refused wrong bodies, and the groups that are still to be tried
+# the number of refused wrong bodies, and the groups that have yet to be tried
 Tried = tuple[int, list[Group]]
 
 
@@ -163,7 +163,8 @@ class Crate:
         # continue, and the messages of the first check
         self.kept = self.place
         self.said: list[str] = []
-        # the folder with the results of a check of the unchanged crate, made when it was first needed
+        # the folder with the results of a check of the unchanged crate, which is made when it is
+        # first needed
         self.whole = self.room / "whole"
         self.is_keeping = threading.Lock()
         self.texts = self._texts_of_functions()
@@ -202,7 +203,7 @@ class Crate:
     def _checked_in(
         self, folder: pathlib.Path, kept: pathlib.Path, paths: Iterable[str]
     ) -> tuple[int, list[str]]:
-        """Checks the text of the crate in a folder, or only the parts that the paths name. Returns the
+        """Checks the crate's text in a folder, or only the parts that the paths name. Returns the
         exit status and the message lines.
         """
         only = [word for path in sorted(set(paths)) for word in ("--only", path)]
@@ -210,8 +211,8 @@ class Crate:
         return ran.returncode, ran.stdout.split("\n")
 
     def _paths(self, bodies: list[WrongBody]) -> list[str]:
-        """Returns the paths of the functions over which wrong bodies are tried, as reported by an
-        earlier check, if there was one. None stands for the whole crate.
+        """Returns the paths of the functions to check for these bodies, as reported by an earlier
+        check, if any. An empty list means the whole crate.
         """
         functions: set[Function] = set().union(*(body.to_check() for body in bodies))
         paths = [*itertools.chain(*([*it.told_in(self.said)] or [it.path()] for it in functions))]
@@ -235,8 +236,8 @@ class Crate:
         return WrongBody(edit.name, turns, frozenset(), frozenset(naming))
 
     def _naming(self, file: str, lines: list[str]) -> set[Function]:
-        """Returns the functions that name the item in which these first lines of a file end, or that
-        belong to it: an item of src/, or definitions of a file of specs/ that clauses use.
+        """Returns the functions that name an item or belong to it: the last item in these first
+        lines of a file in src/, or any definition of a file in specs/ that clauses use.
         """
         if file.startswith("src/"):
             names = [match[1] for line in lines if (match := ITEM.match(line))][-1:]
@@ -258,8 +259,8 @@ class Crate:
         }
 
     def begin(self, group: list[WrongBody], others: list[WrongBody]) -> tuple[int, list[str]]:
-        """Makes the first check, on a copy with the wrong bodies of a group, over their functions
-        and those of the others. Returns the exit status and the message lines.
+        """Makes the first check, on a copy with the wrong bodies of a group. Checks the functions
+        of all bodies. Returns the exit status and the message lines.
         """
         every = [*group, *others]
         with self._turned(group) as folder:
@@ -274,8 +275,8 @@ class Crate:
         return status, said
 
     def check(self, bodies: list[WrongBody], is_whole: bool) -> tuple[int, list[str]]:
-        """Checks a copy of the crate with these wrong bodies, over the whole crate or only over the
-        mutated functions. Returns the exit status and the message lines.
+        """Checks a copy with these wrong bodies, either the whole crate or only their functions.
+        Returns the exit status and the message lines.
         """
         start = self.keep() if is_whole else self.kept
         with self._turned(bodies) as folder:
@@ -288,7 +289,7 @@ class Crate:
             return status, said
 
     def keep(self) -> pathlib.Path:
-        """Checks the whole unchanged crate, once; returns the folder with the results."""
+        """Checks the whole unchanged crate, only once, and returns the folder with the results."""
         with self.is_keeping:
             if not self.whole.exists():
                 kept = self._copied(self.kept, self.room / "as-it-stands")
@@ -301,7 +302,9 @@ class Crate:
         return self.whole
 
     def leave(self) -> None:
-        """Leaves the results of the latest check to the toolchain's commands, and to the next run."""
+        """Stores the results of the latest check for the toolchain's commands, and for the next
+        run.
+        """
         if self.kept != self.place and self.kept.exists():
             self.place.parent.mkdir(exist_ok=True)
             made = self._copied(self.kept, self.place.with_name(f"{self.place.name}-{os.getpid()}"))
@@ -309,13 +312,13 @@ class Crate:
             made.rename(self.place)
 
     def _go_on_from(self, kept: pathlib.Path) -> None:
-        """Makes the next check start from the results of an earlier one, if there are any."""
+        """Makes the next check start from these results of an earlier check, if there are any."""
         if kept.exists():
             self.kept = kept.rename(self.room / f"kept-by-{kept.parent.name}")
 
     @staticmethod
     def _copied(start: pathlib.Path, kept: pathlib.Path) -> pathlib.Path:
-        """Returns a copy of a check's results, if there are any."""
+        """Copies the results of a check to a folder, if there are any, and returns the folder."""
         if start.exists():
             shutil.copytree(start, kept, copy_function=linked)
         return kept
@@ -349,7 +352,7 @@ def turned_texts(folder: pathlib.Path, turns: Iterable[Turn]) -> dict[str, str]:
 
 
 def copy_parts(start: pathlib.Path, folder: pathlib.Path) -> None:
-    """Copies the text of a crate, and the files that running its program needs."""
+    """Copies the text of a crate, and the files that are needed to run its program."""
     folder.mkdir(parents=True)
     for it in start.iterdir():
         if it.name in SOURCES:
@@ -359,7 +362,7 @@ def copy_parts(start: pathlib.Path, folder: pathlib.Path) -> None:
 
 
 def lent(one: str, other: str) -> None:
-    """Copies a file that nobody writes to, as a link if possible."""
+    """Links a file to which nobody writes, or copies it if a link is not possible."""
     try:
         os.link(one, other)
     except OSError:
@@ -367,8 +370,8 @@ def lent(one: str, other: str) -> None:
 
 
 def linked(one: str, other: str) -> None:
-    """Copies a file that a check stored. A proof's file is linked, because a check replaces such a
-    file instead of writing to it.
+    """Copies a file that a check stored. The file of a proof is linked, because a check replaces it
+    instead of writing to it.
     """
     if one.endswith(".oantt"):
         lent(one, other)
@@ -377,7 +380,7 @@ def linked(one: str, other: str) -> None:
 
 
 def unread_in(said: list[str]) -> str | None:
-    """Returns the message line about a text of the crate that cannot be compiled or parsed."""
+    """Returns the message line about a text that cannot be compiled or parsed, or None."""
     for line in said:
         place = PLACE.match(line)
         words = re.sub(r"`[^`]*`", "", place[3]) if place else ""
@@ -388,7 +391,7 @@ def unread_in(said: list[str]) -> str | None:
 
 
 def is_not_proved(status: int, said: list[str]) -> bool:
-    """Whether a check parsed all texts, and failed because something is not proved."""
+    """Whether a check parsed all texts, but failed because something is not proved."""
     is_told = any(it.startswith(("logic=not-proved", "only=")) for it in said)
     return status == 1 and is_told and not unread_in(said)
 
@@ -431,13 +434,12 @@ def refusal_alone(crate: Crate, body: WrongBody) -> str:
 
 
 def refusals_told(group: Group, status: int, said: list[str]) -> dict[WrongBody, str]:
-    """Returns the bodies of a group that a check of the whole group refuses, and how; none if that
+    """Returns the bodies that a check of the whole group refuses, with the messages; none if that
     is unclear.
     """
     if not is_not_proved(status, said):
         return {}
-    # A function that is proved although it was changed may have no contract. Then others may fail
-    # because of it.
+    # A changed function that is proved may have no contract. Then others may fail because of it.
     if any(it.is_proved_in(said) for body in group for it in body.functions):
         return {}
     counted = [line for line in said if not GONE.match(line)]
@@ -450,7 +452,9 @@ def tell(crate: Crate, body: WrongBody, line: str) -> None:
 
 
 def left_of(crate: Crate, group: Group, refused: dict[WrongBody, str]) -> Tried:
-    """Prints the bodies of a group that one check refused, and returns those that are left."""
+    """Prints the bodies of a group that one check refused. Returns their number, and the others in
+    groups.
+    """
     for body, line in refused.items():
         tell(crate, body, line)
     left = [body for body in group if body not in refused]
@@ -508,7 +512,7 @@ def with_below(names: list[str]) -> list[str]:
 
 
 def lay(room: pathlib.Path, names: list[str]) -> None:
-    """Makes a repository of these crates in a folder, without tests and wrong bodies."""
+    """Makes a repository with these crates in a folder, without tests and wrong bodies."""
     (room / "crates").mkdir(parents=True)
     shutil.copy(TOP / "HANDLES", room)
     mine = [line for line in rows() if name_in(line) in names]
@@ -542,8 +546,8 @@ def prove(room: pathlib.Path) -> None:
 
 @contextlib.contextmanager
 def files_in_memory(number: int) -> Iterator[None]:
-    """Lets this many checks at a time write their files to memory, if they fit; or to TMPDIR, if that
-    is set.
+    """Lets this number of simultaneous checks write their files to memory if they fit, or to TMPDIR
+    if that is set.
     """
     script = f". tools/lib/memory.sh && folder_for_proofs {number}"
     made = "" if os.environ.get("TMPDIR") else said_by(TOP, "sh", "-c", script).stdout.strip()
@@ -566,8 +570,8 @@ def parsed() -> argparse.Namespace:
 
 
 def begin(crate: Crate, groups: list[Group]) -> Tried:
-    """Makes the first check of a crate: of its first group, if that group changes functions and all
-    wrong bodies are tried over functions; otherwise of the unchanged crate.
+    """Makes the first check of a crate: of its first group, if that group changes functions and no
+    body needs a check of the whole crate, and otherwise of the unchanged crate.
     """
     first, *others = groups
     has_functions = all(body.to_check() for group in groups for body in group)
@@ -583,8 +587,8 @@ def begin(crate: Crate, groups: list[Group]) -> Tried:
 
 
 def try_crate(crate: Crate, groups: list[Group]) -> Tried:
-    """Tries the groups of a crate that change functions in sequence, because each check continues
-    from the previous one. Returns the groups that change constants and definitions.
+    """Tries those groups of a crate that change functions, in sequence, because each check
+    continues from the previous one. Returns the number of refused bodies, and the other groups.
     """
     refused, left = begin(crate, groups)
     others = [group for group in left if not group[0].functions]
