@@ -32,7 +32,7 @@ digits_are_good digits even all = rw ((decode_of-digits digits (omega (arith, ev
 
 pub ruleset hex_digits = (odd_is_bad, other_is_bad, digits_are_good)
 
--- An empty text of digits encodes no bytes.
+-- An empty string of hex digits decodes to no bytes.
 pub none_is_good : hex_in [] ≡ Ok []
 unfolding decode_pairs
 none_is_good = refl

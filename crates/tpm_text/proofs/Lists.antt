@@ -14,7 +14,7 @@ use Rattle.tpm_text.proofs.Growing.{grown-grown}
 
 -- ---- PCRs
 
--- the selection of the PCRs read so far and of those in the remaining pieces
+-- the PCRs selected so far, and in addition those that the remaining pieces name
 unfoldable pub pcrs_left : ℕ → List (List ℕ) → Result ℕ TokenFault
 pcrs_left select pieces = each_in (number_in 23) pieces >>= λ pcrs. Ok (fold with_pcr select pcrs)
 

@@ -64,7 +64,7 @@ abbrev pub Feeds : Wire → ℕ → List ℕ → Result ℕ NoConnection → Wir
 Feeds old number piece result new =
     FeedsAt (at_place old.streams number) old number piece result new
 
--- the event of a buffer, with the host's values
+-- the event that executes a buffer with the host's values
 abbrev pub given : List ℕ → Host → PlainEvent
 given buffer host = Given buffer (locality_number host.locality) host.elapsed_ms host.random
 
