@@ -26,7 +26,7 @@ decoded_are_digits digits (Err fault) e other = refl
 pub other_is_bad : (digits : List ℕ) → list_all is_hex_digit digits ≡ false → IsChecked (hex_in digits) (Err Bad)
 other_is_bad digits other = decoded_are_digits digits (decode_of digits) refl other
 
--- An even number of hex digits encodes bytes.
+-- An even number of hex digits can be decoded to bytes.
 pub digits_are_good : (digits : List ℕ) → (length digits % 2 ≡ 1 → ⊥) → list_all is_hex_digit digits ≡ true → IsChecked (hex_in digits) (Ok tt)
 digits_are_good digits even all = rw ((decode_of-digits digits (omega (arith, even)) (AllPass-from_list_all is_hex_digit digits all)).1) tt
 

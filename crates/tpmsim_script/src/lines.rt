@@ -37,7 +37,7 @@ struct TooLong;
 /// type does not depend on the text.
 #[derive(Drop)]
 pub struct Lines {
-    /// The line that was found last, or the part of the next line that has been read.
+    /// The line that was found last, or as much of the next line as has been read.
     line: ArrayVec<u8, 65536>,
     bytes: Vec<u8>,
     /// The bytes from offset `next` to `filled` were read and do not belong to a line yet.
@@ -90,8 +90,8 @@ impl Lines {
         self.line.clear();
     }
 
-    /// Appends bytes that were read to the line: up to the end of the line, or all of them if they
-    /// do not contain it.
+    /// Moves bytes that were read to the line: up to the end of the line, or all of them if they do
+    /// not contain its end.
     pub fn find(&mut self) -> Next
         requires { IsUnbroken (line_of self.old) }
         ensures found { Finds self.old result self.new }
@@ -109,7 +109,8 @@ impl Lines {
         }
     }
 
-    /// Adds the next `count` bytes to the line, and consumes `past` bytes in total.
+    /// Adds the next `count` bytes to the line, and skips up to `past`, the number of bytes
+    /// consumed in all.
     fn take(&mut self, count: usize, past: usize) -> Result<(), TooLong>
         requires count { count ≤ past }
         requires past { past ≤ length (rest_of self.old) }
@@ -152,8 +153,8 @@ impl Lines {
         }
     }
 
-    /// Reads more bytes, with one read of the reader. All output must have been written by then:
-    /// the author of a script may need it before writing the next line.
+    /// Reads more bytes, with one read of the reader. All output must have been written before: the
+    /// author of a script may need it to write the next line.
     pub fn fill<R: Read>(&mut self, reader: &mut Tap<R>, _answers: &Answers) -> Result<(), Failed>
         requires rest { rest_of self.old ≡ [] }
         requires written { backlog _answers.now ≡ [] }
