@@ -113,7 +113,7 @@ fn perform(rt: &HostRuntime, arguments: &Arguments<'_>) -> Result<(), Fault> {
     }
 }
 
-/// Runs a script on the device that is kept in a place.
+/// Runs a script on the device that is kept in an image or in a folder.
 fn run_in_place(
     rt: &HostRuntime,
     script: &str,
@@ -128,7 +128,7 @@ fn run_in_place(
     }
 }
 
-/// Serves the device that is kept in a place.
+/// Serves the device that is kept in an image or in a folder.
 fn serve_in_place(rt: &HostRuntime, service: &Service) -> Result<(), Fault> {
     match service.place {
         Place::Image(image) => Ok(serve_device(rt, service, image)?),

@@ -15,7 +15,7 @@ pub fn print_assembled(rt: &HostRuntime, line: &str) -> Result<(), Fault> {
     Fault::file(Subject::Output).unless(println!(rt; "{text}"))
 }
 
-/// Prints the line in words that encodes the command with these hex digits.
+/// Prints the line in words that encodes the same command as these hex digits.
 pub fn print_spelled(rt: &HostRuntime, digits: &str) -> Result<(), Fault> {
     let buffer = buffer_of(rt, digits)?;
     let text = line_of(rt.alloc(), buffer.as_slice())?;
