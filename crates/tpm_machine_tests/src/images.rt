@@ -245,8 +245,8 @@ const READ: Exchange = (
     ],
 );
 
-/// TPM2_PolicyGetDigest for the session that existed before the power cycle. The response is
-/// REFERENCE_H0.
+/// TPM2_PolicyGetDigest for the session that existed before the power cycle. It is refused with
+/// TPM_RC_REFERENCE_H0.
 const POLICY: Exchange = (
     "80010000000e0000018903000000",
     &[("80010000000a00000910", 0)],

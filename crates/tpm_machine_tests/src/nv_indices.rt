@@ -64,7 +64,7 @@ fn defined<N: Indices>(indices: &mut N, text: &[u8]) -> Outcome {
     }
 }
 
-/// Calls the function that defines an index with this public area, without first checking the area.
+/// Defines the index with this public area, without checking the area first.
 fn defined_unchecked<N: Indices>(indices: &mut N, text: &[u8]) -> Option<Result<(), DefineFault>> {
     match NvPublic::read(&mut Cursor::new(text)) {
         Ok(public) => Some(indices.define(public, AuthValue::of(b"a"))),

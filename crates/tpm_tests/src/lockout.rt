@@ -3,8 +3,8 @@
 use super::comparison::check;
 use tpm_lockout::{Lockout, LockoutFields};
 
-/// Lockout after this number of failed tries, if three are allowed. Each is forgiven after this
-/// many seconds, and lockoutAuth is disabled for the same time.
+/// Lockout with this number of failed tries. maxTries is 3. Each try is forgiven after this many
+/// seconds, and lockoutAuth is disabled for the same time.
 fn locked(failed_tries: u32, seconds: u32) -> Lockout {
     Lockout::restore(LockoutFields {
         failed_tries,

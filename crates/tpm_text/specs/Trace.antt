@@ -34,8 +34,8 @@ IsTraceable event x = IsRow x.row × IsAnswered event x.response
 unfoldable pub name_text : ℕ → List ℕ
 name_text number = unwrap_or (option_map code_name (code_named number)) (codes "?")
 
--- the name of the check with this number: ok if no check refused; G1 to G11 for the checks of every
--- command, A1 to A7 for the command's own checks, and M for a failed allocation
+-- the name of the check with this number: `ok` if no check refused; G1 to G11 for the checks of
+-- every command, A1 to A7 for the command's own checks, and M for a failed allocation
 unfoldable pub check_text : ℕ → List ℕ
 check_text number =
     if number == 0 then codes "ok"

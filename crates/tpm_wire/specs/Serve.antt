@@ -51,8 +51,8 @@ Asks g old one new =
 abbrev pub AsksForEach : {F : Type 0} → Asking F → F → List Execution → F → Type 0
 AsksForEach g old executions new = FoldsTo (Asks g) old executions new
 
--- The host was asked once for each of these executions, in order, and then once more. The last time
--- it returned a fault.
+-- The host was asked once for each of these executions, in order, and then once more, when it
+-- returned a fault.
 abbrev pub AsksInVain : {F : Type 0} → Asking F → F → List Execution → F → Type 0
 AsksInVain {F} g old executions new =
     (last : F) × AsksForEach g old executions last × (e : HostFault) × Called g last tt (Err e) new
@@ -210,7 +210,7 @@ abbrev pub NotesEach : {S : Type 0} → (S → Execution → S → Type 0) → S
 NotesEach notes old executions new = FoldsTo notes old executions new
 
 -- A witness was notified of each of these executions, in order. If serving ended because the
--- witness failed, it was notified of all executions except the last, and failed on the last one.
+-- witness failed, it failed on the last execution, and was notified of all others.
 abbrev pub Notes : {S : Type 0} → (S → Execution → S → Type 0) → (S → Bool)
     → S → List Execution → S → Result ℕ ServeFault → Type 0
 Notes {S} notes failed old executions new (Err fault.Save) =

@@ -1,5 +1,5 @@
--- How a script keeps its device: the saver is notified of the device line by line, and only the
--- output of lines that were played is written.
+-- How the device of a script is kept: the saver is notified of the device line by line, and only
+-- the output of lines that were played is written.
 use Rattle.std.specs.Prelude.{◌≡◌, ℕ, ◌+◌, Bool, true, false, List, [], ◌∷◌, ◌++◌, length}
 use Rattle.std.specs.Prelude.{Option, Some, None, IfSome, Result, Ok, Err}
 use Rattle.std.specs.Io.KnownBytes.{Appends, append_known}

@@ -90,8 +90,8 @@ impl Lines {
         self.line.clear();
     }
 
-    /// Moves bytes that were read to the line: up to the end of the line, or all of them if they do
-    /// not contain its end.
+    /// Moves the bytes that were read into the line: those up to the end of the line, or all if
+    /// they do not contain its end.
     pub fn find(&mut self) -> Next
         requires { IsUnbroken (line_of self.old) }
         ensures found { Finds self.old result self.new }
@@ -109,8 +109,7 @@ impl Lines {
         }
     }
 
-    /// Adds the next `count` bytes to the line, and skips up to `past`, the number of bytes
-    /// consumed in all.
+    /// Consumes the next `past` bytes, and adds the first `count` of them to the line.
     fn take(&mut self, count: usize, past: usize) -> Result<(), TooLong>
         requires count { count ≤ past }
         requires past { past ≤ length (rest_of self.old) }

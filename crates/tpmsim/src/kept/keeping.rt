@@ -139,7 +139,7 @@ impl<'a> Kept<'a> {
     }
 
     /// Replaces the device by the device of a state text, for all processes that use it, or creates
-    /// the device if there is none. First cuts damage in the journal.
+    /// the device if there is none. First removes the damage in the journal, if there is any.
     pub fn restore(&mut self, state: &[u8]) -> Result<(), KeptFault> {
         let alloc = self.rt.alloc();
         let now_ms = clock_of(self.rt)?;
