@@ -225,8 +225,8 @@ new_served r = record { many = refl; each = none_served 8 }
 led_anew : (can : Bool) (r : Record) (calls : List Call) (new : Wire) → Schedules can (new_wire r) calls new → Led can (new_wire r) new (lives_after_all (free 8) calls) (events_in (free 8) calls)
 led_anew can r calls new run = schedule_led can (new_wire r) new (free 8) calls (new_served r) run
 
--- After every schedule, each connection has executed its buffers in order: as many buffers as its
--- turns returned answers.
+-- After every schedule, each connection has executed its buffers in order, one for each answer that
+-- its turns returned.
 pub schedules_served : SchedulesAreServed
 schedules_served can r calls new run = (led_anew can r calls new run).served.each
 

@@ -137,8 +137,8 @@ IsServed (Some s) (Some l) =
 IsServed None (Some l) = ⊥
 IsServed (Some s) None = ⊥
 
--- After every schedule, each connection has executed its buffers in order: as many buffers as its
--- turns returned answers.
+-- After every schedule, each connection has executed its buffers in order, one for each answer that
+-- its turns returned.
 abbrev pub SchedulesAreServed : Type 0
 SchedulesAreServed = (can : Bool) (r : Record) (calls : List Call) (new : Wire)
     → Schedules can (new_wire r) calls new → (number : ℕ)

@@ -39,7 +39,7 @@ const HEAD_ROOM: usize = 57_472;
 #[derive(Drop)]
 pub struct Log<W> {
     pub(crate) writer: Tap<W>,
-    /// The checksum of the marks of all entries so far.
+    /// The checksum of all marks so far, of the head and the entries.
     pub(crate) sum: u64,
     pub(crate) failed: bool,
     /// The buffer for the text of an entry. The text is written in one write.

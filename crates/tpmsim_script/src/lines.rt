@@ -90,8 +90,8 @@ impl Lines {
         self.line.clear();
     }
 
-    /// Moves the bytes that were read into the line: those up to the end of the line, or all if
-    /// they do not contain its end.
+    /// Moves the next bytes to the line, up to the end of the line. If the bytes that were read do
+    /// not contain it, moves all of them.
     pub fn find(&mut self) -> Next
         requires { IsUnbroken (line_of self.old) }
         ensures found { Finds self.old result self.new }

@@ -11,7 +11,7 @@ use Rattle.tpm_journal_text.specs.Journal.{entries_text, sum_after_all}
 use Rattle.tpmsim_image.specs.log.Executed.{entry_in}
 use Rattle.tpmsim_image.specs.declared.log.Log.{Log}
 
--- the state of a log: its text, if that is known, and the checksum of the marks of its entries
+-- the state of a log: its text, if that is known, and the checksum of all its marks
 pub record Written : Type 0 where
   pub text : Option (List ℕ)
   pub sum : ℕ
