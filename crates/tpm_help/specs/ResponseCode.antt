@@ -1,4 +1,4 @@
--- The names of response codes, and the handle, parameter or session that a code names. TPM 2.0
+-- The names of response codes, and the handle, parameter or session that a code identifies. TPM 2.0
 -- Library, Part 2, section 6.6: 6.6.2 defines the bits of a code, and 6.6.3 the numbers of TPM_RC.
 use Rattle.std.specs.Prelude.{ℕ, ◌+◌, ◌/◌, ◌%◌, ◌==◌, ◌||◌, ◌++◌, ◌-◌, nat_lt, List, [], ◌∷◌, codes, length, replicate, if◌then◌else◌}
 use Rattle.tpm_types.specs.declared.rc.Place.{Place}

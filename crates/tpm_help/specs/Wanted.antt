@@ -38,7 +38,7 @@ word_behind words place =
 abbrev pub space_count : List ℕ → ℕ
 space_count text = count_by (λ byte. byte == space) text
 
--- the word that is expected at this fault: at the fault's column, or after the last token
+-- the word for what is expected at this fault: at the fault's column, or after the last token
 unfoldable pub word_at : (words : List ℕ) → AsmFault → List ℕ
 word_at words fault.BadName = codes "command"
 word_at words (fault.BadField column) =

@@ -267,8 +267,8 @@ fn a_session_has_the_sizes_of_its_hash(rt: HostRuntime) {
 
 const ATTRIBUTES: SessionAttributes = SessionAttributes { octet: 0x21 };
 
-/// The data that the HMAC of a command's entry covers. The entry is accompanied by the nonces of
-/// two other sessions.
+/// The data that the HMAC of a command's entry covers, including the nonces of the sessions that
+/// decrypt and encrypt.
 fn command_text() -> CommandText<'static> {
     CommandText {
         hash: COMMAND_HASH,

@@ -38,8 +38,8 @@ fn a_sized_buffer_has_a_limit(rt: HostRuntime) {
     check(&rt, cursor.sized(3), Err(SizedFault::Short));
 }
 
-/// Writes fifteen bytes as numbers of each width, then three bytes in a sized buffer and two
-/// plain ones.
+/// Writes fifteen bytes as numbers of each width, then a sized buffer of three bytes, and then two
+/// plain bytes.
 fn fill(sink: &mut Sink<20>) -> Result<(), Full> {
     sink.put_u8(0x10)?;
     sink.put_u16(0x2132)?;

@@ -48,7 +48,7 @@ abbrev pub response_code_text : List ℕ → List ℕ
 response_code_text response = encode_lower (slice_range response 6 10)
 
 -- the trace of an event: `power` for a power cycle and `placed` for a placed object; for a command,
--- its name, its locality, the milliseconds before it, the check that refused it, and the response
+-- its name, its locality, the elapsed milliseconds, the check that refused it, and the response
 -- code
 abbrev pub trace_text : PlainEvent → Row → (response : List ℕ) → List ℕ
 trace_text Cycled row response = codes "power"

@@ -84,8 +84,8 @@ Delivers notes failed held holds before after one old (Err fault.Write) new =
     notes old one new × AppendsFront held holds one.seen.response × (after.failed ≡ true)
 Delivers notes failed held holds before after one old (Err e) new = ⊥
 
--- The writer failed at the response of the last execution: all earlier responses were written
--- completely, and a prefix of the last one, which may be empty, was written.
+-- The writer failed at the response of the last execution. All earlier responses were written
+-- completely. A prefix of the last one, which may be empty, was written.
 abbrev pub LosesLast : Option (List ℕ) → Option (List ℕ) → List Execution → Type 0
 LosesLast held holds executions =
     (answered : List Execution) × (lost : Execution) × (executions ≡ answered ++ lost ∷ [])

@@ -85,7 +85,7 @@ AnswersTurn can c old number host (Ok (Answer outcome)) new =
     × (new.streams ≡ slice_set old.streams number (Some c.after))
 AnswersTurn can c old number host result new = ⊥
 
--- The next buffer of the connection was executed, if it was complete.
+-- If the connection's next buffer was complete, it was executed.
 abbrev pub TurnsBy : Bool → Option Cut → Stream
     → Wire → ℕ → Host → Result Turn NoConnection → Wire → Type 0
 TurnsBy can None s old number host result new = Waits s old result new

@@ -60,7 +60,8 @@ pub enum JournalFault {
     HoldsEarlierState,
     /// The entry that begins at this line is damaged.
     IsDamaged(u64),
-    /// The recorded response to the entry that begins at this line differs from the present one.
+    /// The response recorded in the entry that begins at this line differs from the device's
+    /// response.
     WasAnsweredOtherwise(u64),
 }
 

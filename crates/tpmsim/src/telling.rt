@@ -60,7 +60,7 @@ fn print_form(rt: &HostRuntime, code: CommandCode) -> Result<(), Fault> {
 }
 
 /// Prints the name of the response code with these hex digits, and the handle, parameter or session
-/// that it names. A number that is not a response code is a usage fault.
+/// that it identifies. A number that is not a response code is a usage fault.
 pub fn print_code(rt: &HostRuntime, digits: &str) -> Result<(), Fault> {
     let number = hex_number(digits.as_bytes()).ok_or(Fault::Usage)?;
     let meaning = meaning_of(number).ok_or(Fault::Usage)?;

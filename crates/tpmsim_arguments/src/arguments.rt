@@ -242,8 +242,8 @@ fn storage_of<'a>(options: &ArgMatches<'a>) -> Option<Option<Storage<'a>>>
     }
 }
 
-/// Returns the place of the device: an image or a folder of a state, exactly one of which must be
-/// given. The number of finished journals applies only to a folder.
+/// Returns the place of the device: an image, or a folder with its state. Exactly one of these must
+/// be given. The number of finished journals applies only to a folder.
 fn place_by<'a>(
     image: Option<&'a str>,
     state: Option<&'a str>,

@@ -10,8 +10,8 @@ use Rattle.tpmsim_script.specs.Line.{SetsEntropy, CyclesPower, DoesNothing, byte
 use Rattle.tpmsim_script.specs.declared.bad_line.BadLine.{BadLine}
 use Rattle.tpmsim_script.specs.declared.bad_line.Wanted.TheVariants as wanted
 
--- the milliseconds waited since the last command, after a line with a command in words: 0 unless
--- the line is bad
+-- the milliseconds waited since the last command, after a line with a command in words: 0, or the
+-- reason why the line is bad
 abbrev pub assembly_check : Result (List ℕ) AsmFault → Result ℕ BadLine
 assembly_check (Ok buffer) = Ok 0
 assembly_check (Err fault) = Err (record { fault = fault; wanted = wanted.Command })

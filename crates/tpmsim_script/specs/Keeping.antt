@@ -47,8 +47,8 @@ PlaysLines {S = S} saves saves_change old (line ∷ lines) text new =
     × PlaysLine saves saves_change old line first mid
     × PlaysLines saves saves_change mid lines more new
 
--- The number of lines that were played. Before a bad line, these are all lines before it; if the
--- script has too many lines, as many as a script may have.
+-- The number of lines that were played. If a line is bad, all lines before it were played. If the
+-- script has too many lines, as many as a script may have were played.
 abbrev pub Counts : Result (Unit {0}) ScriptFault → ℕ → Type 0
 Counts (Err (fault.Line number)) count = number ≡ count + 1
 Counts (Err fault.TooManyLines) count = count ≡ 1048576

@@ -49,8 +49,8 @@ AreTheirs (Err fault.Write) reader writer unsaved = writer.failed ≡ true
 AreTheirs (Err fault.Save) reader writer unsaved = unsaved ≡ true
 AreTheirs other reader writer unsaved = Unit {0}
 
--- The lines before the line `next` were played from `p` on; `number` is the number of the first of
--- these lines. No line is bad; their output was written after the old contents of the writer
+-- The lines from number `number` to just before number `next` were played, starting in the state
+-- `p`. None of them is bad, and their output was written after the old contents of the writer
 -- (`old`). `rest` contains the remaining lines.
 abbrev pub PlaysUpTo : Option (List ℕ) → Option (List ℕ) → Option (List ℕ)
     → Playing → ℕ → ℕ → List (List ℕ) → Type 0

@@ -20,7 +20,7 @@ pub record Written : Type 0 where
 abbrev pub written_of : {W : Type 0} → (W → Option (List ℕ)) → Log W → Written
 written_of contents log = record { text = contents (device_of log.writer); sum = log.sum }
 
--- The head with this clock and this image was appended to the text.
+-- A log was begun: the head with this clock and this image was appended to the old text.
 pub record Begins (clock : ℕ) (image : List ℕ) (before : Option (List ℕ)) (now : Written) : Type 0
   where
     pub text : Appends before now.text (head_text Image clock image)
