@@ -100,7 +100,7 @@ fn has_public<N: Indices>(indices: &N, handle: Handle, text: &[u8]) -> bool {
     }
 }
 
-/// Definitions that are refused, and one that succeeds.
+/// Defines indices. Some definitions are refused, and one succeeds.
 fn definitions<N: Indices>(rt: &impl Abort, indices: &mut N) {
     check(
         rt,
@@ -123,7 +123,7 @@ fn definitions<N: Indices>(rt: &impl Abort, indices: &mut N) {
     check(rt, has_public(indices, SECOND, ORDINARY), false);
 }
 
-/// Writes to an ordinary index, and writes that are refused.
+/// Writes to an ordinary index. Some writes are refused.
 fn writes<N: Indices>(rt: &impl Abort, indices: &mut N) {
     check(
         rt,

@@ -50,7 +50,7 @@ pub fn text_of<K: Keep>(alloc: Global, keep: &K) -> Result<Vec<u8>, Fail> {
     Ok(text)
 }
 
-/// The actions of a test, with any type that implements `Keep`.
+/// A test that can run with any type that implements `Keep`.
 pub trait Trial {
     fn run<K: Keep, R: Abort>(rt: &R, alloc: Global) -> Result<(), Fail>;
 }

@@ -20,7 +20,7 @@ const PCR_RESET: &[u8] = b"\x80\x02\x00\x00\x00\x20\x00\x00\x01\x3d\
     \x00\x00\x00\x0e\
     \x40\x00\x00\x09\x00\x02\xaa\xbb\x01\x00\x03abc";
 
-/// The selection of the SHA-256 PCRs 0, 10 and 23.
+/// The PCR selection of PCRs 0, 10 and 23 in the SHA-256 bank.
 const SELECTION: &[u8] = b"\x00\x00\x00\x01\x00\x0b\x03\x01\x04\x80";
 
 /// A list of two digests: SHA-1 with twenty bytes 01, and SHA-256 with thirty-two bytes 02.
@@ -132,7 +132,7 @@ fn a_hierarchy_has_its_handle_as_its_name(rt: HostRuntime) {
     check(&rt, name.is_same(&Name::of_handle(Handle::PLATFORM)), false);
 }
 
-/// The number of the error in a command's buffer, or 0.
+/// The response code of the error in a command's buffer, or 0.
 fn fault_of(buffer: &[u8]) -> u32 {
     match Command::read(&mut Cursor::new(buffer)) {
         Ok(_) => 0,
@@ -140,7 +140,7 @@ fn fault_of(buffer: &[u8]) -> u32 {
     }
 }
 
-/// Buffers, each with the number of its first error.
+/// Buffers, each with the response code of its first error.
 const FAULTS: [(&[u8], u32); 7] = [
     (b"\x00\xc1\x00\x00\x00\x0b\x00\x00\x01", 0x142),
     (b"\x00\xc1\x00\x00\x00\x0b\x00\x00\x01\x46", 0x01e),

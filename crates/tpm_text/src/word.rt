@@ -1,5 +1,4 @@
-//! The words for hash algorithms and symmetric definitions, and the identifiers that they stand
-//! for.
+//! The words for hash algorithms and symmetric definitions, and the identifiers that they encode.
 
 ghost use Rattle.std.specs.Prelude.{◌≡◌};
 ghost use Rattle.tpm_text.specs.Draft.{Drafts, drafted};

@@ -8,7 +8,7 @@ use tpm_line::line_of;
 use tpm_text::assemble;
 use tpmsim_image::Subject;
 
-/// Prints the command that a line in words encodes, in hex.
+/// Prints, in hex, the command that a line in words encodes.
 pub fn print_assembled(rt: &HostRuntime, line: &str) -> Result<(), Fault> {
     let buffer = assemble(rt.alloc(), line)?;
     let text = hex::encode(rt.alloc(), buffer)?;

@@ -8,7 +8,7 @@ use Rattle.tpmsim_script.specs.declared.bad_line.BadLine.{BadLine}
 use Rattle.tpmsim_script.specs.declared.bad_line.Wanted.{Wanted}
 use Rattle.tpmsim_script.specs.declared.bad_line.Wanted.TheVariants as wanted
 
--- a line whose first word is unknown
+-- the fault of a line whose first word is unknown
 abbrev pub unknown_word : BadLine
 unknown_word = record { fault = fault.BadName; wanted = wanted.Word }
 
@@ -29,6 +29,6 @@ abbrev pub number_fault : List ℕ → Wanted → BadLine
 number_fault argument wanted =
     if is_some (numeral 10 argument) then too_large wanted else misplaced wanted
 
--- a line of more than 65,536 bytes
+-- the fault of a line of more than 65,536 bytes
 abbrev pub long_line : BadLine
 long_line = record { fault = fault.TooLong; wanted = wanted.ShortLine }

@@ -59,7 +59,7 @@ impl Lines {
     ghost use Rattle.tpmsim_script.specs.Lines.{Agrees, Finds, IsUnbroken};
     ghost use Rattle.tpmsim_script.specs.Lines.{line_of, next_at, rest_of};
 
-    /// The lines of a script that is not read yet.
+    /// The lines of a script of which nothing has been read yet.
     pub fn new(alloc: Global) -> Result<Lines, AllocError>
         ensures { IfOk result (λ lines. (rest_of lines ≡ []) × (lines.ended ≡ false)) }
     {
