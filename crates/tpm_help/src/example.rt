@@ -2,8 +2,8 @@
 
 use tpm_commands::CommandCode;
 
-/// An example of a command in words, without the command's name and the space after it. Its handles
-/// are those of the first object, session and NV index that a device creates.
+/// An example of a command in words, without the command's name and the space after it. It assumes
+/// that the object 80000000, the session 03000000 and the NV index 01000000 exist.
 pub fn example_of(code: CommandCode) -> &'static str {
     match code {
         CommandCode::EvictControl => "OWNER 80000000 pw:- 0x81000001",

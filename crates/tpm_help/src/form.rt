@@ -67,7 +67,8 @@ fn parameters_of(code: CommandCode) -> &'static [ParameterKind]
 }
 
 /// The form of a command in words, such as `NV_Write @Entity Index Buffer u16`. An `@` marks a
-/// handle that an authorization entry must authorize; the form omits these entries.
+/// handle that an authorization entry must authorize. The form omits the entries, which follow the
+/// handles.
 pub fn form_text(code: CommandCode) -> Form
     ensures { result.bytes ≡ form_of code }
 {

@@ -63,8 +63,8 @@ const NEW: Pieces = &[
 ];
 
 /// The image of a device whose TPM2_Shutdown(STATE) saved PCRs 0 to 15, as in
-/// tests/images/version_1/saved.hex. PCR 3 had been extended. So had PCR 16, which is not saved,
-/// and a session existed.
+/// tests/images/version_1/saved.hex. Before the shutdown, PCRs 3 and 16 had values, and a session
+/// existed.
 const SAVED: Pieces = &[
     (
         "54504d490001000004a30000000102030405060708090a0b0c0d0e0f10111213",

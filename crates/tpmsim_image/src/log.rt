@@ -110,8 +110,8 @@ impl<W: Write> Log<W> {
     ghost use Rattle.tpmsim_image.specs.log.Executed.{entry_by, has_entry};
     ghost use Rattle.tpmsim_image.specs.log.Log.{AddsSome, written_of};
 
-    /// Adds the entry of an event, with its response and the number of random bytes that it drew.
-    /// If the event has no entry, or the write fails, nothing more can be added to the log.
+    /// Adds the entry of an event that had this response and drew `drawn` random bytes. If the
+    /// event has no entry, or the write fails, nothing more can be added to the log.
     fn add(&mut self, event: &Event, drawn: usize, response: &[u8]) -> Result<(), Unsaved>
         ensures added { OnOk result (AddsSome (written_of W.contents self.old)
             (entry_by (plain_event event.now) drawn response.now) (written_of W.contents self.new)) }
