@@ -83,8 +83,7 @@ found_line line rest more at h e =
     ap (λ l. line ++ (l ++ more)) (at_break rest at e) ∙ regrouped line (take at rest) (10 ∷ drop (at + 1) rest) more in
     ap lines_of cut ∙ line_ended (line ++ take at rest) (drop (at + 1) rest ++ more) front
 
--- If the bytes that were read contain a 0a, but only after the largest size of a line, the line is
--- too long.
+-- If the line up to the first 0a is longer than a line may be, the line is too long.
 pub found_too_long : (line rest more : List ℕ) (at : ℕ) → IsUnbroken line → position is_break rest ≡ Some at → 65536 < length line + at → BeginsTooLong (line ++ (rest ++ more))
 found_too_long line rest more at h e long =
     let front = All-append IsWithin line (take at rest) h (before_break rest at e) in
