@@ -83,7 +83,7 @@ found_line line rest more at h e =
     ap (λ l. line ++ (l ++ more)) (at_break rest at e) ∙ regrouped line (take at rest) (10 ∷ drop (at + 1) rest) more in
     ap lines_of cut ∙ line_ended (line ++ take at rest) (drop (at + 1) rest ++ more) front
 
--- If the line up to the first 0a is longer than a line may be, the line is too long.
+-- If more than 65,536 bytes of a line precede the first 0a, the line is too long.
 pub found_too_long : (line rest more : List ℕ) (at : ℕ) → IsUnbroken line → position is_break rest ≡ Some at → 65536 < length line + at → BeginsTooLong (line ++ (rest ++ more))
 found_too_long line rest more at h e long =
     let front = All-append IsWithin line (take at rest) h (before_break rest at e) in
@@ -97,8 +97,8 @@ found_too_long line rest more at h e long =
 pub found_more : (line rest : List ℕ) → IsUnbroken line → position is_break rest ≡ None → IsUnbroken (line ++ rest)
 found_more line rest h e = All-append IsWithin line rest h (no_break rest e)
 
--- If the bytes that were read contain no 0a and are more than a line may have, the line is too
--- long.
+-- If the line with all bytes that were read contains no 0a and has more than 65,536 bytes, it is
+-- too long.
 pub found_no_end : (line rest more : List ℕ) → IsUnbroken line → position is_break rest ≡ None → 65536 < length line + length rest → BeginsTooLong (line ++ (rest ++ more))
 found_no_end line rest more h e long =
     let whole = found_more line rest h e in
