@@ -1,4 +1,4 @@
-//! Contexts of two HMAC keys of the owner hierarchy, one without and one with stClear. Python's
+//! Contexts of two HMAC keys of the owner hierarchy, of which one has stClear set. Python's
 //! `hashlib`, `hmac` and `cryptography` computed them.
 
 use std::process::Abort;
@@ -49,13 +49,13 @@ const ST_CLEAR_CONTEXT: &[u8] =
     \x1d\x1e\x9e\x25\x48\xda\xa6\x75\xb6\xc1\x37\x7c\x05\x05\xb7\xab\x39\xc3\xed\xca\
     \x15\x8e\xd6\x44\xf2\xeb\x55";
 
-/// The hierarchies of a device that is manufactured with random bytes that all have this value.
-/// Each byte of each proof has this value too.
+/// The hierarchies of a device that is manufactured from random bytes that all have this value.
+/// Therefore all bytes of its proofs have this value.
 fn hierarchies(value: u8) -> Hierarchies {
     Hierarchies::manufactured(&[value; 256])
 }
 
-/// The primary key of the owner with this public area.
+/// The primary key with this public area, in the owner hierarchy.
 pub fn key_of(public: &[u8]) -> Option<Object> {
     let public = Public::read_sized(&mut Cursor::new(public)).ok()?;
     let sensitive = Sensitive::read_sized(&mut Cursor::new(SENSITIVE)).ok()?;
@@ -63,7 +63,7 @@ pub fn key_of(public: &[u8]) -> Option<Object> {
     Some(Object::loaded(owner, public, &sensitive, b"\x40\0\0\x01"))
 }
 
-/// Whether this is the context of the key, with this sequence number.
+/// Whether saving the key with this sequence number yields this context.
 fn is_sealed(public: &[u8], sequence: u64, context: &[u8]) -> bool {
     let Some(object) = key_of(public) else {
         return false;
@@ -79,7 +79,7 @@ fn a_context_is_the_one_that_was_computed_outside(rt: HostRuntime) {
     check(&rt, is_sealed(ST_CLEAR_KEY, 2, ST_CLEAR_CONTEXT), true);
 }
 
-/// Whether the context opens as the key with this public area.
+/// Whether opening the context yields the key with this public area.
 fn is_opened(context: &[u8], binding: Binding, public: &[u8]) -> bool {
     let (Some(wanted), Ok(object)) = (key_of(public), open(&hierarchies(7), binding, context))
     else {
@@ -100,7 +100,7 @@ fn a_context_opens_as_its_object(rt: HostRuntime) {
     );
 }
 
-/// Returns the fault of opening the context, if it does not open.
+/// Returns the fault of opening the context, or None if it opens.
 fn fault_of(context: &[u8], binding: Binding) -> Option<ContextFault> {
     open(&hierarchies(7), binding, context).err()
 }
@@ -132,7 +132,7 @@ fn a_context_is_bound_to_the_start_and_the_counts(rt: HostRuntime) {
     }
 }
 
-/// Returns the fault of opening the key's context after the byte at `place` was replaced.
+/// Replaces the byte at `place` in the key's context, and returns the fault of opening the result.
 fn fault_with(place: usize, byte: u8) -> Option<ContextFault> {
     let mut bytes = [0; 127];
     bytes.copy_from_slice(CONTEXT);

@@ -22,8 +22,8 @@ const FLUSH: &[u8] = b"\x80\x01\0\0\0\x0e\0\0\x01\x65\x80\0\0\0";
 /// The header of TPM2_ContextLoad of the key's context, which has 127 bytes.
 const LOAD_HEADER: &[u8] = b"\x80\x01\0\0\0\x89\0\0\x01\x61";
 
-/// Responses: with the first transient handle; without parameters; the refusal OBJECT_MEMORY; and
-/// the refusal INTEGRITY for parameter 1.
+/// Four responses: one with the first transient handle; one without parameters; the refusal
+/// OBJECT_MEMORY; and the refusal INTEGRITY for parameter 1.
 const LOADED: &[u8] = b"\x80\x01\0\0\0\x0e\0\0\0\0\x80\0\0\0";
 
 const DONE: &[u8] = b"\x80\x01\0\0\0\x0a\0\0\0\0";
@@ -75,7 +75,7 @@ impl Bench {
         self.outcome.response.as_slice() == wanted
     }
 
-    /// The command that loads the context of the key; zeros if the key was not saved.
+    /// Saves the key, and returns the command that loads its context, or zeros if the save failed.
     fn saved(&mut self) -> [u8; 137] {
         self.command(SAVE);
         let response = self.outcome.response.as_slice();

@@ -9,7 +9,7 @@ use Rattle.tpm_commands.specs.declared.shape.HandleRule.{HandleRule}
 use Rattle.tpm_commands.specs.declared.shape.ParameterKind.{ParameterKind}
 use Rattle.tpm_commands.specs.declared.shape.ParameterKind.TheVariants as parameter
 
--- the word for a handle of a kind
+-- the word for a handle of this kind
 unfoldable pub handle_word : HandleKind → List ℕ
 handle_word kind.Pcr = codes "PCR"
 handle_word kind.PcrOrNull = codes "PCR"
@@ -26,7 +26,7 @@ handle_word kind.Object = codes "Object"
 handle_word kind.PolicySession = codes "Policy"
 handle_word kind.NvIndex = codes "Index"
 
--- the word for a parameter of a kind; a structure is written as a buffer of its bytes
+-- the word for a parameter of this kind; a structure is written as a buffer with its bytes
 unfoldable pub parameter_word : ParameterKind → List ℕ
 parameter_word parameter.SessionType = codes "u8"
 parameter_word parameter.YesNo = codes "u8"
@@ -48,12 +48,13 @@ parameter_word parameter.SensitiveCreate = codes "Buffer"
 parameter_word parameter.Public = codes "Buffer"
 parameter_word parameter.NvPublic = codes "Buffer"
 
--- a handle after a space, marked with @ if it needs an entry that authorizes it
+-- the word for a handle, after a space; an `@` marks a handle that an authorization entry must
+-- authorize
 abbrev pub handle_form : HandleRule → List ℕ
 handle_form rule =
     (if is_some rule.role then codes " @" else codes " ") ++ handle_word rule.kind
 
--- a parameter after a space
+-- the word for a parameter, after a space
 abbrev pub parameter_form : ParameterKind → List ℕ
 parameter_form kind = codes " " ++ parameter_word kind
 

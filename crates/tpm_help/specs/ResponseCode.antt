@@ -1,4 +1,4 @@
--- The names of response codes, and the handle, parameter or session that a code names. TPM 2.0
+-- The names of response codes, and the handle, parameter or session that a code identifies. TPM 2.0
 -- Library, Part 2, section 6.6: 6.6.2 defines the bits of a code, and 6.6.3 the numbers of TPM_RC.
 use Rattle.std.specs.Prelude.{ℕ, ◌+◌, ◌/◌, ◌%◌, ◌==◌, ◌||◌, ◌++◌, ◌-◌, nat_lt, List, [], ◌∷◌, codes, length, replicate, if◌then◌else◌}
 use Rattle.tpm_types.specs.declared.rc.Place.{Place}
@@ -11,8 +11,8 @@ use Rattle.std.specs.Option.{option_or}
 use Rattle.std.specs.Result.{result_ok}
 use Rattle.hex.specs.Hex.{decode_of}
 
--- the codes that name no handle, parameter or session, and are not warnings: success, a bad tag,
--- and errors of version 2.0 (RC_VER1)
+-- the names of the codes that identify no handle, parameter or session, and are not warnings:
+-- success, a bad tag, and errors of version 2.0 (RC_VER1)
 unfoldable pub errors : List (ℕ × List ℕ)
 errors = (0x000, codes "SUCCESS") ∷ (0x01e, codes "BAD_TAG")
     ∷ (0x100, codes "INITIALIZE")
@@ -51,7 +51,7 @@ errors = (0x000, codes "SUCCESS") ∷ (0x01e, codes "BAD_TAG")
     ∷ (0x155, codes "SENSITIVE")
     ∷ []
 
--- the codes of warnings (RC_WARN), which name no handle, parameter or session
+-- the names of the warnings (RC_WARN), which identify no handle, parameter or session
 unfoldable pub warnings : List (ℕ × List ℕ)
 warnings = (0x901, codes "CONTEXT_GAP")
     ∷ (0x902, codes "OBJECT_MEMORY")
@@ -83,8 +83,8 @@ warnings = (0x901, codes "CONTEXT_GAP")
     ∷ (0x923, codes "NV_UNAVAILABLE")
     ∷ []
 
--- the codes that can name a handle, a parameter or a session (RC_FMT1), without the bits that name
--- one
+-- the names of the codes that can identify a handle, a parameter or a session (RC_FMT1); the codes
+-- are without the bits that identify one
 unfoldable pub located : List (ℕ × List ℕ)
 located = (0x081, codes "ASYMMETRIC")
     ∷ (0x082, codes "ATTRIBUTES")
@@ -121,13 +121,13 @@ located = (0x081, codes "ASYMMETRIC")
     ∷ (0x0a7, codes "ECC_POINT")
     ∷ []
 
--- the name for a number in this list
+-- the name of the code with this number in a list
 abbrev pub name_in : List (ℕ × List ℕ) → ℕ → Option (List ℕ)
 name_in rows number = option_map (λ row. row.1) (find (λ row. row.0 == number) rows)
 
--- what a code of RC_FMT1 names as wrong. If bit 6 is set, it is the parameter whose number is in
--- bits 8 to 11. Otherwise it is a session if bit 11 is set, and a handle if it is clear; its number
--- is in bits 8 to 10. The number 0 means that the code names nothing
+-- what a code of RC_FMT1 reports as wrong. If bit 6 is set, it is the parameter whose number is in
+-- bits 8 to 11. Otherwise it is a session if bit 11 is set, and a handle if bit 11 is clear; its
+-- number is in bits 8 to 10. The number 0 means that the code identifies nothing
 unfoldable pub place_in : ℕ → Place
 place_in code =
     let number : ℕ = code / 0x100 in
@@ -136,9 +136,9 @@ place_in code =
     else (if number % 8 == 0 then place.Nowhere
     else (if number / 8 == 1 then place.Session (number % 8) else place.Handle (number % 8)))
 
--- the name of a response code of twelve bits, and the handle, parameter or session that it names.
--- Bit 7 is set in a code of RC_FMT1, which can name one. None if the standard does not define the
--- code
+-- the name of a response code of twelve bits, and the handle, parameter or session that the code
+-- identifies. Bit 7 is set in the codes of RC_FMT1, which can identify one. None if the standard
+-- does not define the code
 unfoldable pub told_by : ℕ → Option (List ℕ × Place)
 told_by code =
     if code / 0x80 % 2 == 1
@@ -150,14 +150,14 @@ told_by code =
 abbrev pub told_of : ℕ → Option (List ℕ × Place)
 told_of code = if nat_lt code 0x1000 then told_by code else None
 
--- a code in words: its name, and the handle, parameter or session that it names
+-- a code in words: its name, and the handle, parameter or session that it identifies
 abbrev pub code_text : List ℕ → Place → List ℕ
 code_text name place.Nowhere = name
 code_text name (place.Handle number) = name ++ codes ", handle " ++ decimal number
 code_text name (place.Parameter number) = name ++ codes ", parameter " ++ decimal number
 code_text name (place.Session number) = name ++ codes ", session " ++ decimal number
 
--- the number in one to eight hex digits of either case
+-- the number that one to eight hex digits of either case encode
 unfoldable pub hex_number : List ℕ → Option ℕ
 hex_number digits =
     if length digits == 0 || nat_lt 8 (length digits) then None

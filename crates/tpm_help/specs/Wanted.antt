@@ -10,20 +10,19 @@ use Rattle.tpm_text.specs.declared.fault.AsmFault.{AsmFault}
 use Rattle.tpm_text.specs.declared.fault.AsmFault.TheVariants as fault
 use Rattle.tpm_help.specs.Form.{handle_word, parameter_word}
 
--- the number of entries among the tokens of a command: they follow the handles, are at most three,
--- and end before the first token that does not begin like an entry
+-- the number of authorization entries among the tokens of a command: they follow the handles, are
+-- at most three, and end before the first token that does not begin like an entry
 abbrev pub entry_count : CommandCode → (tokens : List (List ℕ)) → ℕ
 entry_count code tokens =
     length (take_while begins_entry (take 3 (drop (handle_count code + 1) tokens)))
 
--- the words for the parts of a command after its name, in order, if the command has this many
--- entries
+-- the words for the parts that follow the name of a command with this many entries
 abbrev pub words_behind : CommandCode → (entries : ℕ) → List (List ℕ)
 words_behind code entries = map (λ rule. handle_word rule.kind) (shape_of code).handles
     ++ (replicate entries (codes "entry") ++ map parameter_word (shape_of code).parameters)
 
--- the word for the part that is expected at a position after the name of a command; the first token
--- names the command, and positions are counted from 0
+-- the word for the part of a command that is expected at this position after the command's name,
+-- which is the first token; positions are counted from 0
 abbrev pub word_for : Option CommandCode → (tokens : List (List ℕ)) → (place : ℕ) → List ℕ
 word_for None tokens place = codes "command"
 word_for (Some code) tokens place =
@@ -39,7 +38,7 @@ word_behind words place =
 abbrev pub space_count : List ℕ → ℕ
 space_count text = count_by (λ byte. byte == space) text
 
--- the word that is expected at this fault: at the fault's column, or after the last token
+-- the word for what is expected at this fault: at the fault's column, or after the last token
 unfoldable pub word_at : (words : List ℕ) → AsmFault → List ℕ
 word_at words fault.BadName = codes "command"
 word_at words (fault.BadField column) =

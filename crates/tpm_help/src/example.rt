@@ -3,7 +3,7 @@
 use tpm_commands::CommandCode;
 
 /// An example of a command in words, without the command's name and the space after it. It assumes
-/// a device on which the first objects, sessions and indices exist.
+/// that the object 80000000, the session 03000000 and the NV index 01000000 exist.
 pub fn example_of(code: CommandCode) -> &'static str {
     match code {
         CommandCode::EvictControl => "OWNER 80000000 pw:- 0x81000001",

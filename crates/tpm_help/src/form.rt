@@ -66,8 +66,9 @@ fn parameters_of(code: CommandCode) -> &'static [ParameterKind]
     code.shape().parameters
 }
 
-/// The form of a command in words, such as `NV_Write @Entity Index Buffer u16`. A handle with an
-/// @ needs an entry that authorizes it; entries follow the handles.
+/// The form of a command in words, such as `NV_Write @Entity Index Buffer u16`. An `@` marks a
+/// handle that an authorization entry must authorize. The form omits the entries, which follow the
+/// handles.
 pub fn form_text(code: CommandCode) -> Form
     ensures { result.bytes ≡ form_of code }
 {

@@ -43,8 +43,8 @@ fn space_count(text: &[u8]) -> usize
     text.iter().filter(|byte| **byte == b' ').count()
 }
 
-/// The word for the part that is expected at a position after the name of a command. The first
-/// token names the command, and positions are counted from 0.
+/// The word for the part of a command that is expected at this position after the command's name,
+/// which is the first token. Positions are counted from 0.
 fn word_behind(words: &[u8], place: usize) -> &'static str
     ensures { result.now ≡ word_behind words.now place }
 {
@@ -82,7 +82,7 @@ fn begins_entry(token: &[u8]) -> bool
     token.starts_with(b"pw:") || token.starts_with(b"s:")
 }
 
-/// The word for the part at this position, after the name of a command with this many entries.
+/// The word for the part at this position after the command's name, if there are this many entries.
 fn word_in(code: CommandCode, entries: usize, place: usize) -> &'static str
     ensures { result.now ≡ get_or (words_behind code entries) place (codes "end of line") }
 {

@@ -6,7 +6,7 @@ use std::fmt;
 use tpm_bytes::{Short, SizedFault};
 use tpm_types::Rc;
 
-/// The reasons why no line is returned for a buffer.
+/// The reasons why no line was returned for a buffer.
 #[derive(Clone, Copy, PartialEq, Eq)]
 pub enum SpellFault {
     /// No line was found that encodes the buffer.

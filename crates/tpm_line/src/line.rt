@@ -1,5 +1,5 @@
-//! Finds the line of a buffer: writes a line, assembles it again, and compares the result with the
-//! buffer.
+//! Finds the line that encodes a buffer: writes a line, assembles it again, and compares the result
+//! with the buffer.
 
 ghost use Rattle.std.specs.Prelude.{◌≡◌, IfOk, Ok, OnOk, true};
 ghost use Rattle.std.specs.String.{string_bytes};

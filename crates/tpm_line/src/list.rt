@@ -9,7 +9,7 @@ use tpm_types::{PCR_COUNT, read_hash};
 /// The kinds of elements in a list.
 #[derive(Clone, Copy, PartialEq, Eq)]
 pub enum Element {
-    /// A selection of PCRs in a bank: TPMS_PCR_SELECTION.
+    /// The PCR selection for one bank: TPMS_PCR_SELECTION.
     Bank,
     /// A digest with its algorithm: TPMT_HA.
     Digest,
@@ -40,7 +40,7 @@ pub fn put_list<W: Write>(
     Ok(())
 }
 
-/// Adds the selected PCRs of a bank to the line.
+/// Adds the PCR selection for one bank to the line.
 fn put_bank<W: Write>(fields: &mut Cursor, line: &mut W) -> Result<(), SpellFault> {
     let hash = read_hash(fields)?;
     let _size = fields.u8()?;

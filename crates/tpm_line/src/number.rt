@@ -1,4 +1,4 @@
-//! Numbers in words: decimal, except that codes, sets of bits and handles are hexadecimal.
+//! Numbers in words. They are decimal, except that codes, sets of bits and handles are hexadecimal.
 
 use std::fmt::{self, Write};
 use tpm_commands::CommandCode;
@@ -13,8 +13,8 @@ pub enum Form {
 }
 
 impl Form {
-    /// The form of the number at this position among a command's parameters, if the number has
-    /// fewer than eight bytes.
+    /// Returns the form of a number with fewer than eight bytes, by its position among the
+    /// parameters of a command.
     pub fn of(code: CommandCode, place: usize) -> Form {
         match code {
             CommandCode::FlushContext | CommandCode::EvictControl => Form::Handle,

@@ -1,4 +1,4 @@
-//! A parameter in words, of any kind in a command's shape.
+//! Writes each parameter of a command in words.
 
 use crate::fault::SpellFault;
 use crate::list::{Element, put_list};
@@ -22,8 +22,8 @@ pub fn put_parameters<W: Write>(
     Ok(())
 }
 
-/// Adds a parameter of a kind to the line. A number of at most four bytes is written in the given
-/// form.
+/// Adds a parameter of this kind to the line. A number of at most four bytes is written in the
+/// given form.
 fn put_parameter<W: Write>(
     kind: ParameterKind,
     form: Form,
@@ -40,7 +40,7 @@ fn put_parameter<W: Write>(
         ParameterKind::U32 | ParameterKind::PersistentHandle => {
             put_number(u64::from(fields.u32()?), form, line)?;
         }
-        // A number of eight bytes is a set of bits.
+        // Numbers of eight bytes are sets of bits.
         ParameterKind::U64 => put_number(fields.u64()?, Form::Hexadecimal, line)?,
         ParameterKind::Hash | ParameterKind::HashOrNull => put_hash(fields, line)?,
         ParameterKind::Symmetric => put_symmetric(fields, line)?,

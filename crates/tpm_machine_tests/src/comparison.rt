@@ -1,5 +1,5 @@
-//! The comparison that every test uses. The prover proves an `assert!` again at each use; a call
-//! of this function takes a tenth of the time.
+//! The comparison that every test uses. The prover proves an `assert!` again at each use. Proving a
+//! call of this function takes a tenth of the time.
 
 use std::process::Abort;
 

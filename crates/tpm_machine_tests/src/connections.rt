@@ -38,7 +38,8 @@ const SECOND_ANSWERS: &[u8] = &[
 /// The response TPM_RC_COMMAND_SIZE.
 const WRONG_SIZE: &[u8] = &[0x80, 1, 0, 0, 0, 10, 0, 0, 1, 0x42];
 
-/// Feeds a byte, and appends the turn's response, if there is one, to the earlier responses.
+/// Feeds a byte to the connection, performs a turn, and appends the response, if there is one, to
+/// the earlier responses.
 fn add_answer<K: Keep>(
     mux: &mut Mux<K>,
     connection: ConnectionNumber,

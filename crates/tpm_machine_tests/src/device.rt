@@ -1,5 +1,5 @@
-//! A device, its host, and the bytes that are sent to it. The contracts of these functions are
-//! empty, so that the prover does not look at the bytes.
+//! A device, its host, and the bytes that are sent to it. The functions have no contracts, so that
+//! the prover does not look at the bytes.
 
 use std::alloc::Global;
 use std::test::Fail;

@@ -1,5 +1,5 @@
-//! A reader and a writer in memory, which transfer a few bytes at a time and fail at a given
-//! call.
+//! A reader and a writer in memory. Each transfers a few bytes at a time, and fails after a given
+//! number of calls.
 
 use std::io;
 use std::io::{ErrorKind, Read, Write};

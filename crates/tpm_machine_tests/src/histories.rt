@@ -22,8 +22,8 @@ enum Measurement {
     Reset,
 }
 
-/// The part of a command on PCR 16 before its parameters: its header, the handle, and an
-/// authorization area with an empty password.
+/// The beginning of a command for PCR 16: its header, the handle, and an authorization area with an
+/// empty password. The parameters follow it.
 fn header(size: u8, code: u8) -> [u8; 27] {
     [
         0x80, 2, 0, 0, 0, size, 0, 0, 1, code, 0, 0, 0, 16, 0, 0, 0, 9, 0x40, 0, 0, 9, 0, 0, 1, 0,
@@ -32,7 +32,7 @@ fn header(size: u8, code: u8) -> [u8; 27] {
 }
 
 impl Measurement {
-    /// The value of the PCR after the measurement, according to the definition.
+    /// The expected value of the PCR after the measurement.
     fn fold(self, old: Digest) -> Digest {
         let hash = HashAlg::Sha256;
         match self {

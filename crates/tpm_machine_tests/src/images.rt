@@ -12,7 +12,8 @@ use tpm_record::Keep;
 use tpm_step::Event;
 use tpm_types::Locality;
 
-/// A text in pieces: hex digits, and the number of zero bytes that follow them.
+/// A text as pieces. Each piece consists of hex digits, and the number of zero bytes that follow
+/// them.
 type Pieces = &'static [(&'static str, usize)];
 
 /// The image of a new device, made from the random bytes 00 to ff, as in
@@ -62,7 +63,7 @@ const NEW: Pieces = &[
 ];
 
 /// The image of a device whose TPM2_Shutdown(STATE) saved PCRs 0 to 15, as in
-/// tests/images/version_1/saved.hex. PCR 3 has a value; PCR 16 also had a value, and a session
+/// tests/images/version_1/saved.hex. Before the shutdown, PCRs 3 and 16 had values, and a session
 /// existed.
 const SAVED: Pieces = &[
     (
@@ -179,8 +180,8 @@ fn the_image_of_a_new_device(rt: HostRuntime) -> Result<(), Fail> {
     run_over_both(NewDevice, &rt, rt.alloc())
 }
 
-/// The error for a text that starts like the image of the new device, has this size, and differs
-/// in the byte at an offset.
+/// The error for a text of this size that begins like the image of the new device, but has a
+/// different byte at one offset.
 fn fault_of<K: Keep>(
     alloc: Global,
     length: usize,
@@ -195,7 +196,7 @@ fn fault_of<K: Keep>(
     Ok(outcome.err())
 }
 
-/// The size of a text, the offset of its different byte, and the error.
+/// The size of a text, the offset of its changed byte, and the error.
 const FAULTS: [(usize, usize, ImageFault); 5] = [
     (41, 0, ImageFault::Short),
     (355, 0, ImageFault::Magic),
@@ -244,8 +245,8 @@ const READ: Exchange = (
     ],
 );
 
-/// TPM2_PolicyGetDigest for the session that existed before the power cycle. The response is
-/// REFERENCE_H0.
+/// TPM2_PolicyGetDigest for the session that existed before the power cycle. It is refused with
+/// TPM_RC_REFERENCE_H0.
 const POLICY: Exchange = (
     "80010000000e0000018903000000",
     &[("80010000000a00000910", 0)],
@@ -258,7 +259,7 @@ const START: Exchange = (
     &[("80010000002000000000030000000010", 16)],
 );
 
-/// Checks how a device responds to a buffer.
+/// Checks the device's response to a buffer.
 fn check_answer<K: Keep, R: Abort>(
     rt: &R,
     alloc: Global,

@@ -8,7 +8,7 @@ use tpm_lists::{Task, run_over_lists};
 use tpm_record::Keep;
 use tpm_slots::SlotKeep;
 
-/// A test with any type that implements `Keep`.
+/// A test that can run with any type that implements `Keep`.
 pub trait Trial {
     fn run<K: Keep, R: Abort>(rt: &R, alloc: Global) -> Result<(), Fail>;
 }

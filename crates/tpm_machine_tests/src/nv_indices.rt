@@ -34,7 +34,7 @@ const BITS: &[u8] = b"\x01\0\0\x01\0\x0b\x08\x04\x40\x24\0\0\0\x08";
 /// An index that can be extended, with nameAlg SHA-1.
 const EXTENDED: &[u8] = b"\x01\0\0\x01\0\x04\0\x04\0\x44\0\0\0\x14";
 
-/// An ordinary index whose public area says that it has been written.
+/// An ordinary index whose public area has the attribute WRITTEN set.
 const WRITTEN: &[u8] = b"\x01\0\0\x01\0\x0b\x20\x04\0\x04\0\0\0\x08";
 
 /// A counter of four bytes.
@@ -44,8 +44,8 @@ const SHORT_COUNTER: &[u8] = b"\x01\0\0\x02\0\x0b\0\x04\0\x14\0\0\0\x04";
 const DIGEST: &[u8] =
     b"\x82\x6e\xb4\x34\xa3\xb9\x98\xd5\x2e\x8f\x8d\x6f\xf9\x74\x18\xcb\x60\xd5\x25\x6e";
 
-/// The outcome of a definition: there is no public area, or a check failed, or the call returned
-/// a result.
+/// The outcome of defining an index: the text is not a public area, a check failed, or the call
+/// returned a result.
 #[derive(Clone, Copy, PartialEq, Eq)]
 enum Outcome {
     Unread,
@@ -64,7 +64,7 @@ fn defined<N: Indices>(indices: &mut N, text: &[u8]) -> Outcome {
     }
 }
 
-/// Defines the index with this public area, without checking it.
+/// Defines the index with this public area, without checking the area first.
 fn defined_unchecked<N: Indices>(indices: &mut N, text: &[u8]) -> Option<Result<(), DefineFault>> {
     match NvPublic::read(&mut Cursor::new(text)) {
         Ok(public) => Some(indices.define(public, AuthValue::of(b"a"))),
@@ -79,7 +79,7 @@ fn is_read<N: Indices>(indices: &N, handle: Handle, size: u16, bytes: &[u8]) -> 
     }
 }
 
-/// The fault of reading the first byte of an index, if there is one.
+/// The fault when the first byte of an index is read, or None if the read succeeds.
 fn read_fault<N: Indices>(indices: &N, handle: Handle) -> Option<ReadFault> {
     indices.read(handle, 0, 1).err()
 }
@@ -100,7 +100,7 @@ fn has_public<N: Indices>(indices: &N, handle: Handle, text: &[u8]) -> bool {
     }
 }
 
-/// Definitions that are refused, and one that succeeds.
+/// Defines indices. Some definitions are refused, and one succeeds.
 fn definitions<N: Indices>(rt: &impl Abort, indices: &mut N) {
     check(
         rt,
@@ -123,7 +123,7 @@ fn definitions<N: Indices>(rt: &impl Abort, indices: &mut N) {
     check(rt, has_public(indices, SECOND, ORDINARY), false);
 }
 
-/// Writes to an ordinary index, and writes that are refused.
+/// Writes to an ordinary index. Some writes are refused.
 fn writes<N: Indices>(rt: &impl Abort, indices: &mut N) {
     check(
         rt,
@@ -160,7 +160,7 @@ fn changes<N: Indices>(rt: &impl Abort, indices: &mut N) {
     check(rt, indices.undefine(FIRST), false);
 }
 
-/// Counts with a counter, starting from the largest count; and sets bits.
+/// Increments a counter, starting from the largest count; and sets bits in a bit field.
 fn counts<N: Indices>(rt: &impl Abort, indices: &mut N) {
     check(rt, defined(indices, COUNTER), Outcome::Answered(Ok(())));
     indices.set_max_count(7);
@@ -178,7 +178,7 @@ fn counts<N: Indices>(rt: &impl Abort, indices: &mut N) {
     );
 }
 
-/// Locks indices until the next startup, which leaves a counter unchanged and clears bits.
+/// Locks indices until the next startup, which leaves a counter unchanged and clears a bit field.
 fn locks<N: Indices>(rt: &impl Abort, indices: &mut N) {
     check(rt, indices.lock_write(FIRST), Ok(()));
     check(rt, indices.set_bits(FIRST, 1), Err(WriteFault::Locked));
@@ -217,8 +217,8 @@ fn counters<N: Indices>(rt: &impl Abort, mut indices: N) {
     locks(rt, &mut indices);
 }
 
-/// Makes each call on indices in one kind of container. Two functions call this one, each for one
-/// kind, because a function that names a kind is slow to prove.
+/// Makes each call on NV indices that are stored in `N`. This function is called from two others,
+/// each with a specific `N`, because a function with a specific `N` is slow to prove.
 fn exercise<N: Indices, R: Abort>(rt: &R, alloc: Global) {
     ordinary(rt, N::new(alloc));
     counters(rt, N::new(alloc));

@@ -1,4 +1,4 @@
-//! The report of a run about each of its events.
+//! What a run reports about each of its events.
 
 use super::comparison::check;
 use super::keeps::{Trial, run_over_both};
@@ -28,10 +28,10 @@ fn events() -> [Event<'static>; 3] {
     ]
 }
 
-/// The report of a run about an event: the length of its response, and its row.
+/// What a run reports about an event: the length of its response, and its row.
 type Told = (usize, Row);
 
-/// The reports of a run about these events, in order.
+/// What a run reports about these events, in order.
 fn told_of<K: Keep>(
     alloc: Global,
     machine: &mut Machine<K>,

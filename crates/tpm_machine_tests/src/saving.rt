@@ -1,4 +1,4 @@
-//! Saves a device to a writer, with each write failing in turn.
+//! Saves a device to a writer. In each trial a different write fails.
 
 use super::comparison::check;
 use super::failing::Sink;

@@ -1,5 +1,5 @@
-//! Serves one connection in memory: with the input split into pieces of two sizes, and with each
-//! read, each write and each value from the host failing in turn.
+//! Serves one connection in memory, with the input split into pieces of two sizes. In further
+//! trials, each read, each write and each value from the host fails in turn.
 
 use super::comparison::check;
 use super::connections::{FIRST, FIRST_ANSWERS};
@@ -22,8 +22,8 @@ struct Limits {
     values: usize,
 }
 
-/// Limits that suffice for the three buffers: a read for each byte and one for the end, eight
-/// writes of at most five bytes, and one value per buffer.
+/// Limits that suffice for three buffers: one read for each byte and one for the end, eight writes
+/// of at most five bytes, and one value for each buffer.
 const ENOUGH: Limits = Limits {
     size: 1,
     reads: 37,
@@ -121,8 +121,8 @@ fn pieces_of_one_byte_and_of_all_are_one_stream(rt: HostRuntime) -> Result<(), F
     run_over_both(NothingFails, &rt, rt.alloc())
 }
 
-/// A trial in which each read of one byte fails in turn. The buffers that were complete before
-/// the failure, of twelve bytes each, get their responses.
+/// A trial in which each read of one byte fails in turn. The buffers that were complete before the
+/// failure get their responses. Each buffer has twelve bytes.
 #[derive(Drop)]
 struct EachRead;
 
@@ -143,7 +143,7 @@ fn each_read_fails(rt: HostRuntime) -> Result<(), Fail> {
 }
 
 /// For each write: the number of bytes written before it, and the number of commands executed by
-/// then. The responses are ten, thirteen and fourteen bytes long.
+/// then. The responses have ten, thirteen and fourteen bytes.
 const WRITES: [(usize, u64); 8] = [
     (0, 1),
     (5, 1),

@@ -48,7 +48,7 @@ const PLAIN: &[u8] = b"a parameter of 25 bytes..";
 const ENCRYPTED: &[u8] = b"\xa2\x50\xc0\xbe\x24\xaf\x83\xc1\xd4\x33\x10\xe8\x13\x7b\x2c\x2f\
     \xe5\x90\xfe\x91\xcb\x85\x69\xf0\x12";
 
-/// The parameter XORed with KDFa's bytes for "XOR".
+/// The parameter after XOR encryption with the bytes that KDFa derives for "XOR".
 const MASKED: &[u8] = b"\xb9\xa7\x60\x5e\xe4\x00\x34\x4b\xa2\xa5\x9c\x4f\x9c\x9d\xc9\x93\
     \x3c\xd9\x6c\x50\x40\xb3\xcc\x47\x08";
 
@@ -83,7 +83,7 @@ fn start(kind: SessionType, binding: Option<Binding>) -> Start<'static>
     }
 }
 
-/// The number in the handle of a new session.
+/// Starts a session, and returns the number in its handle.
 fn started<S: Slots<Session, SESSION_LIMIT>>(
     sessions: &mut Sessions<S>,
     kind: SessionType,
@@ -116,7 +116,7 @@ fn find_sessions<S: Slots<Session, SESSION_LIMIT>, R: Abort>(rt: &R, alloc: Glob
     flush_policy(rt, &mut sessions);
 }
 
-/// Starts a session of each type; they get the lowest free numbers.
+/// Starts a session of each type. The sessions get the lowest free numbers.
 fn start_three<S: Slots<Session, SESSION_LIMIT>, R: Abort>(rt: &R, sessions: &mut Sessions<S>) {
     for (kind, number) in [
         (SessionType::Hmac, 0x0200_0000),
@@ -162,7 +162,7 @@ fn roll_policy<S: Slots<Session, SESSION_LIMIT>, R: Abort>(rt: &R, sessions: &mu
     check(rt, nonce_of(sessions, 0x0300_0002), Some(NONCE_TPM));
 }
 
-/// Ends the policy session; a new one then gets its number.
+/// Flushes the policy session. A new session then gets its number.
 fn flush_policy<S: Slots<Session, SESSION_LIMIT>, R: Abort>(rt: &R, sessions: &mut Sessions<S>) {
     check(rt, sessions.flush(POLICY), true);
     check(rt, sessions.flush(POLICY), false);
@@ -237,7 +237,7 @@ fn bound_session<R: Abort>(rt: &R, symmetric: SymmetricDefinition) -> Session {
     .expect(rt, "the sizes are those of SHA-256")
 }
 
-/// An unbound session with SHA-256, if a nonce of this size and this key are allowed.
+/// An unbound session with SHA-256, or None if a nonce of this size or this key is not allowed.
 fn unbound_session(nonce: usize, key: SessionKey) -> Option<Session>
     requires { nonce ≤ 32 }
 {
@@ -267,7 +267,8 @@ fn a_session_has_the_sizes_of_its_hash(rt: HostRuntime) {
 
 const ATTRIBUTES: SessionAttributes = SessionAttributes { octet: 0x21 };
 
-/// The data that the HMAC of a command's entry covers, with the nonces of two other sessions.
+/// The data that the HMAC of a command's entry covers, including the nonces of the sessions that
+/// decrypt and encrypt.
 fn command_text() -> CommandText<'static> {
     CommandText {
         hash: COMMAND_HASH,

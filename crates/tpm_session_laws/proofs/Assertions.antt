@@ -1,4 +1,4 @@
--- No assertion survives an event that leaves a session without assertions.
+-- No assertion of a session survives an event that leaves the session without assertions.
 use Rattle.std.proofs.Common.{◌≡◌, ◌⊎◌, ℕ, Bool, true, false, cond, List, [], ◌∷◌, ◌++◌, length, take, drop, map, Option, Some, None, option_map, Result, Ok, Err, refl, ap, sym, subst, ◌∙◌, inl, inr}
 use Rattle.std.specs.Prelude.{is_some, ok_or}
 use Rattle.std.specs.List.{zip}
@@ -26,7 +26,7 @@ use Rattle.tpm_step.specs.rows.Draws.{draws_of}
 use Rattle.tpm_step.proofs.HandleMap.{at_other, at_same, same_handle}
 use Rattle.tpm_session_laws.specs.Assertions.{LeavesNoAssertion, NoneStandsThrough}
 
--- The session has no assertion, if it exists.
+-- If the session exists, it has no assertion.
 abbrev IsBare : Option LiveSession → Type 0
 IsBare None = Unit {0}
 IsBare (Some s) = s.assertions ≡ []

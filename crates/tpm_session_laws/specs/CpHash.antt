@@ -7,7 +7,7 @@ use Rattle.tpm_step.specs.EntryHmacs.{cp_hash_in}
 use Rattle.tpm_step.specs.History.{AcceptedCommand, History}
 use Rattle.tpm_step.specs.PolicyReviews.{IsUsedBySession, UsesObject}
 
--- An object whose policy is a cpHash is used only by a command with this cpHash.
+-- An object whose policy requires a cpHash is used only by a command with this cpHash.
 abbrev pub NeedsCpHash : History → AcceptedCommand → Type 0
 NeedsCpHash history c =
     (place : ℕ) (public : Public) (cp_hash : List ℕ)

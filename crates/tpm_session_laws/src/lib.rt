@@ -19,8 +19,8 @@ pub fn assertion_laws()
     ensures { NoneStandsThrough }
 {}
 
-/// Since a device was manufactured, an object without userWithAuth whose policy is a cpHash has
-/// been used only by commands with this cpHash, or the hash is broken.
+/// Unless the hash is broken, an object without userWithAuth whose policy requires a cpHash was
+/// used, since the device was manufactured, only by commands with this cpHash.
 #[inline(always)]
 #[tactic(auto, using(crate::proofs::CpHash::each_needs_cp_hash))]
 pub fn cp_hash_laws()

@@ -9,7 +9,7 @@ use tpm_machine::Machine;
 use tpm_record::Keep;
 use tpm_state_text::{RestoreFault, StateFault, restored};
 
-/// The offsets at which a sized field of the session starts and ends in the text of the device.
+/// The offsets in the device's state text at which a sized field of the session starts and ends.
 #[derive(Clone, Copy)]
 struct Field {
     start: usize,
@@ -31,8 +31,8 @@ const POLICY_DIGEST: Field = Field {
     end: 1_671,
 };
 
-/// The text with this sized field replaced by one of `size` zero bytes, in a frame with the right
-/// length and digest.
+/// Replaces this sized field of the text by one with `size` zero bytes, and corrects the length and
+/// the digest.
 fn sized(alloc: Global, text: &[u8], field: Field, size: u8) -> Result<Vec<u8>, Fail> {
     if text.len() != 1_733 || field.start < 10 || field.end < field.start || field.end > 1_701 {
         return Err(Fail::new("no such field"));

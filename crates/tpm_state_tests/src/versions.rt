@@ -1,4 +1,4 @@
-//! A state text of version 1: a device is restored from it, but a journal does not begin with it.
+//! A state text of version 1. A device can be restored from it, but a journal cannot begin with it.
 
 use super::snapshots::{Trial, check, device, run_over_both, text_of};
 use std::alloc::Global;
@@ -9,8 +9,7 @@ use tpm_machine::Machine;
 use tpm_record::Keep;
 use tpm_state_text::{RestoreFault, StateFault, restored};
 
-/// The body of this state text in the frame of version 1. Without a layer, the bodies of both
-/// versions are the same.
+/// This state text with the frame of version 1. Without a layer, both versions have the same body.
 fn earlier(alloc: Global, text: &[u8]) -> Result<Vec<u8>, Fail> {
     if text.len() != 1_733 {
         return Err(Fail::new("no such text"));

@@ -15,7 +15,7 @@ fn set<M: SortedMap<u32, 3>>(map: &mut M, key: u32, value: u32) -> bool {
     }
 }
 
-/// Makes each call on a map with at most three values, and checks the results.
+/// Makes each call on a map of at most three values, and checks the results.
 fn exercise<R: Abort, M: SortedMap<u32, 3>>(rt: &R, mut map: M) {
     check(rt, map.len(), 0);
     check(rt, map.next(0), None);

@@ -7,7 +7,7 @@ use tpm_mac::HashAlg;
 use tpm_pcr::{Banks, SavedPcrs};
 use tpm_types::{BankSelection, Locality, PcrIndex, PcrSelect, PcrSelection};
 
-/// The digests of the selection below on a new device.
+/// The digests of the PCR selection in the test below, on a new device.
 const DIGESTS: [(HashAlg, &[u8]); 2] = [
     (
         HashAlg::Sha256,

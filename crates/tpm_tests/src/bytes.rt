@@ -5,8 +5,8 @@ use std::io;
 use std::io::{ErrorKind, Read, Write};
 use tpm_bytes::{Cursor, Full, Short, Sink, SizedFault, Tap};
 
-/// Sixteen different bytes, to be read as numbers of one, two, four and eight bytes, followed by
-/// one more byte.
+/// Sixteen different bytes: fifteen are read as numbers of one, two, four and eight bytes, and one
+/// remains.
 const TEXT: &[u8] = b"\x10\x21\x32\x43\x54\x65\x76\x87\x98\xa9\xba\xcb\xdc\xed\xfe\x0f";
 
 /// Returns its argument. The prover knows nothing about bytes that a call returns, and therefore
@@ -38,8 +38,8 @@ fn a_sized_buffer_has_a_limit(rt: HostRuntime) {
     check(&rt, cursor.sized(3), Err(SizedFault::Short));
 }
 
-/// Writes fifteen bytes as numbers of each width, then three bytes in a sized buffer and two
-/// plain ones.
+/// Writes fifteen bytes as numbers of each width, then a sized buffer of three bytes, and then two
+/// plain bytes.
 fn fill(sink: &mut Sink<20>) -> Result<(), Full> {
     sink.put_u8(0x10)?;
     sink.put_u16(0x2132)?;
@@ -83,8 +83,8 @@ impl Conduct {
     }
 }
 
-/// A reader and writer that behaves at each call as the next of `conducts` says, and then reads or
-/// writes nothing.
+/// A reader and writer. Each of its calls behaves as the next of `conducts` says. Later calls read
+/// or write nothing.
 #[derive(Drop)]
 struct Device {
     conducts: &'static [Conduct],
@@ -121,7 +121,7 @@ impl Write for Device {
     }
 }
 
-/// The number of bytes that a call read or wrote, or the kind of its error.
+/// The number of bytes that a call read or wrote, or the kind of the call's error.
 fn outcome_of(given: io::Result<usize>) -> Result<usize, ErrorKind> {
     match given {
         Ok(count) => Ok(count),
@@ -129,7 +129,7 @@ fn outcome_of(given: io::Result<usize>) -> Result<usize, ErrorKind> {
     }
 }
 
-/// Whether a tap's device failed, whether it reached its end, and how many reads were made.
+/// Whether a tap's device failed, whether it reached its end, and how often it was read.
 fn marks_of(tap: &Tap<Device>) -> (bool, bool, u64) {
     (tap.failed(), tap.ended(), tap.reads())
 }
@@ -235,8 +235,8 @@ impl Write for CountedDevice {
     }
 }
 
-/// How often a tap calls its device, which behaves in this way, for one read, for one write, and
-/// for one flush.
+/// How often a tap calls its device for one read, for one write, and for one flush. The device
+/// behaves as `conduct` says.
 fn calls_of(conduct: Conduct, bytes: &[u8]) -> [u32; 3] {
     let calls = 0;
     let mut read = Tap::new(CountedDevice { conduct, calls });

@@ -82,8 +82,8 @@ fn printed_bytes()
     table_laws();
 }
 
-/// The ciphertext of a block of zeros with a key that repeats one byte, computed by OpenSSL. The
-/// first round and the first round key look up only this byte.
+/// The ciphertexts of a block of zeros, computed by OpenSSL. Each key repeats one byte. The first
+/// round and the first round key look up only this byte.
 const ZEROS_BY_ONE_BYTE: [(u8, [u8; 16]); 2] = [
     (
         0x00,

@@ -219,7 +219,7 @@ struct KeyCase {
     derived: &'static [u8],
 }
 
-// Keys of 45 bytes, which is not a multiple of a digest's size
+// Keys of 45 bytes, a size that is not a multiple of a digest's size
 const KEYS: [KeyCase; 2] = [
     KeyCase {
         alg: HashAlg::Sha1,
@@ -244,7 +244,7 @@ fn keys_are_derived(rt: HostRuntime) {
     }
 }
 
-/// The buffer before a key is derived into its first bytes.
+/// The contents of the buffer before a key is derived into its first bytes.
 const UNTOUCHED: [u8; 80] = [0x55; 80];
 
 // The block of KDFa with this counter, computed only with HMAC; `bits` is the total number of

@@ -1,11 +1,10 @@
-//! Failed tries and lockoutAuth, tested to the millisecond and near the maximum values of their
-//! numbers.
+//! Failed tries and lockoutAuth, tested to the millisecond and near the largest possible values.
 
 use super::comparison::check;
 use tpm_lockout::{Lockout, LockoutFields};
 
-/// Lockout with this number of failed tries, out of at most three. Each is forgiven after this
-/// many seconds, and lockoutAuth is disabled for the same time.
+/// Lockout with this number of failed tries. maxTries is 3. Each try is forgiven after this many
+/// seconds, and lockoutAuth is disabled for the same time.
 fn locked(failed_tries: u32, seconds: u32) -> Lockout {
     Lockout::restore(LockoutFields {
         failed_tries,

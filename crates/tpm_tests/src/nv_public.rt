@@ -27,14 +27,14 @@ fn public_of(text: &[u8]) -> Option<NvPublic> {
     NvPublic::read_sized(&mut Cursor::new(text)).ok()
 }
 
-/// The public area decoded from a text, encoded again with its size.
+/// The public area decoded from a text, and encoded again with its size.
 fn rewritten(text: &[u8]) -> Option<ArrayVec<u8, 48>> {
     let mut sink = Sink::new();
     public_of(text)?.copy().write_sized(&mut sink).ok()?;
     Some(sink.into_bytes())
 }
 
-/// The public area decoded from a text, encoded again without its size.
+/// The public area decoded from a text, and encoded again without its size.
 fn rewritten_bare(text: &[u8]) -> Option<ArrayVec<u8, 46>> {
     let mut sink = Sink::new();
     public_of(text)?.write(&mut sink).ok()?;
@@ -57,7 +57,7 @@ fn has_name(text: &[u8], name: &[u8]) -> bool {
     }
 }
 
-/// The error for a public area without its size, if the area is refused.
+/// The error when a public area without its size is decoded, or None if it is accepted.
 fn fault_of(text: &[u8]) -> Option<ResponseCode> {
     match NvPublic::read(&mut Cursor::new(text)) {
         Ok(_) => None,

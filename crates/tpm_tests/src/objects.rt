@@ -47,14 +47,14 @@ fn primary_of(template: &[u8], given: &[u8]) -> Option<Object> {
     Some(derive_primary(HierarchyHandle::Owner, SEED, &template, &given))
 }
 
-/// The public area decoded from a text, encoded again without its size.
+/// The public area decoded from a text, and encoded again without its size.
 fn rewritten_public(text: &[u8]) -> Option<ArrayVec<u8, 82>> {
     let mut sink = Sink::new();
     public_of(text)?.copy().write(&mut sink).ok()?;
     Some(sink.into_bytes())
 }
 
-/// The sensitive area decoded from a text, encoded again without its size.
+/// The sensitive area decoded from a text, and encoded again without its size.
 fn rewritten_sensitive(text: &[u8]) -> Option<ArrayVec<u8, 200>> {
     let area = Sensitive::read_sized(&mut Cursor::new(text)).ok()?;
     let mut sink = Sink::new();
@@ -62,7 +62,7 @@ fn rewritten_sensitive(text: &[u8]) -> Option<ArrayVec<u8, 200>> {
     Some(sink.into_bytes())
 }
 
-/// The creation data decoded from a text, encoded again without their size.
+/// The creation data decoded from a text, and encoded again without their size.
 fn rewritten_creation(text: &[u8]) -> Option<ArrayVec<u8, 245>> {
     let creation = CreationData::read_sized(&mut Cursor::new(text)).ok()?;
     let mut sink = Sink::new();
@@ -118,8 +118,8 @@ fn templates_are_checked(rt: HostRuntime) {
     check(&rt, faults_of(KEY, NOTHING), Some((false, true)));
 }
 
-/// Whether a sensitive area that is created and wrapped by a storage key can be unwrapped with
-/// the public area for which it was wrapped, and with no other.
+/// Whether a created sensitive area, wrapped by a storage key, can be unwrapped with its own public
+/// area, but not with the template.
 fn is_unwrapped() -> Option<bool> {
     let parent = primary_of(STORAGE, NOTHING)?;
     let (template, given) = (public_of(KEY)?, given_of(JEFE)?);

@@ -1,5 +1,5 @@
-//! Policy digests computed by Python's `hashlib`, and the conditions that refuse the use of a
-//! policy.
+//! Policy digests computed by Python's `hashlib`, and the conditions of a policy, each of which can
+//! refuse its use.
 
 use super::comparison::check;
 use std::process::Abort;
@@ -30,7 +30,7 @@ const COMMAND_CODE: &[u8] = b"\x5b\xe1\x5b\x50\xc0\x23\x8a\x19\xfb\x28\x12\xee\x
 const LOCALITY: &[u8] = b"\x77\x64\x49\x1d\x5a\xfe\x71\x90\x35\xc0\xc0\x9f\xaa\x90\xc3\x49\
     \x0a\x74\x75\xd6\xdf\x42\x2b\x80\x4e\x8f\x68\xaa\x65\xf8\x93\x4f";
 
-/// The policy digest of TPM2_PolicyPCR for PCR 0 in the SHA-256 bank, whose value is all zeros.
+/// The policy digest of TPM2_PolicyPCR for PCR 0 in the SHA-256 bank, if the PCR is all zeros.
 const PCR: &[u8] = b"\x09\x3c\xeb\x41\x18\x1d\x47\x80\x88\x62\xd7\x94\x62\x68\xee\x6a\
     \x17\xa1\x0e\x3d\x1b\x79\xb3\x23\x51\xbc\x56\xe4\xbe\xac\xef\xf0";
 
@@ -38,7 +38,7 @@ const PCR: &[u8] = b"\x09\x3c\xeb\x41\x18\x1d\x47\x80\x88\x62\xd7\x94\x62\x68\xe
 const ZEROS_HASH: &[u8] = b"\x66\x68\x7a\xad\xf8\x62\xbd\x77\x6c\x8f\xc1\x8b\x8e\x9f\x8e\x20\
     \x08\x97\x14\x85\x6e\xe2\x33\xb3\x90\x2a\x59\x1d\x0d\x5f\x29\x25";
 
-/// The policy digests `COMMAND_CODE` and `LOCALITY`, as the list in TPM2_PolicyOR.
+/// The list in TPM2_PolicyOR, with the policy digests `COMMAND_CODE` and `LOCALITY`.
 const BRANCHES: &[u8] = b"\x00\x00\x00\x02\
     \x00\x20\x5b\xe1\x5b\x50\xc0\x23\x8a\x19\xfb\x28\x12\xee\x10\xf5\xed\xa0\
     \x6b\x24\xd8\x8f\xd4\xdf\x45\x14\xe4\xba\xdf\x55\x15\xa6\xdc\x11\
@@ -49,14 +49,14 @@ const BRANCHES: &[u8] = b"\x00\x00\x00\x02\
 const OR: &[u8] = b"\x5c\xd8\x1d\x2a\xc9\x60\x77\x5e\x3d\x72\xf3\x00\x07\xe7\xb0\x40\
     \x46\x21\x3b\x08\x17\xc4\x88\x82\x09\x81\x75\xbd\xb3\x05\xb3\xb5";
 
-/// The selection of PCR 0 in the SHA-256 bank.
+/// The PCR selection of PCR 0 in the SHA-256 bank.
 const SELECTION: &[u8] = b"\x00\x00\x00\x01\x00\x0b\x03\x01\x00\x00";
 
 const GET_RANDOM: u32 = 0x17b;
 
 const CP_HASH: &[u8] = &[0xcc; 32];
 
-/// The assertion that the selected PCR is all zeros, after 7 changes of PCRs.
+/// The assertion that the selected PCR is all zeros. It was made when pcrUpdateCounter was 7.
 fn pcr(selection: &PcrSelection) -> PcrAssertion<'_> {
     PcrAssertion {
         given: ZEROS_HASH,
@@ -117,7 +117,7 @@ fn either_branch_leads_to_one_digest(rt: HostRuntime) {
     check(&rt, state.digest(), OR);
 }
 
-/// Asserts PCR 0 (after 7 changes of PCRs), TPM2_GetRandom, its cpHash, a written index, and
+/// Asserts PCR 0 (with pcrUpdateCounter 7), TPM2_GetRandom, its cpHash, a written index, and
 /// locality 0.
 fn assert_all(state: &mut PolicyState, selection: &PcrSelection) -> Result<(), ActionFault> {
     let name = Name::of_handle(Handle::ENDORSEMENT);
@@ -129,7 +129,8 @@ fn assert_all(state: &mut PolicyState, selection: &PcrSelection) -> Result<(), A
     state.locality(HashAlg::Sha256, 0x01)
 }
 
-/// A use of the policy of `assert_all`, in which every condition from this number on fails.
+/// A use of the policy of `assert_all`, in which the condition with this number and all later ones
+/// fail.
 fn spoiled_from(condition: u8, digest: &[u8], locality: Locality) -> Use<'_> {
     let entity = EntityPolicy {
         hash: HashAlg::Sha256,
@@ -162,7 +163,7 @@ fn spoiled_from(condition: u8, digest: &[u8], locality: Locality) -> Use<'_> {
     }
 }
 
-/// For each condition by number: the refusal if it and every later condition fail.
+/// For each condition by number: the refusal if this condition and all later ones fail.
 fn refusals() -> [(u8, Rc); 8] {
     let policy_fail = ResponseCode::PolicyFail.anywhere().at_session(1);
     [
@@ -197,7 +198,7 @@ fn locality_from<R: Abort>(rt: &R, condition: u8) -> Locality {
     Locality::new(number).expect(rt, "locality 0 or 1")
 }
 
-/// The result of a use in which every condition from this number on fails.
+/// The result of a use in which the condition with this number and all later ones fail.
 fn answer_from<R: Abort>(rt: &R, state: &PolicyState, condition: u8) -> Result<Demand, Rc> {
     let locality = locality_from(rt, condition);
     state.check_use(&spoiled_from(condition, state.digest(), locality))

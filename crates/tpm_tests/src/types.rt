@@ -13,14 +13,14 @@ use tpm_types::{
 use tpm_types_command::{AuthEntry, Command};
 use tpm_types_name::Name;
 
-/// A buffer with TPM2_PCR_Reset of PCR 16, a nonce of two bytes and the password "abc": the
-/// header, the handle, the area's size, and its entry.
+/// The buffer of TPM2_PCR_Reset for PCR 16, with a nonce of two bytes and the password "abc": the
+/// header, the handle, the size of the authorization area, and its entry.
 const PCR_RESET: &[u8] = b"\x80\x02\x00\x00\x00\x20\x00\x00\x01\x3d\
     \x00\x00\x00\x10\
     \x00\x00\x00\x0e\
     \x40\x00\x00\x09\x00\x02\xaa\xbb\x01\x00\x03abc";
 
-/// The selection of the SHA-256 PCRs 0, 10 and 23.
+/// The PCR selection of PCRs 0, 10 and 23 in the SHA-256 bank.
 const SELECTION: &[u8] = b"\x00\x00\x00\x01\x00\x0b\x03\x01\x04\x80";
 
 /// A list of two digests: SHA-1 with twenty bytes 01, and SHA-256 with thirty-two bytes 02.
@@ -29,7 +29,7 @@ const DIGESTS: &[u8] = b"\x00\x00\x00\x02\
     \x00\x0b\x02\x02\x02\x02\x02\x02\x02\x02\x02\x02\x02\x02\x02\x02\x02\x02\
     \x02\x02\x02\x02\x02\x02\x02\x02\x02\x02\x02\x02\x02\x02\x02\x02";
 
-/// Response codes that contain a parameter, handle or session number, and others.
+/// Response codes that contain the number of a parameter, handle or session, and others.
 fn placed_codes() -> [(Rc, u32); 6] {
     [
         (ResponseCode::Value.anywhere().at_parameter(1), 0x1c4),
@@ -132,7 +132,7 @@ fn a_hierarchy_has_its_handle_as_its_name(rt: HostRuntime) {
     check(&rt, name.is_same(&Name::of_handle(Handle::PLATFORM)), false);
 }
 
-/// The number of the error in a command's buffer, or 0.
+/// The response code of the error in a command's buffer, or 0.
 fn fault_of(buffer: &[u8]) -> u32 {
     match Command::read(&mut Cursor::new(buffer)) {
         Ok(_) => 0,
@@ -140,7 +140,7 @@ fn fault_of(buffer: &[u8]) -> u32 {
     }
 }
 
-/// Buffers, each with the number of its first error.
+/// Buffers, each with the response code of its first error.
 const FAULTS: [(&[u8], u32); 7] = [
     (b"\x00\xc1\x00\x00\x00\x0b\x00\x00\x01", 0x142),
     (b"\x00\xc1\x00\x00\x00\x0b\x00\x00\x01\x46", 0x01e),
@@ -186,7 +186,7 @@ fn a_command_has_parts(rt: HostRuntime) {
     check(&rt, counts_of(PCR_RESET), Some((1, 1, Some(32))));
 }
 
-/// The command decoded from a buffer, encoded again.
+/// The command decoded from a buffer, and encoded again.
 fn rewritten_command(buffer: &[u8]) -> Option<ArrayVec<u8, 32>> {
     let Ok(command) = Command::read(&mut Cursor::new(buffer)) else {
         return None;
@@ -198,7 +198,7 @@ fn rewritten_command(buffer: &[u8]) -> Option<ArrayVec<u8, 32>> {
     Some(sink.into_bytes())
 }
 
-/// The selection decoded from a text, encoded again.
+/// The PCR selection decoded from a text, and encoded again.
 fn rewritten_selection(text: &[u8]) -> Option<ArrayVec<u8, 10>> {
     let Ok(selection) = PcrSelection::read(&mut Cursor::new(text)) else {
         return None;
@@ -210,7 +210,7 @@ fn rewritten_selection(text: &[u8]) -> Option<ArrayVec<u8, 10>> {
     Some(sink.into_bytes())
 }
 
-/// The digests decoded from a text, encoded again.
+/// The digests decoded from a text, and encoded again.
 fn rewritten_digests(text: &[u8]) -> Option<ArrayVec<u8, 62>> {
     let Ok(digests) = DigestValues::read(&mut Cursor::new(text)) else {
         return None;
@@ -241,7 +241,7 @@ fn what_is_read_is_written_so(rt: HostRuntime) {
     check(&rt, is_text(rewritten_digests(DIGESTS), DIGESTS), true);
 }
 
-/// Whether a text encodes the selection of these banks.
+/// Whether a text encodes a PCR selection of these banks.
 fn has_banks(text: &[u8], banks: &[BankSelection]) -> bool {
     match PcrSelection::read(&mut Cursor::new(text)) {
         Ok(selection) => selection.banks.as_slice() == banks,

@@ -154,7 +154,8 @@ module _ (line : List ℕ) (code : CommandCode) (one : List Token) (n : name_in 
         unfolding assembled spelled command_size command_text command_body_text body
         whole e = rw (n, h, s, p, e) refl
 
-        -- After ten bytes for the header, the draft contains the encoding of the command.
+        -- Finishing a draft that contains ten reserved bytes and then the rest of the command
+        -- yields the encoding of the command.
         command_is : ended four ≡ Ok tt → (ten : List ℕ) → length ten ≡ 10 → finished (tag_for entries) code (grown (Some ten) body) ≡ assembled line
         command_is e ten ten_is = by (nat_le (length ten + length body) buffer_limit) refl ∙ sym (whole e)
           where

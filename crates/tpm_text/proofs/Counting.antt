@@ -1,11 +1,11 @@
--- The four-byte encoding of a number of pieces is that of the number modulo 2^32.
+-- A number of pieces and its remainder modulo 2^32 have the same four-byte encoding.
 use Rattle.std.proofs.Common.{◌≡◌, ℕ, ◌+◌, ◌/◌, ◌%◌, ◌==◌, List, length, refl, sym, ap, ◌∙◌, arith}
 use Rattle.std.specs.Int.{w32, to_be_bytes}
 use Rattle.std.specs.List.{count_by}
 use Rattle.std.proofs.lemmas.List.Splits.{length-slice_split}
 use Rattle.tpm_text.specs.Pieces.{pieces_of}
 
--- The four octets of a number are those of its low 32 bits.
+-- The four-byte encoding of a number depends only on its low 32 bits.
 low_octets : (n : ℕ) → to_be_bytes w32 (n % 4294967296) ≡ to_be_bytes w32 n
 low_octets n =
     let e3 : (n % 4294967296) / 16777216 % 256 ≡ n / 16777216 % 256 = omega arith in

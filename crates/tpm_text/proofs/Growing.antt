@@ -53,7 +53,7 @@ sized_behind count (Ok bytes) old middle (Err fault) new size m h = absurd h
 sized_behind count (Err fault) old middle (Ok done) new size m h = absurd h
 sized_behind count (Err fault) old middle (Err found) new size m h = h
 
--- If more bytes are added than a command may have, the draft has no text, whatever was written
+-- If more bytes are added than a command may have, the draft becomes None, whatever was written
 -- before.
 pub too_much : (draft : Option (List ℕ)) (bytes : List ℕ) → buffer_limit < length bytes → grown draft bytes ≡ None
 too_much None bytes long = none_grows bytes

@@ -26,13 +26,13 @@ decoded_are_digits digits (Err fault) e other = refl
 pub other_is_bad : (digits : List ℕ) → list_all is_hex_digit digits ≡ false → IsChecked (hex_in digits) (Err Bad)
 other_is_bad digits other = decoded_are_digits digits (decode_of digits) refl other
 
--- An even number of hex digits encodes bytes.
+-- An even number of hex digits can be decoded to bytes.
 pub digits_are_good : (digits : List ℕ) → (length digits % 2 ≡ 1 → ⊥) → list_all is_hex_digit digits ≡ true → IsChecked (hex_in digits) (Ok tt)
 digits_are_good digits even all = rw ((decode_of-digits digits (omega (arith, even)) (AllPass-from_list_all is_hex_digit digits all)).1) tt
 
 pub ruleset hex_digits = (odd_is_bad, other_is_bad, digits_are_good)
 
--- An empty text of digits encodes no bytes.
+-- An empty string of hex digits decodes to no bytes.
 pub none_is_good : hex_in [] ≡ Ok []
 unfolding decode_pairs
 none_is_good = refl
@@ -41,7 +41,7 @@ none_is_good = refl
 pub half_of : (digits bytes : List ℕ) → hex_in digits ≡ Ok bytes → length digits ≡ 2 * length bytes
 half_of digits bytes e = (decode_of-ok digits bytes (or_fault_ok _ _ bytes e)).2
 
--- If hex digits encode more bytes than a command may have, the draft has no text.
+-- If hex digits encode more bytes than a command may have, the draft is None after they are added.
 pub hex_too_long : (digits text : List ℕ) (result : Result (Unit {0}) TokenFault) → IsChecked (hex_in digits) result → buffer_limit < length text + length digits / 2
     → Drafts (hex_in digits) (Some text) result None
 unfolding grown

@@ -21,7 +21,7 @@ use Rattle.tpm_step.specs.Step.{Accepted, Stepped, acceptance, accepted, answer_
 use Rattle.tpm_step.specs.declared.refused_command.RefusedCommand.{RefusedCommand}
 use Rattle.tpm_text.specs.Trace.{IsRow, IsTraceable}
 
--- A refusal contains the number of a supported command, or 0.
+-- The command code in a refusal is the number of a supported command, or 0.
 abbrev Names : {X : Type 0} → Result X RefusedCommand → Type 0
 Names (Ok x) = Unit {0}
 Names (Err e) = (e.code ≡ 0) ⊎ ((code : CommandCode) × (e.code ≡ code_number code))

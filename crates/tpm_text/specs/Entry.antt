@@ -80,11 +80,11 @@ begins_password token = starts_with nat_eq token (codes "pw:")
 abbrev pub begins_session : List ℕ → Bool
 begins_session token = starts_with nat_eq token (codes "s:")
 
--- whether a token begins like an entry: with pw: or s:
+-- whether a token begins like an entry: with `pw:` or `s:`
 abbrev pub begins_entry : List ℕ → Bool
 begins_entry token = begins_password token || begins_session token
 
--- an entry: pw:PASSWORD, or s:HANDLE:NONCE:ATTRIBUTES:HMAC
+-- an entry: `pw:PASSWORD`, or `s:HANDLE:NONCE:ATTRIBUTES:HMAC`
 unfoldable pub entry_in : List ℕ → Result Entry TokenFault
 entry_in token =
     if begins_password token then password_entry (drop 3 token)

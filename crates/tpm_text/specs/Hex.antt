@@ -1,4 +1,4 @@
--- Hex digits in a token, and checks of hex digits that do not decode them.
+-- Hex digits in a token: decoding them, and checking them without decoding.
 use Rattle.std.specs.Prelude.{◌≡◌, ℕ, ◌==◌, if◌then◌else◌, List, [], length, codes, Result, Ok, Err}
 use Rattle.hex.specs.Hex.{decode_of}
 use Rattle.tpm_bytes.specs.Reading.{or_fault}
@@ -10,7 +10,7 @@ use Rattle.tpm_number.specs.Number.{is_word}
 abbrev pub hex_in : List ℕ → Result (List ℕ) TokenFault
 hex_in digits = or_fault (decode_of digits) Bad
 
--- the bytes that a token encodes in hex; the token - stands for no bytes
+-- the bytes that a token encodes in hex; the token `-` encodes no bytes
 unfoldable pub bytes_in : List ℕ → Result (List ℕ) TokenFault
 bytes_in token =
     if is_word (codes "-") token then Ok []

@@ -34,7 +34,7 @@ name_in (token ∷ tokens) = do
   code ← ok_or (code_called token.text) fault.BadName
   Ok (code, tokens)
 
--- `count` handles, one for each of the first tokens, and the tokens after them
+-- `count` handles, each from one token, and the remaining tokens
 unfoldable pub handles_in : ℕ → List Token → Result (List Handle × List Token) AsmFault
 handles_in zero tokens = Ok ([], tokens)
 handles_in (suc count) tokens = do
@@ -53,8 +53,7 @@ entry_tokens_in (suc most) (token ∷ tokens) = cond (begins_entry token.text) (
   Ok (first ∷ others.0, others.1))
     (Ok ([], token ∷ tokens))
 
--- the encodings of parameters of these kinds, one for each of the first tokens, and the tokens
--- after them
+-- the encodings of parameters of these kinds, each from one token, and the remaining tokens
 unfoldable pub parameters_in : List ParameterKind → List Token
     → Result (List ℕ × List Token) AsmFault
 parameters_in [] tokens = Ok ([], tokens)

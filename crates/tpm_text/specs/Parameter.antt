@@ -35,7 +35,7 @@ hash_in word =
     if is_word (codes "sha1") word then Ok Sha1
     else (if is_word (codes "sha256") word then Ok Sha256 else Err Bad)
 
--- the encoding of a hash algorithm or NULL, from its word
+-- the encoding of the hash algorithm that a word names, or of TPM_ALG_NULL
 unfoldable pub hash_text : List ℕ → Result (List ℕ) TokenFault
 hash_text word = do
   algorithm ← if is_word (codes "null") word then Ok None
@@ -50,7 +50,7 @@ symmetric_in word =
     else (if is_word (codes "xor-sha256") word then Ok (symmetric.Xor Sha256)
     else Err Bad)))
 
--- the encoding of a symmetric definition, from its word, which says how a session encrypts
+-- the encoding of the symmetric definition that a word names; it says how a session encrypts
 -- parameters
 unfoldable pub symmetric_word_text : List ℕ → Result (List ℕ) TokenFault
 symmetric_word_text word = do
@@ -70,20 +70,20 @@ hash_and_rest_in piece = do
   hash ← hash_in (take place piece)
   Ok (hash, drop (place + 1) piece)
 
--- the selection of the PCRs whose numbers, each at most 23, are separated by commas
+-- the PCR selection for PCR numbers that are separated by commas; each is at most 23
 unfoldable pub pcrs_in : List ℕ → Result ℕ TokenFault
 pcrs_in numbers = do
   pcrs ← each_in (number_in 23) (pieces_of comma numbers)
   Ok (fold with_pcr 0 pcrs)
 
--- the encoding of a bank's hash algorithm and of its selected PCRs, written as sha256:0,10
+-- the encoding of the PCR selection for one bank (TPMS_PCR_SELECTION), written as `sha256:0,10`
 unfoldable pub bank_word_text : List ℕ → Result (List ℕ) TokenFault
 bank_word_text piece = do
   bank ← hash_and_rest_in piece
   select ← pcrs_in bank.1
   Ok (bank_text (record { hash = bank.0; select = select }))
 
--- the encoding of a hash algorithm and of a digest of its size, written as sha1:HEX
+-- the encoding of a hash algorithm and a digest of that algorithm's size, written as `sha1:HEX`
 unfoldable pub digest_word_text : List ℕ → Result (List ℕ) TokenFault
 digest_word_text piece = do
   parts ← hash_and_rest_in piece
@@ -102,14 +102,13 @@ elements_text element pieces = do
   texts ← each_in (element_text element) pieces
   Ok (flat_map (λ text. text) texts)
 
--- the encoding of a list, whose elements are separated by +: the number of elements, then the
--- elements
+-- the encoding of a list whose elements are separated by `+`: their number, then the elements
 unfoldable pub list_text : Element → List ℕ → Result (List ℕ) TokenFault
 list_text element token = do
   elements ← elements_text element (pieces_of plus token)
   Ok (to_be_bytes w32 (length (pieces_of plus token)) ++ elements)
 
--- the encoding of a list; the token - is the empty list
+-- the encoding of a list; the token `-` is the empty list
 unfoldable pub list_or_none_text : Element → List ℕ → Result (List ℕ) TokenFault
 list_or_none_text element token =
     if is_word (codes "-") token then Ok (to_be_bytes w32 0) else list_text element token

@@ -1,5 +1,5 @@
--- The trace of an event: one line with the command, its locality, the time before it, the check
--- that refused it, and the response code.
+-- The trace of an event: one line with the command, its locality, the elapsed time, the check that
+-- refused it, and the response code.
 use Rattle.std.specs.Prelude.{◌≡◌, ℕ, ◌-◌, ◌≤◌, ◌==◌, nat_le, if◌then◌else◌, ◌⊎◌}
 use Rattle.std.specs.Prelude.{List, ◌++◌, length, codes, option_map, unwrap_or}
 use Rattle.std.specs.List.{slice_range}
@@ -30,12 +30,12 @@ IsAnswered (Placed object) response = Unit {0}
 abbrev pub IsTraceable : PlainEvent → Stepped → Type 0
 IsTraceable event x = IsRow x.row × IsAnswered event x.response
 
--- the name of the command with this number, or ? if there is none
+-- the name of the command with this number, or `?` if there is none
 unfoldable pub name_text : ℕ → List ℕ
 name_text number = unwrap_or (option_map code_name (code_named number)) (codes "?")
 
--- the name of the check with this number: ok if no check refused; G1 to G11 for the checks of every
--- command, A1 to A7 for the command's own checks, and M for a failed allocation
+-- the name of the check with this number: `ok` if no check refused; G1 to G11 for the checks of
+-- every command, A1 to A7 for the command's own checks, and M for a failed allocation
 unfoldable pub check_text : ℕ → List ℕ
 check_text number =
     if number == 0 then codes "ok"
@@ -43,12 +43,12 @@ check_text number =
     else if number == 255 then codes "M"
     else codes "A" ++ decimal (number - 20)
 
--- the response code in hex, which follows a response's tag and size
+-- the response code in hex; in a response, it follows the tag and the size
 abbrev pub response_code_text : List ℕ → List ℕ
 response_code_text response = encode_lower (slice_range response 6 10)
 
 -- the trace of an event: `power` for a power cycle and `placed` for a placed object; for a command,
--- its name, its locality, the milliseconds before it, the check that refused it, and the response
+-- its name, its locality, the elapsed milliseconds, the check that refused it, and the response
 -- code
 abbrev pub trace_text : PlainEvent → Row → (response : List ℕ) → List ℕ
 trace_text Cycled row response = codes "power"

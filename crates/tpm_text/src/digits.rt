@@ -1,4 +1,4 @@
-//! Checks that a token consists of bytes in hex, before they are decoded.
+//! Checks that a token is valid hex, before it is decoded.
 
 ghost use Rattle.std.specs.Prelude.{◌≡◌, Err, MatchResult};
 ghost use Rattle.std.specs.List.{list_all};

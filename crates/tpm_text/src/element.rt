@@ -4,7 +4,7 @@
 /// The kinds of elements in a list.
 #[derive(Clone, Copy, PartialEq, Eq)]
 pub enum Element {
-    /// The selected PCRs of a bank: TPMS_PCR_SELECTION.
+    /// The PCR selection for one bank: TPMS_PCR_SELECTION.
     Bank,
     /// A digest with its hash algorithm: TPMT_HA.
     Digest,

@@ -18,9 +18,9 @@ pub enum AsmFault {
     Missing,
     /// A number in the token at this column is too large.
     Range { column: usize },
-    /// The command would be larger than a buffer, and nothing else is wrong.
+    /// The command does not fit into a buffer. The line has no other fault.
     TooLong,
-    /// An allocation failed, and nothing is wrong with the line.
+    /// An allocation failed. The line has no fault.
     NoMemory,
 }
 
@@ -34,7 +34,7 @@ impl From<AllocError> for AsmFault {
     }
 }
 
-/// The fault of a line whose token at this column has the given fault.
+/// Returns the fault of a line, from the fault of its token at this column.
 pub fn fault_at(column: usize, fault: TokenFault) -> AsmFault
     ensures { result ≡ fault_at column fault }
 {

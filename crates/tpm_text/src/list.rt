@@ -38,7 +38,7 @@ fn pcr_in(piece: &[u8]) -> Result<PcrIndex, TokenFault>
     PcrIndex::new(number as u8).ok_or(TokenFault::Range)
 }
 
-/// Parses PCR numbers that are separated by commas. Returns the selection of these PCRs.
+/// Parses PCR numbers that are separated by commas, and returns the PCR selection.
 fn pcrs_in(numbers: &[u8]) -> Result<PcrSelect, TokenFault>
     ensures { Gives (λ select. select) (pcrs_in numbers.now) result }
 {
@@ -54,7 +54,7 @@ fn pcrs_in(numbers: &[u8]) -> Result<PcrSelect, TokenFault>
     }
 }
 
-/// Writes the selection of a bank.
+/// Writes the PCR selection for one bank (TPMS_PCR_SELECTION).
 #[tactic(auto, unfolding(crate::specs::Parameter::bank_word_text))]
 fn put_bank(piece: &[u8], draft: &mut Draft) -> Result<(), TokenFault>
     ensures { Drafts (bank_word_text piece.now) (drafted draft.old) result (drafted draft.new) }
@@ -91,7 +91,7 @@ fn put_element(element: Element, piece: &[u8], draft: &mut Draft) -> Result<(), 
     }
 }
 
-/// Writes the elements of a list, which are separated by +.
+/// Writes the elements of a list, which are separated by `+`.
 fn put_elements(element: Element, token: &[u8], draft: &mut Draft) -> Result<(), TokenFault>
     ensures { Drafts (elements_text element (pieces_of plus token.now)) (drafted draft.old) result
         (drafted draft.new) }
@@ -121,7 +121,7 @@ fn piece_count(separator: u8, text: &[u8]) -> u32
     ((separator_count(separator, text) % 0x1_0000_0000 + 1) % 0x1_0000_0000) as u32
 }
 
-/// Writes a list, whose elements are separated by +.
+/// Writes a list, whose elements are separated by `+`.
 #[tactic(auto, unfolding(crate::specs::Parameter::list_text))]
 pub fn put_list(element: Element, token: &[u8], draft: &mut Draft) -> Result<(), TokenFault>
     ensures { Drafts (list_text element token.now) (drafted draft.old) result (drafted draft.new) }
@@ -130,7 +130,7 @@ pub fn put_list(element: Element, token: &[u8], draft: &mut Draft) -> Result<(),
     put_elements(element, token, draft)
 }
 
-/// Writes a list, whose elements are separated by +; `-` is the empty list.
+/// Writes a list, whose elements are separated by `+`; the token `-` is the empty list.
 #[tactic(auto, unfolding(crate::specs::Parameter::list_or_none_text))]
 pub fn put_list_or_none(element: Element, token: &[u8], draft: &mut Draft) -> Result<(), TokenFault>
     ensures { Drafts (list_or_none_text element token.now) (drafted draft.old) result

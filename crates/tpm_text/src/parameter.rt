@@ -1,4 +1,4 @@
-//! A parameter in words, of any kind in a command's shape.
+//! Writes a parameter from its token, for each kind of parameter that a command can have.
 
 ghost use Rattle.std.specs.Prelude.{◌≡◌, MatchResult};
 ghost use Rattle.tpm_text.specs.Draft.{Drafts, drafted};

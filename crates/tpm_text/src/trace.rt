@@ -112,7 +112,7 @@ fn put_numbered(letter: &str, number: u8, text: &mut Trace)
     text.push_str(numeral.format(number));
 }
 
-/// Adds the response code in eight hex digits to the trace.
+/// Adds the response code to the trace, as eight hex digits.
 fn put_response_code(response: &[u8], text: &mut Trace)
     requires response { 10 ≤ length response.now }
     requires room { array_string_len text.old + 8 ≤ 64 }

@@ -1,4 +1,4 @@
-//! The words for hash algorithms and symmetric definitions, and the numbers that they stand for.
+//! The words for hash algorithms and symmetric definitions, and the identifiers that they encode.
 
 ghost use Rattle.std.specs.Prelude.{◌≡◌};
 ghost use Rattle.tpm_text.specs.Draft.{Drafts, drafted};
@@ -24,7 +24,7 @@ pub fn hash_in(word: &[u8]) -> Result<HashAlg, TokenFault>
     }
 }
 
-/// Writes the number of a hash algorithm, or of NULL.
+/// Writes the identifier of a hash algorithm, or TPM_ALG_NULL.
 #[tactic(auto, unfolding(crate::specs::Parameter::hash_text))]
 pub fn put_hash(word: &[u8], draft: &mut Draft) -> Result<(), TokenFault>
     ensures { Drafts (hash_text word.now) (drafted draft.old) result (drafted draft.new) }

@@ -58,8 +58,7 @@ size_bounds size =
 some_is : {X : Type 0} (x y : X) → Some x ≡ Some y → x ≡ y
 some_is x y e = cc
 
--- A buffer of known size is between 6 and 4,096 bytes long. The size is known as soon as the first
--- six bytes are.
+-- The size of a buffer is known from its first six bytes. It is between 6 and 4,096 bytes.
 buffer_bounds : (bytes : List ℕ) (n : ℕ) → buffer_size bytes ≡ Some n → (6 ≤ n) × (n ≤ buffer_limit)
 unfolding command_size
 buffer_bounds (t ∷ u ∷ a ∷ b ∷ c ∷ d ∷ bytes) n is = rw (← some_is _ _ is) (size_bounds (from_be_bytes w32 (a ∷ b ∷ c ∷ d ∷ [])))
@@ -162,7 +161,7 @@ next_if done taken n c size is = by (nat_le n (length taken)) refl is
         ∙ ap (λ (x : Cut). cut_with (done ++ x.buffer ∷ []) x.after) (some_is _ _ e)
     by false fits e = absurd cc
 
--- the next buffer, by its size
+-- the next buffer, which has this size; None if the size is unknown or not all bytes were received
 abbrev next_by : List ℕ → Option ℕ → Option Cut
 next_by taken size = option_and_then (λ n. cut_within n (is_last taken) taken) size
 
@@ -195,7 +194,8 @@ too_few n taken is = by (nat_le n (length taken)) refl is
     by true fits e = absurd cc
     by false fits e = leb-false n (length taken) fits
 
--- If the next buffer is not complete but its size is known, fewer bytes than that were received.
+-- If the size of the next buffer is known but the buffer is not complete, fewer bytes than its size
+-- were received.
 waits_for : (taken : List ℕ) → next_of (record { taken = taken; ended = false }) ≡ None → (n : ℕ) → buffer_size taken ≡ Some n → length taken < n
 waits_for taken none n size = too_few n taken (next_is taken (Some n) None size none)
 
@@ -219,7 +219,8 @@ size_known (t ∷ u ∷ a ∷ []) is = omega arith
 size_known (t ∷ u ∷ a ∷ b ∷ []) is = omega arith
 size_known (t ∷ u ∷ a ∷ b ∷ c ∷ []) is = omega arith
 
--- If a stream has not ended and its next buffer is not complete, at least one more byte fits.
+-- If a stream has not ended and its next buffer is not complete, it can store at least one more
+-- byte.
 pub next_room : (s : Stream) → next_of s ≡ None → s.ended ≡ false → length s.taken < buffer_limit
 next_room s none lives = by s.ended s.taken (buffer_size s.taken) refl none lives
   where

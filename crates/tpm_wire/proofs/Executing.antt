@@ -1,4 +1,4 @@
--- Executions one after another, and how serving ends.
+-- Lemmas about executions one after another, and about how serving ends.
 use Rattle.std.proofs.Common.{◌≡◌, ◌≢◌, ℕ, List, [], ◌∷◌, ◌++◌, Bool, true, false, Option, Some, None, Result, Ok, Err, refl, sym, ap, ◌∙◌, subst, append_assoc, append-nil}
 use Rattle.std.proofs.KnownBytes.{Appends-trans}
 use Rattle.std.proofs.lemmas.Bool.{false≢true}
@@ -127,7 +127,7 @@ notes_one notes old mid new executions one told also = FoldsTo-push notes old ex
 pub notes_more : {S : Type 0} (notes : S → Execution → S → Type 0) (old mid new : S) (first more : List Execution) → NotesEach notes old first mid → NotesEach notes mid more new → NotesEach notes old (first ++ more) new
 notes_more notes old mid new first more told also = folds_on notes old mid new first more told also
 
--- If the response of one more execution cannot be delivered, serving ends with that fault.
+-- If one more response cannot be delivered, serving ends with the fault of its delivery.
 pub unanswered : {F S : Type 0} (g : Asking F) (notes : S → Execution → S → Type 0) (failed : S → Bool) (held mid holds : Option (List ℕ)) (before at after : Marks) (asked asking : F) (witness told new : S) (executions : List Execution) (r left : Record) (buffer : List ℕ) (host : Host) (outcome : Outcome) (stream : Stream) (e : ServeFault) → AsksForEach g asked (executions ++ execution_of r buffer host left outcome ∷ []) asking → Appends held mid (responses_of executions) → NotesEach notes witness executions told → Delivers notes failed mid holds at after (execution_of r buffer host left outcome) told (Err e) new → Finishes g held holds before after asked (executions ++ execution_of r buffer host left outcome ∷ []) asking stream (Err e) × Notes notes failed witness (executions ++ execution_of r buffer host left outcome ∷ []) new (Err e)
 unanswered g notes failed held mid holds before at after asked asking witness told new executions r left buffer host outcome stream fault.Write asks written noted delivers =
     ((asks, delivers.2, lost_last held mid holds executions r left buffer host outcome written delivers.1), notes_one notes witness told new executions (execution_of r buffer host left outcome) noted delivers.0)

@@ -1,4 +1,4 @@
--- Folds of a relation over two lists can be joined.
+-- Folding a relation over one list and then over another is folding it over both lists joined.
 use Rattle.std.proofs.Common.{List, [], ◌∷◌, ◌++◌, sym, subst}
 use Rattle.std.specs.List.{FoldsTo}
 

@@ -29,7 +29,7 @@ use Rattle.tpm_wire.specs.declared.turn.Turn.TheVariants.{Answer, Ended, Wants}
 use Rattle.tpm_wire.proofs.Cutting.{buffers_stay, cut_next, read_more}
 use Rattle.tpm_wire.proofs.Folds.{folds_on}
 
--- There are as many lives as streams, and `IsServed` holds for each connection.
+-- Both lists have the same length, and `IsServed` holds for each connection's stream and life.
 record Serve (streams : List (Option Stream)) (lives : List (Option Life)) : Type 0 where
   pub many : length lives ≡ length streams
   pub each : (number : ℕ) → IsServed (at_place streams number) (at_place lives number)
@@ -62,7 +62,7 @@ life_of stream (Some l) served = (l, refl, served)
 life_at : (streams : List (Option Stream)) (lives : List (Option Life)) (n : ℕ) (s : Stream) → Serve streams lives → at_place streams n ≡ Some s → (l : Life) × (at_place lives n ≡ Some l) × IsServed (Some s) (Some l)
 life_at streams lives n s so is = life_of s (at_place lives n) (subst (λ (x : Option Stream). IsServed x (at_place lives n)) is (so.each n))
 
--- An event has this effect on a record, which need not be the record of a device.
+-- The event leads from the old record to the new one. The old record need not be that of a device.
 abbrev Happens : Bool → Record → Event → Record → Type 0
 Happens can old (Executed plain_event outcome) new = Executes can old plain_event (outcome_step new outcome)
 Happens can old PowerCycled new = new ≡ cycled old
@@ -225,8 +225,8 @@ new_served r = record { many = refl; each = none_served 8 }
 led_anew : (can : Bool) (r : Record) (calls : List Call) (new : Wire) → Schedules can (new_wire r) calls new → Led can (new_wire r) new (lives_after_all (free 8) calls) (events_in (free 8) calls)
 led_anew can r calls new run = schedule_led can (new_wire r) new (free 8) calls (new_served r) run
 
--- After every schedule, each connection has executed its buffers in order, one for each of its
--- answers.
+-- After every schedule, each connection has executed its buffers in order, one for each answer that
+-- its turns returned.
 pub schedules_served : SchedulesAreServed
 schedules_served can r calls new run = (led_anew can r calls new run).served.each
 

@@ -57,7 +57,7 @@ pub record Life : Type 0 where
 abbrev pub new_life : Life
 new_life = record { bytes = []; answers = [] }
 
--- the lives, with the life at this number changed
+-- the lives of the connections, with `change` applied to the life with this number
 abbrev pub with_life : List (Option Life) → ℕ → (Life → Life) → List (Option Life)
 with_life lives number change = slice_set lives number (option_map change (at_place lives number))
 
@@ -86,7 +86,7 @@ pub data Event : Type 0 where
   Executed : (plain_event : PlainEvent) (outcome : Outcome) → Event
   PowerCycled : Event
 
--- the events of a call: if a turn returned an answer, it executed the buffer that was due
+-- the event of a turn that returned an answer: the connection's due buffer was executed
 abbrev pub executed : Option Life → Host → Outcome → List Event
 executed None host outcome = []
 executed (Some l) host outcome = Executed (given (buffer_due l) host) outcome ∷ []
@@ -137,8 +137,8 @@ IsServed (Some s) (Some l) =
 IsServed None (Some l) = ⊥
 IsServed (Some s) None = ⊥
 
--- After every schedule, each connection has executed its buffers in order, one for each of its
--- answers.
+-- After every schedule, each connection has executed its buffers in order, one for each answer that
+-- its turns returned.
 abbrev pub SchedulesAreServed : Type 0
 SchedulesAreServed = (can : Bool) (r : Record) (calls : List Call) (new : Wire)
     → Schedules can (new_wire r) calls new → (number : ℕ)

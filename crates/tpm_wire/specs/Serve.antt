@@ -51,15 +51,15 @@ Asks g old one new =
 abbrev pub AsksForEach : {F : Type 0} → Asking F → F → List Execution → F → Type 0
 AsksForEach g old executions new = FoldsTo (Asks g) old executions new
 
--- The host was asked once for each of these executions, in order, and then once more. The last time
--- it returned a fault.
+-- The host was asked once for each of these executions, in order, and then once more, when it
+-- returned a fault.
 abbrev pub AsksInVain : {F : Type 0} → Asking F → F → List Execution → F → Type 0
 AsksInVain {F} g old executions new =
     (last : F) × AsksForEach g old executions last × (e : HostFault) × Called g last tt (Err e) new
 
 -- ---- the steps of serving
 
--- One read into a stream was made, using the whole free part of the stream's buffer.
+-- One read into a stream was made. It could use the whole free part of the stream's buffer.
 abbrev pub Fills : Option (List ℕ) → Option (List ℕ) → Marks → Marks
     → Stream → Result ℕ Failed → Stream → Type 0
 Fills had has before after old (Err failed) new =
@@ -84,16 +84,16 @@ Delivers notes failed held holds before after one old (Err fault.Write) new =
     notes old one new × AppendsFront held holds one.seen.response × (after.failed ≡ true)
 Delivers notes failed held holds before after one old (Err e) new = ⊥
 
--- The writer failed at the response of the last execution: all earlier responses were written
--- completely, and a prefix of the last one, which may be empty, was written.
+-- The writer failed at the response of the last execution. All earlier responses were written
+-- completely. A prefix of the last one, which may be empty, was written.
 abbrev pub LosesLast : Option (List ℕ) → Option (List ℕ) → List Execution → Type 0
 LosesLast held holds executions =
     (answered : List Execution) × (lost : Execution) × (executions ≡ answered ++ lost ∷ [])
     × (front : List ℕ) × (rest : List ℕ) × (lost.seen.response ≡ front ++ rest)
     × Appends held holds (responses_of answered ++ front)
 
--- The last execution was not answered: all earlier responses were written completely, and nothing
--- of its own response was written.
+-- The response of the last execution was not written at all. All earlier responses were written
+-- completely.
 abbrev pub HoldsLastBack : Option (List ℕ) → Option (List ℕ) → List Execution → Type 0
 HoldsLastBack held holds executions =
     (answered : List Execution) × (last : Execution) × (executions ≡ answered ++ last ∷ [])
@@ -161,8 +161,8 @@ ReadsNoMore reader cut =
 --   completely.
 -- - The witness failed: some buffers were executed, and the response of the last one was not
 --   written.
--- - The host returned a fault: the buffers before the next one, which is complete, were executed,
---   and their responses were written.
+-- - The host returned a fault: the next buffer is complete but was not executed. All buffers before
+--   it were executed, and their responses were written.
 abbrev pub Ends : {F : Type 0} → Asking F → Option (List ℕ) → Option (List ℕ)
     → Marks → Marks → Cutting → F → List Execution → F → Result ℕ ServeFault → Type 0
 Ends g held holds reader writer cut asked executions asking (Ok count) =
@@ -182,8 +182,8 @@ Ends g held holds reader writer cut asked executions asking (Err fault.Host) =
     × AsksInVain g asked executions asking × Appends held holds (responses_of executions)
 Ends g held holds reader writer cut asked executions asking (Err fault.Full) = ⊥
 
--- A connection was served: pieces were read from the reader, each in one read, and no more than the
--- limit for one connection. The pieces are joined and cut into buffers, and the first of these
+-- A connection was served: pieces were read from the reader, each in one read, within the limit on
+-- reads for one connection. The pieces are joined and cut into buffers, and the first of these
 -- buffers were executed. The executions lead from the old record to the new one. If the old record
 -- follows a history, the executions satisfy `StretchFollows` after it. `Ends` defines how serving
 -- ended.
@@ -210,7 +210,7 @@ abbrev pub NotesEach : {S : Type 0} → (S → Execution → S → Type 0) → S
 NotesEach notes old executions new = FoldsTo notes old executions new
 
 -- A witness was notified of each of these executions, in order. If serving ended because the
--- witness failed, it was notified of all executions except the last, and failed on the last one.
+-- witness failed, it failed on the last execution, and was notified of all others.
 abbrev pub Notes : {S : Type 0} → (S → Execution → S → Type 0) → (S → Bool)
     → S → List Execution → S → Result ℕ ServeFault → Type 0
 Notes {S} notes failed old executions new (Err fault.Save) =

@@ -59,7 +59,7 @@ with_byte c byte =
     let rest = c.rest ++ byte ∷ [] in
     if c.ended then record c { rest = rest } else with_rest c rest
 
--- the cut of a stream without bytes, after these buffers
+-- a cut that consists of these buffers, with no bytes after them
 abbrev pub uncut : List (List ℕ) → Bool → Cutting
 uncut buffers ended = record { buffers = buffers; rest = []; ended = ended }
 
@@ -118,7 +118,7 @@ IsFront s (Some f) = (f.size ≤ length s.taken) × (next_of s ≡ Some (cut_at 
 
 -- ---- the cut, and what a connection stores
 
--- the cut of a whole stream, after the buffers `done` were executed and the stream `s` is left
+-- the cut of a whole stream of which the buffers `done` were executed and the stream `s` is left
 abbrev pub cut_with : List (List ℕ) → Stream → Cutting
 cut_with done s = fold with_byte (uncut done s.ended) s.taken
 

@@ -64,7 +64,7 @@ abbrev pub Feeds : Wire → ℕ → List ℕ → Result ℕ NoConnection → Wir
 Feeds old number piece result new =
     FeedsAt (at_place old.streams number) old number piece result new
 
--- the event of a buffer, with the host's values
+-- the event that executes a buffer with the host's values
 abbrev pub given : List ℕ → Host → PlainEvent
 given buffer host = Given buffer (locality_number host.locality) host.elapsed_ms host.random
 
@@ -85,7 +85,7 @@ AnswersTurn can c old number host (Ok (Answer outcome)) new =
     × (new.streams ≡ slice_set old.streams number (Some c.after))
 AnswersTurn can c old number host result new = ⊥
 
--- The next buffer of the connection was executed, if it was complete.
+-- If the connection's next buffer was complete, it was executed.
 abbrev pub TurnsBy : Bool → Option Cut → Stream
     → Wire → ℕ → Host → Result Turn NoConnection → Wire → Type 0
 TurnsBy can None s old number host result new = Waits s old result new

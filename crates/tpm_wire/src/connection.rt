@@ -1,5 +1,5 @@
-//! A connection: it stores the bytes that it received and that are not yet executed, and returns
-//! them buffer by buffer.
+//! A connection: stores the received bytes until they are executed, and returns them buffer by
+//! buffer.
 
 ghost use Rattle.tpm_types.specs.Limits.{buffer_limit};
 ghost use Rattle.std.specs.Prelude.{◌≡◌, ◌+◌, ◌≤◌, drop, false, length, take};
@@ -64,8 +64,7 @@ impl Connection {
         count
     }
 
-    /// Returns the size of the next buffer, and whether it is the last one, if the buffer is
-    /// complete.
+    /// If the next buffer is complete, returns its size, and whether it is the last one.
     pub fn front(&self) -> Option<Front>
         ensures { IsFront self.now result }
     {

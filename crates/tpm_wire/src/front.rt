@@ -18,8 +18,7 @@ pub struct Front {
     pub last: bool,
 }
 
-/// Returns the size of the buffer with which these bytes begin, and whether it is the last one, if
-/// the buffer is complete.
+/// If these bytes begin with a complete buffer, returns its size, and whether it is the last one.
 #[tactic(auto, unfolding(crate::specs::Stream::command_size))]
 pub fn front_of(bytes: &[u8]) -> Option<Front>
     ensures { IsFront (record { taken = bytes.now; ended = false }) result }

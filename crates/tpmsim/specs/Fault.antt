@@ -50,7 +50,8 @@ fault_of_kind otherwise _ = otherwise
 abbrev pub fault_or : Fault → Error → Fault
 fault_or otherwise error = fault_of_kind (with_cause otherwise error) (error_kind error)
 
--- the value of a result; if it is an error, the given fault with the number of the error, or Memory
+-- the value of a result; for an error, Memory if memory ran out, and otherwise the given fault with
+-- the number of the error
 abbrev pub given_or : {A : Type 0} → Fault → Result A Error → Result A Fault
 given_or otherwise (Ok value) = Ok value
 given_or otherwise (Err error) = Err (fault_or otherwise error)
@@ -73,12 +74,12 @@ abbrev pub fault_of_line : AsmFault → Fault
 fault_of_line line.NoMemory = Memory
 fault_of_line fault = Asm fault
 
--- the fault of a buffer whose line was not found
+-- the fault if the line that encodes a buffer was not found
 abbrev pub fault_of_spelling : SpellFault → Fault
 fault_of_spelling spelling.NoLine = NoLine
 fault_of_spelling spelling.NoMemory = Memory
 
--- the fault of a device in an image that was not opened, saved or served
+-- the fault if a device in an image could not be opened, saved or served
 abbrev pub fault_of_device : DeviceFault → Fault
 fault_of_device (device.Image fault) = Image fault
 fault_of_device (device.File cause) = File cause
@@ -86,13 +87,13 @@ fault_of_device (device.Socket cause) = Socket cause
 fault_of_device (device.Entropy cause) = Entropy cause
 fault_of_device device.Memory = Memory
 
--- the fault of a script that was not played on a kept device
+-- the fault if a script could not be played to its end on a kept device
 abbrev pub fault_of_play : PlayFault → Fault
 fault_of_play (play.Script fault) = fault_of fault
 fault_of_play (play.Kept fault) = Kept fault
 
 -- the exit status: 2 if the request is not valid, 3 if a file, a socket, a stream or memory caused
--- the failure, 4 if a file that should be an image, a state text or a journal is not
+-- the failure, 4 if the contents of an image, a state text or a journal are not accepted
 abbrev pub status_of : Fault → ℕ
 status_of Usage = 2
 status_of (ScriptLine number) = 2

@@ -1,4 +1,4 @@
-//! Explains a fault if the environment requests it: prints the path that the fault concerns, and
+//! If the environment requests it, explains a fault: prints the path that the fault concerns, and
 //! the system's reason. The line of the fault itself does not change.
 
 use crate::fault::Fault;
@@ -6,7 +6,7 @@ use std::{env, io};
 use tpmsim_arguments::{Arguments, Place};
 use tpmsim_image::{Cause, Subject};
 
-/// The environment variable that requests a second line, if it is 1.
+/// The environment variable that requests an explanation of each fault, if its value is 1.
 const VARIABLE: &str = "TPMSIM_VERBOSE";
 
 /// A path in two parts, which are printed one after the other.
@@ -35,7 +35,7 @@ pub(crate) fn explain(rt: &HostRuntime, arguments: &Arguments<'_>, fault: Fault)
     }
 }
 
-/// Whether the environment requests a second line.
+/// Whether the environment requests an explanation of each fault.
 fn is_asked(rt: &HostRuntime) -> bool {
     match env::var(rt, VARIABLE) {
         Ok(value) => value.as_str() == "1",

@@ -60,7 +60,8 @@ pub enum JournalFault {
     HoldsEarlierState,
     /// The entry that begins at this line is damaged.
     IsDamaged(u64),
-    /// The recorded response to the entry that begins at this line differs from the present one.
+    /// The response recorded in the entry that begins at this line differs from the device's
+    /// response.
     WasAnsweredOtherwise(u64),
 }
 
@@ -111,8 +112,8 @@ impl Fault {
     }
 
     /// Returns the exit status: 2 if the request is not valid, 3 if a file, a socket, a stream or
-    /// memory caused the failure, 4 if a file that should be an image, a state text or a journal is
-    /// not.
+    /// memory caused the failure, 4 if the contents of an image, a state text or a journal are not
+    /// accepted.
     pub fn status(self) -> u8
         ensures { result ≡ status_of self }
     {
@@ -308,8 +309,8 @@ impl From<ArgumentFault> for Fault {
     }
 }
 
-/// Returns the exit status of a fault of a kept device: 4 if the program does not accept the
-/// contents of its journal, otherwise 3.
+/// Returns the exit status for a fault of a kept device: 4 if the contents of the device's journal
+/// are not accepted, otherwise 3.
 fn kept_status(fault: KeptFault) -> u8
     ensures { result ≡ (if is_of_contents fault.said then 4 else 3) }
 {

@@ -61,7 +61,7 @@ fn open_or_begin(kept: &mut Kept<'_>, entropy: &mut Entropy) -> Result<(), Fault
     Ok(kept.open()?)
 }
 
-/// Returns when the journal is synced to disk: before each response if the device must be saved
+/// Returns when the journal is synced to disk: before each response if the device must be saved by
 /// then, otherwise when the journal is restarted.
 fn force_of(service: &Service) -> Force {
     if service.saves_each {

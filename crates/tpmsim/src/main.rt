@@ -9,11 +9,11 @@
 //! folder, `snapshot` and `restore` write and read its state text, and `script` prints its history.
 //! `replay` executes again the commands that were recorded.
 //!
-//! The results are on standard output. For `run`, each response is a line of hex, with `--trace`
-//! after a line that traces the command. For `check`, there is a line for each bad line. A run that
-//! fails prints one line with the reason on standard error, and its exit status says which kind of
-//! fault it is ([`fault`]). If the environment requests it, a second line contains the path and the
-//! system's reason ([`explaining`]).
+//! The results are on standard output. For `run`, each response is a line of hex. With `--trace`, a
+//! line that traces the command precedes it. For `check`, there is a line for each bad line. A run
+//! that fails prints one line with the reason on standard error, and its exit status says which
+//! kind of fault it is ([`fault`]). If the environment requests it, a second line contains the path
+//! and the system's reason ([`explaining`]).
 //!
 //! The program uses tpmsim_arguments for the command line, tpmsim_script for scripts and their
 //! check, `tpm_text` and `tpm_line` for lines, and `tpm_help` for their forms and examples. It uses
@@ -113,7 +113,7 @@ fn perform(rt: &HostRuntime, arguments: &Arguments<'_>) -> Result<(), Fault> {
     }
 }
 
-/// Runs a script on the device that is kept in a place.
+/// Runs a script on the device that is kept in an image or in a folder.
 fn run_in_place(
     rt: &HostRuntime,
     script: &str,
@@ -128,7 +128,7 @@ fn run_in_place(
     }
 }
 
-/// Serves the device that is kept in a place.
+/// Serves the device that is kept in an image or in a folder.
 fn serve_in_place(rt: &HostRuntime, service: &Service) -> Result<(), Fault> {
     match service.place {
         Place::Image(image) => Ok(serve_device(rt, service, image)?),

@@ -70,7 +70,8 @@ fn device_of(
     }
 }
 
-/// Returns a device whose image was in a file, after the file of random bytes was opened.
+/// Opens the file of random bytes, if one is given. Then returns the device, whose image was in a
+/// file.
 fn with_entropy(
     rt: &HostRuntime,
     machine: Machine<SlotKeep>,

@@ -8,14 +8,14 @@ use tpm_line::line_of;
 use tpm_text::assemble;
 use tpmsim_image::Subject;
 
-/// Prints the command that a line in words encodes, in hex.
+/// Prints, in hex, the command that a line in words encodes.
 pub fn print_assembled(rt: &HostRuntime, line: &str) -> Result<(), Fault> {
     let buffer = assemble(rt.alloc(), line)?;
     let text = hex::encode(rt.alloc(), buffer)?;
     Fault::file(Subject::Output).unless(println!(rt; "{text}"))
 }
 
-/// Prints the line in words that encodes the command with these hex digits.
+/// Prints the line in words that encodes the same command as these hex digits.
 pub fn print_spelled(rt: &HostRuntime, digits: &str) -> Result<(), Fault> {
     let buffer = buffer_of(rt, digits)?;
     let text = line_of(rt.alloc(), buffer.as_slice())?;
@@ -60,7 +60,7 @@ fn print_form(rt: &HostRuntime, code: CommandCode) -> Result<(), Fault> {
 }
 
 /// Prints the name of the response code with these hex digits, and the handle, parameter or session
-/// that it names. A number that is not a response code is a usage fault.
+/// that it identifies. A number that is not a response code is a usage fault.
 pub fn print_code(rt: &HostRuntime, digits: &str) -> Result<(), Fault> {
     let number = hex_number(digits.as_bytes()).ok_or(Fault::Usage)?;
     let meaning = meaning_of(number).ok_or(Fault::Usage)?;

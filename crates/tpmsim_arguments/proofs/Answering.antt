@@ -32,14 +32,14 @@ not_found : {X : Type 0} (found : Option X) → ok_or found Usage ≡ Err Usage 
 not_found None e = refl
 not_found (Some y) e = absurd cc
 
--- the request to run a script is never a request for one of clap's texts, help or version
+-- the request to run a script is never a request for clap's help or version
 no_run : (kind : ErrorKind) (trace : Bool) (script : Option Text) (storage : Option (Option Stored))
     → option_and_then (λ s. option_and_then (λ kept. Some (run s trace kept)) storage) script ≡ Some (tell kind) → ⊥
 no_run kind trace None storage e = cc
 no_run kind trace (Some s) None e = cc
 no_run kind trace (Some s) (Some kept) e = cc
 
--- if neither of two options is this request, a choice between them is not this request
+-- if neither of two options is this request, then the one that is chosen is not this request
 otherwise : {A : Type 0} (wish : A) (here : Bool) (this other : Option A) → (this ≡ Some wish → ⊥) → (other ≡ Some wish → ⊥)
     → (if here then this else other) ≡ Some wish → ⊥
 otherwise wish true this other one two e = one e
@@ -133,8 +133,8 @@ taken words (Ok (arguments.Tell error)) right e = absurd (none_tells _ (subcomma
 taken words (Err Usage) right e = inr (right, not_found _ e)
 taken words (Err NoMemory) right e = tt
 
--- if clap refuses the words, and not for help or the version, the result is the one that `Answers`
--- requires
+-- if clap refuses the words, but not because the user requested help or the version, the result is
+-- the one that `Answers` requires
 pub refused : (words : List Text) (kind : ErrorKind) (fault : ArgumentFault) → fault ≡ fault_of_words kind
     → (kind ≡ OutOfMemory) ⊎ IsAmong kind (fault_of program words) → kind ≢ DisplayHelp → kind ≢ DisplayVersion
     → Answers words (Err fault)
@@ -145,7 +145,7 @@ refused words kind Usage is (inl out) help version =
 refused words kind Usage is (inr among) help version =
     inl (kind, among, λ wish. elim wish [ inl h ↦ help h | inr v ↦ version v ])
 
--- if it is false that a kind of error is neither help nor the version, the kind is one of these two
+-- if it is false that a kind of error is neither help nor the version, it is help or the version
 is_wish : (kind : ErrorKind) → ((kind ≢ DisplayHelp) × (kind ≢ DisplayVersion) → ⊥) → IsTold kind
 is_wish DisplayHelp never = inl refl
 is_wish DisplayVersion never = inr refl

@@ -62,7 +62,8 @@ damage_is_cut name state e = rw (no_end state e, no_long state e, no_short state
 past_is : (keep : Text) (past : ℕ) → decimal_of keep ≡ Some past → past ≤ 99 → past_by (Some keep) ≡ Some past
 past_is keep past e small = rw (e, le-leb past 99 small) refl
 
--- what a command line `power` with this number of journals requests; None if there is no number
+-- what a command line `power` with this number of journals requests; None if the number is not
+-- valid
 abbrev with_past : (state : Text) → Option ℕ → Option Invocation
 with_past state past = option_and_then (λ count. Some (cycle_power state false count)) past
 
@@ -102,7 +103,7 @@ locality_is : (number : ℕ) → number ≤ 4 → locality_of number ≡ Some nu
 locality_is number small = rw (le-leb number 4 small) refl
 
 -- what a command line `serve` with this locality and this number of connections requests; None if
--- one of them is missing, or if there is no such locality
+-- one of the numbers is not valid
 abbrev pub with_numbers : (socket : Text) → Kept → (log : Option Text) → (entropy : Text) → Option ℕ → Option ℕ → Bool → Option Invocation
 with_numbers socket place log entropy locality connections saves = option_map serve (option_and_then (λ l. option_and_then (λ c.
     Some (record { socket = socket; place = place; log = log; entropy = entropy; locality = l; connections = c; saves_each = saves; completes = false }))
@@ -177,8 +178,8 @@ pub folder_is_served : (name socket state : Text) → AskForFolder (short_line n
 unfolding clap_on_literals
 folder_is_served name socket state = (refl, refl)
 
--- what a command line `serve --complete` with this number of journals requests; None if there is no
--- number
+-- what a command line `serve --complete` with this number of journals requests; None if the number
+-- is not valid
 abbrev completed : (socket state : Text) → Option ℕ → Option Invocation
 completed socket state past = option_map serve (option_and_then (λ place. option_and_then (λ log. option_and_then (λ completes.
     Some (record { socket = socket; place = place; log = log; entropy = codes "/dev/urandom"; locality = 0; connections = None; saves_each = false; completes = completes }))

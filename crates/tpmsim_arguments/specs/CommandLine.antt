@@ -4,7 +4,7 @@ use Rattle.clap.specs.Words.{App, Rule, Shape, Text, new_rule, with_subcommand}
 use Rattle.clap.specs.Simple.{new_shape}
 use Rattle.clap.specs.declared.builder.action.ArgAction.TheVariants.{Set, SetTrue}
 
--- the rule for the optional flag --NAME
+-- the rule for the optional flag `--NAME`
 abbrev pub flag : Text → Rule
 flag name = record (new_rule name) { long = Some name; action = Some SetTrue }
 
@@ -16,11 +16,11 @@ operand name = record (new_rule name) {
   required = true;
 }
 
--- the rule for the required argument --NAME VALUE
+-- the rule for the required argument `--NAME VALUE`
 abbrev pub setting : Text → Rule
 setting name = record (operand name) { long = Some name }
 
--- the rule for the optional argument --NAME VALUE
+-- the rule for the optional argument `--NAME VALUE`
 abbrev pub choice : Text → Rule
 choice name = record (setting name) { required = false }
 
@@ -32,59 +32,60 @@ with_arguments name rules = record (new_shape name) { rules = rules }
 abbrev pub optional_operand : Text → Rule
 optional_operand name = record (operand name) { required = false }
 
--- the command run [--trace] [--image FILE] [--state DIR] [--keep NUMBER] [--entropy FILE] [SCRIPT]
+-- the command `run [--trace] [--image FILE] [--state DIR] [--keep NUMBER] [--entropy FILE]
+-- [SCRIPT]`
 abbrev pub run_command : Shape
 run_command = with_arguments (codes "run") (flag (codes "trace") ∷ choice (codes "image")
     ∷ choice (codes "state") ∷ choice (codes "keep") ∷ choice (codes "entropy")
     ∷ optional_operand (codes "script") ∷ [])
 
--- the command check SCRIPT
+-- the command `check SCRIPT`
 abbrev pub check_command : Shape
 check_command = with_arguments (codes "check") (operand (codes "script") ∷ [])
 
--- the command asm LINE
+-- the command `asm LINE`
 abbrev pub asm_command : Shape
 asm_command = with_arguments (codes "asm") (operand (codes "line") ∷ [])
 
--- the command line HEX
+-- the command `line HEX`
 abbrev pub line_command : Shape
 line_command = with_arguments (codes "line") (operand (codes "hex") ∷ [])
 
--- the command lines [NAME]
+-- the command `lines [NAME]`
 abbrev pub lines_command : Shape
 lines_command = with_arguments (codes "lines") (optional_operand (codes "name") ∷ [])
 
--- the command code HEX
+-- the command `code HEX`
 abbrev pub code_command : Shape
 code_command = with_arguments (codes "code") (operand (codes "number") ∷ [])
 
--- the command serve --socket PATH [--image FILE] [--log FILE] [--state DIR] [--keep NUMBER]
--- [--complete] [--entropy FILE] [--locality NUMBER] [--connections NUMBER] [--save-each]
+-- the command `serve --socket PATH [--image FILE] [--log FILE] [--state DIR] [--keep NUMBER]
+-- [--complete] [--entropy FILE] [--locality NUMBER] [--connections NUMBER] [--save-each]`
 abbrev pub serve_command : Shape
 serve_command = with_arguments (codes "serve") (setting (codes "socket")
     ∷ choice (codes "image") ∷ choice (codes "log") ∷ choice (codes "state")
     ∷ choice (codes "keep") ∷ flag (codes "complete") ∷ choice (codes "entropy")
     ∷ choice (codes "locality") ∷ choice (codes "connections") ∷ flag (codes "save-each") ∷ [])
 
--- the command power [--cut] [--keep NUMBER] DIR
+-- the command `power [--cut] [--keep NUMBER] DIR`
 abbrev pub power_command : Shape
 power_command = with_arguments (codes "power")
     (flag (codes "cut") ∷ choice (codes "keep") ∷ operand (codes "state") ∷ [])
 
--- the command snapshot DIR
+-- the command `snapshot DIR`
 abbrev pub snapshot_command : Shape
 snapshot_command = with_arguments (codes "snapshot") (operand (codes "state") ∷ [])
 
--- the command restore [--keep NUMBER] DIR FILE
+-- the command `restore [--keep NUMBER] DIR FILE`
 abbrev pub restore_command : Shape
 restore_command = with_arguments (codes "restore")
     (choice (codes "keep") ∷ operand (codes "state") ∷ operand (codes "snapshot") ∷ [])
 
--- the command script DIR
+-- the command `script DIR`
 abbrev pub script_command : Shape
 script_command = with_arguments (codes "script") (operand (codes "state") ∷ [])
 
--- the command replay FILE
+-- the command `replay FILE`
 abbrev pub replay_command : Shape
 replay_command = with_arguments (codes "replay") (operand (codes "journal") ∷ [])
 

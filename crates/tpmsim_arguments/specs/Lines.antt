@@ -24,119 +24,119 @@ NoneBeginsWithHyphen = AllByRecursion (λ word. begins_with_hyphen word ≡ fals
 abbrev pub IsScript : Text → Type 0
 IsScript script = (begins_with_hyphen script ≡ false) ⊎ (script ≡ codes "-")
 
--- the command line NAME asm LINE
+-- the command line `NAME asm LINE`
 abbrev pub asm_line : (name line : Text) → List Text
 asm_line name line = name ∷ codes "asm" ∷ line ∷ []
 
--- the command line NAME run SCRIPT
+-- the command line `NAME run SCRIPT`
 abbrev pub run_line : (name script : Text) → List Text
 run_line name script = name ∷ codes "run" ∷ script ∷ []
 
--- the command line NAME run --trace SCRIPT
+-- the command line `NAME run --trace SCRIPT`
 abbrev pub trace_line : (name script : Text) → List Text
 trace_line name script = name ∷ codes "run" ∷ codes "--trace" ∷ script ∷ []
 
--- the command line NAME check SCRIPT
+-- the command line `NAME check SCRIPT`
 abbrev pub check_line : (name script : Text) → List Text
 check_line name script = name ∷ codes "check" ∷ script ∷ []
 
--- the command line NAME power DIR
+-- the command line `NAME power DIR`
 abbrev pub power_line : (name state : Text) → List Text
 power_line name state = name ∷ codes "power" ∷ state ∷ []
 
--- the command line NAME replay FILE
+-- the command line `NAME replay FILE`
 abbrev pub replay_line : (name journal : Text) → List Text
 replay_line name journal = name ∷ codes "replay" ∷ journal ∷ []
 
--- the command line NAME power --cut DIR
+-- the command line `NAME power --cut DIR`
 abbrev pub cut_line : (name state : Text) → List Text
 cut_line name state = name ∷ codes "power" ∷ codes "--cut" ∷ state ∷ []
 
--- the command line NAME power --keep=KEEP DIR
+-- the command line `NAME power --keep=KEEP DIR`
 abbrev pub keeping_line : (name keep state : Text) → List Text
 keeping_line name keep state = name ∷ codes "power" ∷ (codes "--keep=" ++ keep) ∷ state ∷ []
 
--- the command line NAME snapshot DIR
+-- the command line `NAME snapshot DIR`
 abbrev pub snapshot_line : (name state : Text) → List Text
 snapshot_line name state = name ∷ codes "snapshot" ∷ state ∷ []
 
--- the command line NAME restore DIR FILE
+-- the command line `NAME restore DIR FILE`
 abbrev pub restore_line : (name state text : Text) → List Text
 restore_line name state text = name ∷ codes "restore" ∷ state ∷ text ∷ []
 
--- the command line NAME script DIR
+-- the command line `NAME script DIR`
 abbrev pub script_line : (name state : Text) → List Text
 script_line name state = name ∷ codes "script" ∷ state ∷ []
 
--- the command line NAME line HEX
+-- the command line `NAME line HEX`
 abbrev pub line_line : (name digits : Text) → List Text
 line_line name digits = name ∷ codes "line" ∷ digits ∷ []
 
--- the command line NAME lines
+-- the command line `NAME lines`
 abbrev pub forms_line : (name : Text) → List Text
 forms_line name = name ∷ codes "lines" ∷ []
 
--- the command line NAME lines COMMAND
+-- the command line `NAME lines COMMAND`
 abbrev pub form_line : (name command : Text) → List Text
 form_line name command = name ∷ codes "lines" ∷ command ∷ []
 
--- the command line NAME code HEX
+-- the command line `NAME code HEX`
 abbrev pub code_line : (name digits : Text) → List Text
 code_line name digits = name ∷ codes "code" ∷ digits ∷ []
 
--- the command line NAME run --trace --image=IMAGE --entropy=ENTROPY SCRIPT
+-- the command line `NAME run --trace --image=IMAGE --entropy=ENTROPY SCRIPT`
 abbrev pub kept_line : (name image entropy script : Text) → List Text
 kept_line name image entropy script = name ∷ codes "run" ∷ codes "--trace"
     ∷ (codes "--image=" ++ image) ∷ (codes "--entropy=" ++ entropy) ∷ script ∷ []
 
--- the command line NAME run --state=STATE
+-- the command line `NAME run --state=STATE`
 abbrev pub played_line : (name state : Text) → List Text
 played_line name state = name ∷ codes "run" ∷ (codes "--state=" ++ state) ∷ []
 
--- the command line NAME serve --socket SOCKET --image IMAGE --entropy ENTROPY --locality LOCALITY
--- --connections CONNECTIONS
+-- the command line `NAME serve --socket SOCKET --image IMAGE --entropy ENTROPY --locality LOCALITY
+-- --connections CONNECTIONS`
 abbrev pub serve_line : (name socket image entropy locality connections : Text) → List Text
 serve_line name socket image entropy locality connections = name ∷ codes "serve"
     ∷ codes "--socket" ∷ socket ∷ codes "--image" ∷ image ∷ codes "--entropy" ∷ entropy
     ∷ codes "--locality" ∷ locality ∷ codes "--connections" ∷ connections ∷ []
 
--- the command line of serve with each value joined to its name, as in --socket=SOCKET
+-- the command line of `serve` with each value joined to its name, as in `--socket=SOCKET`
 abbrev pub joined_line : (name socket image entropy locality connections : Text) → List Text
 joined_line name socket image entropy locality connections = name ∷ codes "serve"
     ∷ (codes "--socket=" ++ socket) ∷ (codes "--image=" ++ image)
     ∷ (codes "--entropy=" ++ entropy) ∷ (codes "--locality=" ++ locality)
     ∷ (codes "--connections=" ++ connections) ∷ []
 
--- the command line of serve with --save-each before the other arguments
+-- the command line of `serve` with `--save-each` before the other arguments
 abbrev pub saving_line : (name socket image entropy locality connections : Text) → List Text
 saving_line name socket image entropy locality connections = name ∷ codes "serve"
     ∷ codes "--save-each" ∷ (codes "--socket=" ++ socket) ∷ (codes "--image=" ++ image)
     ∷ (codes "--entropy=" ++ entropy) ∷ (codes "--locality=" ++ locality)
     ∷ (codes "--connections=" ++ connections) ∷ []
 
--- the command line of serve with --log=LOG after the image
+-- the command line of `serve` with `--log=LOG` after the image
 abbrev pub logging_line : (name socket image log entropy locality connections : Text) → List Text
 logging_line name socket image log entropy locality connections = name ∷ codes "serve"
     ∷ (codes "--socket=" ++ socket) ∷ (codes "--image=" ++ image) ∷ (codes "--log=" ++ log)
     ∷ (codes "--entropy=" ++ entropy) ∷ (codes "--locality=" ++ locality)
     ∷ (codes "--connections=" ++ connections) ∷ []
 
--- the command line NAME serve --socket=SOCKET --state=STATE
+-- the command line `NAME serve --socket=SOCKET --state=STATE`
 abbrev pub short_line : (name socket state : Text) → List Text
 short_line name socket state = name ∷ codes "serve" ∷ (codes "--socket=" ++ socket)
     ∷ (codes "--state=" ++ state) ∷ []
 
--- the command line NAME serve --socket=SOCKET --state=STATE --keep=KEEP --complete
+-- the command line `NAME serve --socket=SOCKET --state=STATE --keep=KEEP --complete`
 abbrev pub complete_line : (name socket state keep : Text) → List Text
 complete_line name socket state keep = name ∷ codes "serve" ∷ (codes "--socket=" ++ socket)
     ∷ (codes "--state=" ++ state) ∷ (codes "--keep=" ++ keep) ∷ codes "--complete" ∷ []
 
--- the command line NAME serve --socket=SOCKET --image=IMAGE --complete
+-- the command line `NAME serve --socket=SOCKET --image=IMAGE --complete`
 abbrev pub incomplete_line : (name socket image : Text) → List Text
 incomplete_line name socket image = name ∷ codes "serve" ∷ (codes "--socket=" ++ socket)
     ∷ (codes "--image=" ++ image) ∷ codes "--complete" ∷ []
 
--- the command line of serve with --state=STATE instead of the image
+-- the command line of `serve` with `--state=STATE` instead of the image
 abbrev pub state_line : (name socket state entropy locality connections : Text) → List Text
 state_line name socket state entropy locality connections = name ∷ codes "serve"
     ∷ (codes "--socket=" ++ socket) ∷ (codes "--state=" ++ state)
@@ -181,13 +181,15 @@ AskForFolder words socket state past completes = AskFor words (serve (record {
   completes = completes;
 }))
 
--- These words request to serve a device with an image, and to save it only after each connection.
+-- These words request to serve a device that is kept in an image, and to save the device only after
+-- each connection.
 abbrev pub AskForDevice : (words : List Text) (socket image entropy locality connections : Text)
     → Type 0
 AskForDevice words socket image entropy locality connections =
     AskForService words socket (in_image image) None entropy locality connections false
 
--- These words request to serve a device with an image, and to save it before each response.
+-- These words request to serve a device that is kept in an image, and to save the device before
+-- each response.
 abbrev pub AskForSavedDevice : (words : List Text)
     (socket image entropy locality connections : Text) → Type 0
 AskForSavedDevice words socket image entropy locality connections =

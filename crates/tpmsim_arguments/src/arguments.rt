@@ -70,8 +70,8 @@ pub enum Arguments<'a> {
     Snapshot {
         state: &'a str,
     },
-    /// Replace the device whose state is in this folder, or begin one there, with the device of the
-    /// state text in this file. `past` is the number of finished journals that stay in the folder.
+    /// Put the device of the state text in this file into this folder, where it replaces the
+    /// device, if there is one. `past` is the number of finished journals that stay in the folder.
     Restore {
         state: &'a str,
         text: &'a str,
@@ -242,8 +242,8 @@ fn storage_of<'a>(options: &ArgMatches<'a>) -> Option<Option<Storage<'a>>>
     }
 }
 
-/// Returns the place of the device: an image or a folder of a state, exactly one of which must be
-/// given. The number of finished journals applies only to a folder.
+/// Returns the place of the device: an image, or a folder with its state. Exactly one of these must
+/// be given. The number of finished journals applies only to a folder.
 fn place_by<'a>(
     image: Option<&'a str>,
     state: Option<&'a str>,
@@ -274,7 +274,7 @@ fn past_by(keep: Option<&str>) -> Option<u32>
     }
 }
 
-/// The number of journals, if it is at most 99.
+/// Returns this number of journals, if it is at most 99.
 fn past_of(number: u32) -> Option<u32>
     ensures { result ≡ past_of number }
 {

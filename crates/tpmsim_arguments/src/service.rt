@@ -25,8 +25,8 @@ pub struct Service<'a> {
     pub connections: Option<u32>,
     /// Whether the device is saved before each response, and not only after each connection.
     pub saves_each: bool,
-    /// Whether the completing layer answers what the device lacks. The layer needs a device in a
-    /// folder.
+    /// Whether the completing layer answers commands that the device does not support. The layer
+    /// needs a device in a folder.
     pub completes: bool,
 }
 

@@ -1,4 +1,4 @@
--- Why a device that is kept in an image was not opened, saved or served.
+-- Why a device that is kept in an image could not be opened, saved or served.
 use Rattle.std.specs.Prelude.{Result, Ok, Err}
 use Rattle.std.specs.IoError.{error_kind, raw_os_error}
 use Rattle.std.specs.declared.io.Error.{Error}
@@ -29,12 +29,13 @@ fault_of_kind otherwise _ = otherwise
 abbrev pub fault_or : DeviceFault → Error → DeviceFault
 fault_or otherwise error = fault_of_kind (with_cause otherwise error) (error_kind error)
 
--- the value of a result; if it is an error, the given fault with the number of the error, or Memory
+-- the value of a result; for an error, Memory if memory ran out, and otherwise the given fault with
+-- the number of the error
 abbrev pub given_or : {A : Type 0} → DeviceFault → Result A Error → Result A DeviceFault
 given_or otherwise (Ok value) = Ok value
 given_or otherwise (Err error) = Err (fault_or otherwise error)
 
--- the fault of a file that was not opened as an image: memory ran out, or the file is not an image
+-- the fault if a file could not be opened as an image: memory ran out, or it is not an image
 abbrev pub fault_of_image : ImageFault → DeviceFault
 fault_of_image image.NoMemory = Memory
 fault_of_image fault = Image fault

@@ -5,8 +5,8 @@ use Rattle.tpm_image_text.specs.KeptText.{kept_text}
 use Rattle.tpm_record.specs.Record.{Record}
 use Rattle.tpmsim_image.specs.declared.image_saver.ImageSaver.{ImageSaver}
 
--- a saver that was notified that its device may have changed: if more than the device's clock
--- changed, the device was written
+-- the saver after it was notified that its device may have changed; if more than the device's clock
+-- changed, it has written the device
 abbrev pub changed : ImageSaver → Record → ImageSaver
 changed old r = record old {
   kept = kept_text r;

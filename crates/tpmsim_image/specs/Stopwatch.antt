@@ -1,4 +1,4 @@
--- The elapsed time that a served device's commands get.
+-- The elapsed time of each command of a served device.
 use Rattle.std.specs.Prelude.{ℕ, ◌-◌, ◌/◌, Option, Some, min, max, unwrap_or}
 
 -- the state of a stopwatch: the arrival time of the first command, in nanoseconds of the host's
@@ -16,7 +16,8 @@ since_first now s = (now - unwrap_or s.first now) / 1_000_000
 abbrev pub told : (now : ℕ) → StopwatchState → ℕ
 told now s = min (since_first now s - s.passed) 0xffff_ffff
 
--- the stopwatch after that command: all milliseconds were passed to commands or dropped
+-- the stopwatch after a command that arrives at this time: all milliseconds until then were passed
+-- to commands or dropped
 abbrev pub after_command : (now : ℕ) → StopwatchState → StopwatchState
 after_command now s =
     record { first = Some (unwrap_or s.first now); passed = max s.passed (since_first now s) }

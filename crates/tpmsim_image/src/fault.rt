@@ -1,4 +1,4 @@
-//! Why a device that is kept in an image was not opened, saved or served.
+//! Why a device that is kept in an image could not be opened, saved or served.
 
 ghost use Rattle.std.specs.Prelude.{◌≡◌, None};
 ghost use Rattle.std.specs.IoError.{raw_os_error};
@@ -56,7 +56,7 @@ impl Cause {
     }
 }
 
-/// Why a device that is kept in an image was not opened, saved or served.
+/// Why a device that is kept in an image could not be opened, saved or served.
 #[derive(Clone, Copy, PartialEq, Eq)]
 pub enum DeviceFault {
     /// The file of the image does not contain an image.

@@ -36,8 +36,8 @@ impl<'a> ImageSaver<'a> {
         }
     }
 
-    /// Records that this device is the one in the file. The first save with the clock writes the
-    /// file again even so, since the file may have an older version, or be readable by other users.
+    /// Records that the file contains this device. Even so, the first save with the clock writes
+    /// the file again, since it may have an older version, or be readable by other users.
     pub fn opened<K: Keep>(&mut self, machine: &Machine<K>)
         ensures { self.new
             ≡ record self.old { kept = kept_text (state_of K.record_of machine.now) } }

@@ -39,7 +39,7 @@ const HEAD_ROOM: usize = 57_472;
 #[derive(Drop)]
 pub struct Log<W> {
     pub(crate) writer: Tap<W>,
-    /// The checksum of the marks so far.
+    /// The checksum of all marks so far, of the head and the entries.
     pub(crate) sum: u64,
     pub(crate) failed: bool,
     /// The buffer for the text of an entry. The text is written in one write.
@@ -110,8 +110,8 @@ impl<W: Write> Log<W> {
     ghost use Rattle.tpmsim_image.specs.log.Executed.{entry_by, has_entry};
     ghost use Rattle.tpmsim_image.specs.log.Log.{AddsSome, written_of};
 
-    /// Adds the entry of an event with this response, which drew `drawn` random bytes. If the event
-    /// has no entry, or the write fails, nothing more can be added to the log.
+    /// Adds the entry of an event that had this response and drew `drawn` random bytes. If the
+    /// event has no entry, or the write fails, nothing more can be added to the log.
     fn add(&mut self, event: &Event, drawn: usize, response: &[u8]) -> Result<(), Unsaved>
         ensures added { OnOk result (AddsSome (written_of W.contents self.old)
             (entry_by (plain_event event.now) drawn response.now) (written_of W.contents self.new)) }

@@ -85,8 +85,8 @@ fn identity_at(rt: &HostRuntime, path: &str) -> io::Result<Identity> {
     })
 }
 
-/// Creates a socket at this path, which only its owner can use from its creation on. An existing
-/// socket at which nobody answers is replaced.
+/// Creates a socket at this path, which only its owner can use from its creation on. Replaces an
+/// existing socket at which nobody answers.
 pub fn bind(rt: &HostRuntime, path: &str) -> Result<Socket, DeviceFault> {
     DeviceFault::Socket(Subject::Socket.alone()).unless(bind_aside(rt, path))
 }

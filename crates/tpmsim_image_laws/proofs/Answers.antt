@@ -1,4 +1,4 @@
--- Each response on a connection is that of an outcome of the machine.
+-- Each response on a connection belongs to an outcome of the machine.
 use Rattle.std.proofs.Common.{◌≡◌, Bool, List, [], ◌∷◌, subst}
 use Rattle.std.specs.List.{AllByRecursion, AllZip}
 use Rattle.tpm_containers.specs.Slots.{free}

@@ -12,8 +12,8 @@ told_together s (now ∷ times) = told now s + told_together (after_command now 
 abbrev pub new_stopwatch : StopwatchState
 new_stopwatch = record { first = None; passed = 0 }
 
--- The sum is at most the time from the first command to the latest, whether the times ascend or
--- not.
+-- The sum of all elapsed times is at most the time from the first command to the latest, even if
+-- the clock was set back.
 abbrev pub TellsNoTimeTwice : Type 0
 TellsNoTimeTwice = (first latest : ℕ) (times : List ℕ) → AllByRecursion (λ now. now ≤ latest) times
     → told_together new_stopwatch (first ∷ times) ≤ (latest - first) / 1_000_000

@@ -17,7 +17,7 @@ pub fn stopwatch_laws()
     ensures { TellsNoTimeTwice }
 {}
 
-/// If a turn ends with a response, the connection gets exactly the outcome of the executed buffer.
+/// Each answer that a connection gets is the outcome of executing its buffer.
 #[inline(always)]
 #[tactic(auto, using(crate::proofs::Answers::answers_are_outcomes))]
 pub fn answer_laws()

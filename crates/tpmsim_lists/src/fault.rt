@@ -26,7 +26,7 @@ pub enum Fault {
 }
 
 impl Fault {
-    /// The word that is printed for the fault on standard error.
+    /// The word that is printed on standard error for the fault.
     pub fn name(self) -> &'static str {
         match self {
             Fault::Usage => "usage",

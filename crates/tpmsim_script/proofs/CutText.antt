@@ -5,8 +5,8 @@ use Rattle.std.specs.Io.KnownBytes.{Appends, Keeps, append_known}
 use Rattle.tpm_bytes.specs.Tap.{AppendsFront}
 use Rattle.tpmsim_script.specs.Answers.{CutOff}
 
--- If only a prefix of the buffered output was written and the rest was dropped, the output is
--- truncated.
+-- If only a prefix of the buffered output was written and the rest was dropped, the new output is a
+-- prefix of the old one.
 pub cut_writing : (old new : Option (List ℕ)) (held : List ℕ) → AppendsFront old new held → CutOff (append_known old held) (append_known new [])
 cut_writing None new held h = tt
 cut_writing (Some old) None held h = absurd h.3
@@ -24,7 +24,8 @@ cut_then_kept (Some a) None c h k = absurd h
 cut_then_kept (Some a) (Some b) None h k = absurd k
 cut_then_kept (Some a) (Some b) (Some c) h k = (h.0, h.1 ∙ ap (λ (l : List ℕ). l ++ h.0) (sym k))
 
--- A prefix of a prefix of an output is a prefix of the output.
+-- If one output is a prefix of a second one, and the second one of a third, the first is a prefix
+-- of the third.
 pub cut_twice : (a b c : Option (List ℕ)) → CutOff a b → CutOff b c → CutOff a c
 cut_twice None b c h k = tt
 cut_twice (Some a) None c h k = absurd h
@@ -32,7 +33,7 @@ cut_twice (Some a) (Some b) None h k = absurd k
 cut_twice (Some a) (Some b) (Some c) h k =
     (k.0 ++ h.0, h.1 ∙ ap (λ (l : List ℕ). l ++ h.0) k.1 ∙ append_assoc c k.0 h.0)
 
--- A prefix of an output is also a prefix of that output with more after it.
+-- A prefix of an output is also a prefix of any longer output that begins with that output.
 pub cut_longer : (a b : Option (List ℕ)) (more : List ℕ) → CutOff a b → CutOff (append_known a more) b
 cut_longer None b more h = tt
 cut_longer (Some a) None more h = absurd h
@@ -46,8 +47,8 @@ cut_behind (Some a) None c text h k = absurd h
 cut_behind (Some a) (Some b) None text h k = absurd k
 cut_behind (Some a) (Some b) (Some c) text h k = (k.0, sym h ∙ k.1)
 
--- Suppose that a text was printed, the output then stayed the same, and a second text was
--- truncated. Then the result is a prefix of the old output followed by both texts.
+-- Suppose that a first text was printed completely, and then only a prefix of a second text. Then
+-- the result is a prefix of the old output followed by both texts.
 pub cut_within : (a b c d : Option (List ℕ)) (text more : List ℕ) → Appends a b text → Keeps b c → CutOff (append_known c more) d → CutOff (append_known a (text ++ more)) d
 cut_within None b c d text more h k cut = tt
 cut_within (Some a) None c d text more h k cut = absurd h
@@ -56,8 +57,8 @@ cut_within (Some a) (Some b) (Some c) None text more h k cut = absurd cut
 cut_within (Some a) (Some b) (Some c) (Some d) text more h k cut =
     (cut.0, sym (append_assoc a text more) ∙ ap (λ (l : List ℕ). l ++ more) (sym (k ∙ h)) ∙ cut.1)
 
--- If a text was printed and a second text directly after it was truncated, the result is a prefix
--- of the old output followed by both texts.
+-- Suppose that a text was printed, and that a second text printed directly after it was truncated.
+-- Then the result is a prefix of the old output followed by both texts.
 pub cut_after : (a b d : Option (List ℕ)) (text more : List ℕ) → Appends a b text → CutOff (append_known b more) d → CutOff (append_known a (text ++ more)) d
 cut_after None b d text more h cut = tt
 cut_after (Some a) None d text more h cut = absurd h
@@ -65,7 +66,7 @@ cut_after (Some a) (Some b) None text more h cut = absurd cut
 cut_after (Some a) (Some b) (Some d) text more h cut =
     (cut.0, sym (append_assoc a text more) ∙ ap (λ (l : List ℕ). l ++ more) (sym h) ∙ cut.1)
 
--- If two texts were printed one after the other, both together were printed.
+-- If two texts were printed one after the other, their concatenation was printed.
 pub printed_on : (a b c d : Option (List ℕ)) (text more : List ℕ) → Appends a b text → Keeps b c → Appends c d more → Appends a d (text ++ more)
 printed_on None b c d text more h k m = tt
 printed_on (Some a) None c d text more h k m = absurd h

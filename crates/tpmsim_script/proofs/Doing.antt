@@ -36,7 +36,7 @@ pub lt_none : (p : Playing) (line : List ℕ) → 65536 < length line → perfor
 unfolding perform_line
 lt_none p line long = ap (λ b. cond b (option_and_then (perform p) (line_meaning line)) None) (lt-leb (length line) 65536 long)
 
--- To perform the meaning of a line is to perform the line.
+-- Performing the parsed meaning of a line has the effect that is defined for the line.
 pub did_said : (p : Playing) (line : List ℕ) (said : Meaning) (old : Option (List ℕ)) (before : Playing) (result : Result (Unit {0}) LineFault) (new : Option (List ℕ)) (after : Playing)
     → length line ≤ 65536 → line_meaning line ≡ Some said → Did (perform p said) old before result new after → Did (perform_line p line) old before result new after
 did_said p line said old before (Ok done) new after short e did = (did.0, said_done p line said short e ∙ did.1, did.2, did.3)
@@ -67,8 +67,8 @@ appended_twice (Some old) None new first more h k = absurd h
 appended_twice (Some old) (Some mid) None first more h k = absurd k
 appended_twice (Some old) (Some mid) (Some new) first more h k = k ∙ ap (λ (l : List ℕ). l ++ more) h ∙ append_assoc old first more
 
--- If a command was executed, and its response and (if requested) its trace were printed, the
--- command had its effect.
+-- If a command was executed, and first its trace (if requested) and then its response were printed,
+-- the line had its effect.
 pub executed : (p : Playing) (buffer : List ℕ) (s : Stepped) (old mid : Option (List ℕ)) (result : Result (Unit {0}) LineFault) (new : Option (List ℕ)) (after : Playing)
     → s ≡ step p.device (command_of p buffer) → Appends old mid (printed_trace p.traced (command_of p buffer) s) → OnOk result (Appends mid new (printed_response s.response)) → OnErr result (CutOff mid new)
     → after ≡ (answer p (command_of p buffer) s).next → OnErr result (result ≡ Err Write) → Did (Some (execute p buffer)) old p result new after
@@ -89,8 +89,7 @@ untraced p buffer s old (Err Write) new after is cut next e =
     (answer p (command_of p buffer) s, ap (λ s. Some (answer p (command_of p buffer) s)) (sym is), cut_longer old new _ cut, next)
 untraced p buffer s old (Err Save) new after is cut next e = absurd (save_is_no_write e)
 
--- If the device was power-cycled and (if requested) the trace was printed, the power cycle had its
--- effect.
+-- If the device was power-cycled and the trace (if requested) was printed, the line had its effect.
 pub cycled : (p : Playing) (s : Stepped) (old : Option (List ℕ)) (result : Result (Unit {0}) LineFault) (new : Option (List ℕ)) (after : Playing)
     → s ≡ step p.device Cycled → OnOk result (Appends old new (printed_trace p.traced Cycled s)) → OnErr result (CutOff old new) → after ≡ (cycle_to p s).next → OnErr result (result ≡ Err Write)
     → Did (Some (cycle p)) old p result new after
@@ -101,8 +100,8 @@ cycled p s old (Err Save) new after is printed cut next err = absurd (save_is_no
 
 -- ---- the saver's notifications
 
--- Only the writer can fail after the saver was notified. Therefore the saver was notified, whatever
--- the result is.
+-- After the saver was notified, only the writer can fail. Therefore `Told` holds, whatever the
+-- result is.
 pub told_then : {S : Type 0} (tells : S → Type 0) (old : S) (result : Result (Unit {0}) LineFault) (new : S) → OnErr result (result ≡ Err Write) → tells new → Told tells old result new
 told_then tells old (Ok done) new err told = told
 told_then tells old (Err Bad) new err told = absurd (bad_is_no_write err)

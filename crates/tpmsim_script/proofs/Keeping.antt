@@ -23,7 +23,7 @@ use Rattle.tpmsim_script.proofs.Doing.{lt_none}
 
 -- ---- playing one more line
 
--- These lines were read from the beginning of a text.
+-- These lines are the first lines of a text, and were read from it.
 abbrev pub LosesLines : Option (List ℕ) → List (List ℕ) → Option (List ℕ) → Type 0
 LosesLines None lines new = Unit {0}
 LosesLines (Some text) lines None = ⊥
@@ -295,7 +295,7 @@ pub told_said : {S : Type 0} (saves saves_change : S → Record → S → Type 0
     → line_meaning line ≡ Some said → Told (Tells saves saves_change (Some said) device old) old result new → Told (Tells saves saves_change (line_meaning line) device old) old result new
 told_said saves saves_change line said device old result new e told = subst (λ m. Told (Tells saves saves_change m device old) old result new) (sym e) told
 
--- The saver's notification of a line depends only on the text of the line.
+-- How the saver was notified of a line depends only on the text of the line.
 pub told_there : {S : Type 0} (saves saves_change : S → Record → S → Type 0) (line said : List ℕ) (device : Record) (old : S) (result : Result (Unit {0}) LineFault) (new : S)
     → said ≡ line → Told (Tells saves saves_change (line_meaning said) device old) old result new → Told (Tells saves saves_change (line_meaning line) device old) old result new
 told_there saves saves_change line said device old result new e told = subst (λ l. Told (Tells saves saves_change (line_meaning l) device old) old result new) e told
@@ -317,8 +317,8 @@ others_yet : (text : Option (List ℕ)) (lines : List (List ℕ)) (P Q : List (L
 others_yet None lines P Q q h = tt
 others_yet (Some text) lines P Q q h = (h.0, h.1, q h.0)
 
--- If a run played some lines and ended with one result, then `Played` also holds for any other
--- result that allows these lines and their output.
+-- Suppose that a run played some lines and ended with one result. If another result allows the same
+-- lines and their output, `Played` also holds for it.
 recast : {S : Type 0} (saves saves_change : S → Record → S → Type 0) (text left old mid new : Option (List ℕ)) (start : Kept S) (result other : Result (Unit {0}) ScriptFault) (Last Next : Kept S → Type 0)
     → (h : Played saves saves_change text left old mid start result Last) → Counts other (length h.lines) → ((rest : List (List ℕ)) → Leaves other left h.end.playing rest) → Writes other old new h.print → Next h.end
     → Played saves saves_change text left old new start other Next

@@ -74,7 +74,7 @@ no_break rest e = λ k d l. fails_before_first is_break rest k d (grind (arith, 
 regrouped : (a b c d : List ℕ) → a ++ ((b ++ c) ++ d) ≡ (a ++ b) ++ (c ++ d)
 regrouped a b c d = simp append_assoc
 
--- If a 0a is found, the line ends there.
+-- If the bytes that were read contain a 0a, the line ends there.
 pub found_line : (line rest more : List ℕ) (at : ℕ) → IsUnbroken line → position is_break rest ≡ Some at
     → lines_of (line ++ (rest ++ more)) ≡ (line ++ take at rest) ∷ lines_of (drop (at + 1) rest ++ more)
 found_line line rest more at h e =
@@ -83,7 +83,7 @@ found_line line rest more at h e =
     ap (λ l. line ++ (l ++ more)) (at_break rest at e) ∙ regrouped line (take at rest) (10 ∷ drop (at + 1) rest) more in
     ap lines_of cut ∙ line_ended (line ++ take at rest) (drop (at + 1) rest ++ more) front
 
--- If the 0a that ends a line is found only after the limit, the line is too long.
+-- If more than 65,536 bytes of a line precede the first 0a, the line is too long.
 pub found_too_long : (line rest more : List ℕ) (at : ℕ) → IsUnbroken line → position is_break rest ≡ Some at → 65536 < length line + at → BeginsTooLong (line ++ (rest ++ more))
 found_too_long line rest more at h e long =
     let front = All-append IsWithin line (take at rest) h (before_break rest at e) in
@@ -93,11 +93,12 @@ found_too_long line rest more at h e long =
     ap (λ l. line ++ (l ++ more)) (sym (take-append-drop at rest)) ∙ regrouped line (take at rest) (drop at rest) more in
     subst BeginsTooLong (sym cut) (too_long (line ++ take at rest) (drop at rest ++ more) front (omega (arith, size)))
 
--- If the bytes that were read contain no 0a, the line continues after them.
+-- If none of the bytes that were read is a 0a, the line continues after them.
 pub found_more : (line rest : List ℕ) → IsUnbroken line → position is_break rest ≡ None → IsUnbroken (line ++ rest)
 found_more line rest h e = All-append IsWithin line rest h (no_break rest e)
 
--- If the bytes that were read contain no 0a and exceed the limit, the line is too long.
+-- If the line with all bytes that were read contains no 0a and has more than 65,536 bytes, it is
+-- too long.
 pub found_no_end : (line rest more : List ℕ) → IsUnbroken line → position is_break rest ≡ None → 65536 < length line + length rest → BeginsTooLong (line ++ (rest ++ more))
 found_no_end line rest more h e long =
     let whole = found_more line rest h e in
@@ -126,7 +127,8 @@ stopped_finds old new true (byte ∷ line) e l whole behind h none short = λ mo
     found_last (line_of old) (rest_of old) more h none (follows e) some
     ∙ ap (λ (x : List ℕ). x ∷ lines_of ([] ++ more)) (sym whole) ∙ ap (λ (rest : List ℕ). line_of new ∷ lines_of (rest ++ more)) (sym behind)
 
--- If the bytes that were read begin with a line that is too long, so does the remaining text.
+-- If the bytes that were read begin with a line that is too long, the remaining text begins with a
+-- line that is too long.
 pub too_long_left : (left remaining : Option (List ℕ)) (line rest : List ℕ) → Keeps left (prepend_known (line ++ rest) remaining) → ((more : List ℕ) → BeginsTooLong (line ++ (rest ++ more)))
     → IfSome left BeginsTooLong
 too_long_left None remaining line rest h long = tt

@@ -64,7 +64,7 @@ pub did_there : (p q : Playing) (line said : List ℕ) (held : Option (List ℕ)
 did_there p q line said held result new next e f did =
     subst (λ l. Did (perform_line p l) held p result new next) f (subst (λ player. Did (perform_line player said) held player result new next) e did)
 
--- If a line had its effect, and then the rest was played, the whole text was played.
+-- If a line had its effect, and then all lines after it were played, the whole text was played.
 pub did_and_went_on : (left rest old held mid new : Option (List ℕ)) (p next : Playing) (number : ℕ) (line : List ℕ) (done : Unit {0}) (bad : Option ℕ)
     → LosesFirstLine left line rest → Keeps old held → Did (perform_line p line) held p (Ok done) mid next → Plays rest mid new next (number + 1) bad → Plays left old new p number bad
 did_and_went_on left rest old held mid new p next number line done bad t k did h =
@@ -81,7 +81,7 @@ pub stopped_by_length : (left old new : Option (List ℕ)) (p : Playing) (number
 stopped_by_length None old new p number t k = tt
 stopped_by_length (Some text) old new p number t k = stopped text t.0 t.1 old new p number t.2 (lt_none p t.0 t.3) k
 
--- If a fault occurs before the next line was found, the run ends there.
+-- If a fault occurs before the next line is found, the run ends there.
 pub ran_to_fault : (left old new rest : Option (List ℕ)) (p : Playing) (number : ℕ) (fault : ScriptFault) (line : List ℕ) (P : Option ℕ → Type 0)
     → NextFound number left (Err fault) line rest → UnlessFailed {X = Bool} (Err fault) (Keeps old new) → ((bad : Option ℕ) → Plays left old new p number bad → P bad) → Ran P (Err fault)
 ran_to_fault left old new rest p number (Line bad) line P found kept whole = whole (Some bad) (subst (λ n. Plays left old new p number (Some n)) (sym found.0) (stopped_by_length left old new p number found.1 kept))
@@ -109,8 +109,8 @@ pub reached_on : (left rest old held mid new : Option (List ℕ)) (p q : Playing
 reached_on left rest old held mid new p q number line done next behind t k did h =
     reached_next left rest old held mid new p number line did.0 next behind t k did.1 did.2 (subst (λ x. PlaysUpTo rest mid new x (number + 1) next behind) did.3 h)
 
--- If the lines from `here` up to some later line were played, then all lines from `start` up to
--- that later line were played.
+-- Suppose that the lines from `here` up to some later line were played. Then all lines from `start`
+-- up to that later line were played.
 abbrev pub Leads : Option (List ℕ) → Option (List ℕ) → Playing → ℕ → Option (List ℕ) → Option (List ℕ) → Playing → Option (List ℕ) → Type 0
 Leads here old p number start first q new = (next : ℕ) (behind : List (List ℕ)) → PlaysUpTo here old new p number next behind → PlaysUpTo start first new q 1 next behind
 
@@ -234,7 +234,8 @@ start_lost (Some text) (Some more) None line rest start h k e unbroken = absurd 
 start_lost (Some text) (Some more) (Some last) line rest start h k e unbroken =
     (start, unbroken, sym h ∙ ap (λ (l : List ℕ). l ++ more) (sym e) ∙ ap (λ (l : List ℕ). start ++ l) (sym k))
 
--- Each read either returned some bytes or was the last read.
+-- Each read either returns some bytes or is the last one. Therefore each read decreases the measure
+-- of the loop.
 pub reads_on : (was now : Bool) (line rest longer more : ℕ) → was ≡ false → longer ≡ line + rest → longer ≤ 65536 → now ≡ (more == 0) → cond now 0 (1 + (2 * (65536 - longer) + (1 - more))) < cond was 0 (1 + (2 * (65536 - line) + (1 - rest)))
 reads_on true now line rest longer more w e limit n = absurd (false≢true (sym w))
 reads_on false true line rest longer more w e limit n = omega arith
@@ -289,8 +290,8 @@ ran_too_many start text before old mid written new q p (Err Write) a b c k d h =
 ran_too_many start text before old mid written new q p (Err Save) a b c k d h = tt
 ran_too_many start text before old mid written new q p (Err NoMemory) a b c k d h = tt
 
--- If the writer's flags are unchanged, and a saver that had failed still counts as failed, then the
--- fault still names what failed.
+-- If the writer's flags are unchanged, and a saver that had failed still counts as failed, the
+-- fault still names the part that failed.
 pub theirs_yet : (result : Result (Unit {0}) ScriptFault) (reader old new : Marks) (unsaved still : Bool) → new ≡ old → (unsaved ≡ true → still ≡ true) → AreTheirs result reader old unsaved → AreTheirs result reader new still
 theirs_yet (Ok done) reader old new unsaved still e stays h = tt
 theirs_yet (Err (Line bad)) reader old new unsaved still e stays h = tt

@@ -54,7 +54,7 @@ some_line : (byte : ℕ) (lines : List (List ℕ)) → 0 < length (onto_first by
 some_line byte [] = omega arith
 some_line byte (line ∷ lines) = omega arith
 
--- A text that is not empty has a line.
+-- A text that is not empty has at least one line.
 pub some_lines : (text : List ℕ) → 0 < length text → 0 < length (lines_of text)
 some_lines [] some = some
 some_lines (byte ∷ text) some = by_break (byte == 10)
@@ -65,8 +65,8 @@ some_lines (byte ∷ text) some = by_break (byte == 10)
 
 -- ---- the faults so far
 
--- The faults so far and those of the remaining lines are the faults of the whole script. The same
--- holds for the report's text, the first bad line and the number of lines.
+-- The report of the lines checked so far and that of the remaining lines together are the report of
+-- the whole script. Likewise for the first bad line and the number of lines.
 pub record SoFar (text : List ℕ) (first : Option ℕ) (waited number : ℕ) (rest whole : List ℕ) (whole_first : Option ℕ) (lines : ℕ) : Type 0 where
   pub text_is : text ++ flat_map told (left waited number rest) ≡ whole
   pub first_is : option_or first (first_number (left waited number rest)) ≡ whole_first
@@ -100,7 +100,7 @@ turned old new first next waited after number rest line others whole whole_first
       count_is = count_more rest line others number lines cut sofar.count_is;
     }
 
--- If no line remains, the faults so far are all faults of the script.
+-- If no line remains, the report so far is that of the whole script.
 all_told : (text : List ℕ) (first : Option ℕ) (waited number : ℕ) (rest whole : List ℕ) (whole_first : Option ℕ) (lines : ℕ)
     → left waited number rest ≡ [] → SoFar text first waited number rest whole whole_first lines → (text ≡ whole) × (first ≡ whole_first)
 all_told text first waited number rest whole whole_first lines none sofar = (
@@ -128,8 +128,8 @@ no_more text first waited number rest whole whole_first lines small none sofar =
     let gone = no_lines rest none in
     le-ltb 1048576 lines (omega (arith, small, gone, sofar.count_is)) ∙ sym (ap not (eq-eqb (length rest) 0 none))
 
--- Whether a script exceeds the limit on lines depends on the number of lines before the rest, and
--- on whether the rest is empty.
+-- After as many lines as a script may have, the script exceeds this limit if and only if some text
+-- remains.
 more_by : (rest : List ℕ) (lines : ℕ) → length (lines_of rest) + 1048577 ≡ lines + 1 → nat_lt 1048576 lines ≡ not (length rest == 0)
 more_by [] lines count = le-ltb 1048576 lines (omega (arith, count))
 more_by (byte ∷ rest) lines count =

@@ -1,4 +1,4 @@
--- A line that is neither empty nor a comment has the meaning of its words.
+-- A line that is neither empty nor a comment has the meaning of the words in it.
 use Rattle.std.proofs.Common.{◌≡◌, ℕ, ◌==◌, List, [], ◌∷◌, length, get_or, refl, cond, ap, Ok}
 use Rattle.std.specs.List.{position}
 use Rattle.std.proofs.lemmas.Bool.{ne_eqb}

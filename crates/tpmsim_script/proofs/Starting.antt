@@ -10,7 +10,7 @@ pub starts : (traced : Bool) (locality waited : ℕ) (random : List ℕ) (device
 unfolding at_first
 starts traced locality waited random device l w r = λ i. record { traced = traced; locality = l i; waited = w i; random = r i; device = device }
 
--- If a list has 256 bytes, and each byte equals its position, the list consists of the bytes 00 to
+-- If a list has 256 bytes, and each byte equals its offset, the list consists of the bytes 00 to
 -- ff.
 pub counted_up : (bytes : List ℕ) → length bytes ≡ 256 → ((place : ℕ) → place < 256 → slice_index bytes place ≡ place) → bytes ≡ script_bytes
 counted_up bytes size each =

@@ -3,8 +3,8 @@ use Rattle.std.proofs.Common.{◌≡◌, ℕ, ◌+◌, ◌≤◌, List, [], ◌+
 use Rattle.std.proofs.lemmas.List.{length-take-le, take-take, take_at}
 use Rattle.std.specs.Io.KnownBytes.{Appends, Keeps, append_known}
 
--- Writing the buffered output leaves the printed output unchanged, since the printed output
--- includes the buffer.
+-- The printed output includes the buffered part. Therefore writing the buffer leaves the printed
+-- output unchanged.
 pub written : (old new : Option (List ℕ)) (held : List ℕ) → Appends old new held → Keeps (append_known old held) (append_known new [])
 written None new held h = tt
 written (Some old) None held h = absurd h
@@ -15,8 +15,8 @@ pub held : (known : Option (List ℕ)) (old more : List ℕ) → Appends (append
 held None old more = tt
 held (Some known) old more = sym (append_assoc known old more)
 
--- If a line is copied to the position after the buffered output, the buffered output is extended by
--- the line.
+-- If a line is copied to the offset directly after the buffered output, the buffered output is
+-- extended by the line.
 pub put_behind : (items held line printed rest tail : List ℕ) (used end size : ℕ) → held ≡ items → line ≡ printed → used ≤ length items → end ≡ used + length printed → end ≤ size
     → take end (take size (take used held ++ (line ++ rest) ++ tail)) ≡ take used items ++ printed
 put_behind items held line printed rest tail used end size a b inside e fits =

@@ -11,7 +11,8 @@ backlog answers = take answers.used answers.text.items
 abbrev pub printout : Option (List ℕ) → Answers → Option (List ℕ)
 printout contents answers = append_known contents (backlog answers)
 
--- The second of two known contents is a prefix of the first, possibly empty or equal to the first.
+-- The second contents are a prefix of the first, possibly empty or equal to the first. Nothing is
+-- claimed if the first contents are unknown.
 abbrev pub CutOff : Option (List ℕ) → Option (List ℕ) → Type 0
 CutOff None new = Unit {0}
 CutOff (Some whole) None = ⊥

@@ -8,27 +8,27 @@ use Rattle.tpmsim_script.specs.declared.bad_line.BadLine.{BadLine}
 use Rattle.tpmsim_script.specs.declared.bad_line.Wanted.{Wanted}
 use Rattle.tpmsim_script.specs.declared.bad_line.Wanted.TheVariants as wanted
 
--- a line whose first word is unknown
+-- the fault of a line whose first word is unknown
 abbrev pub unknown_word : BadLine
 unknown_word = record { fault = fault.BadName; wanted = wanted.Word }
 
--- a line that ends after its first word, if an argument is expected there
+-- the fault of a line that ends after its first word, although an argument is expected there
 abbrev pub missing : Wanted → BadLine
 missing wanted = record { fault = fault.Missing; wanted = wanted }
 
--- a wrong argument, and what is expected instead
+-- the fault of a wrong argument; `wanted` says what is expected instead
 abbrev pub misplaced : Wanted → BadLine
 misplaced wanted = record { fault = fault.BadField 1; wanted = wanted }
 
--- an argument whose number is too large
+-- the fault of an argument whose number is too large
 abbrev pub too_large : Wanted → BadLine
 too_large wanted = record { fault = fault.Range 1; wanted = wanted }
 
--- an argument that is not the expected number: it is too large, or not a number
+-- the fault of an argument that is not the expected number: it is too large, or not a number
 abbrev pub number_fault : List ℕ → Wanted → BadLine
 number_fault argument wanted =
     if is_some (numeral 10 argument) then too_large wanted else misplaced wanted
 
--- a line of more than 65,536 bytes
+-- the fault of a line of more than 65,536 bytes
 abbrev pub long_line : BadLine
 long_line = record { fault = fault.TooLong; wanted = wanted.ShortLine }

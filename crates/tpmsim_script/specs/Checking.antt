@@ -10,26 +10,27 @@ use Rattle.tpmsim_script.specs.Line.{SetsEntropy, CyclesPower, DoesNothing, byte
 use Rattle.tpmsim_script.specs.declared.bad_line.BadLine.{BadLine}
 use Rattle.tpmsim_script.specs.declared.bad_line.Wanted.TheVariants as wanted
 
--- the total of the waits after a command in words, which is 0; or the reason why the line is bad
+-- the milliseconds waited since the last command, after a line with a command in words: 0, or the
+-- reason why the line is bad
 abbrev pub assembly_check : Result (List ℕ) AsmFault → Result ℕ BadLine
 assembly_check (Ok buffer) = Ok 0
 assembly_check (Err fault) = Err (record { fault = fault; wanted = wanted.Command })
 
--- the total of the waits before the next command, after one more wait
+-- the milliseconds waited since the last command, after one more wait; they must be below 2^32
 abbrev pub wait_check : (waited milliseconds : ℕ) → Result ℕ BadLine
 wait_check waited milliseconds =
     if nat_lt (waited + milliseconds) (2 ^ 32) then Ok (waited + milliseconds)
     else Err (too_large wanted.Milliseconds)
 
--- the check of a line that sets these random bytes, which must be 1 to 256; the total of the waits
--- is unchanged
+-- the check of a line that sets the random bytes. At least 1 and at most 256 bytes are allowed. The
+-- milliseconds waited are unchanged
 abbrev pub entropy_check : (waited : ℕ) → List ℕ → Result ℕ BadLine
 entropy_check waited entropy =
     if nat_lt 0 (length entropy) && nat_le (length entropy) 256 then Ok waited
     else Err (misplaced wanted.Entropy)
 
--- the total of the waits before the next command, after a line with this meaning, or the reason why
--- the line is bad; `waited` is the total before the line
+-- the milliseconds waited since the last command, after a line with this meaning, or the reason why
+-- the line is bad; `waited` is their number before the line
 abbrev pub check : (waited : ℕ) → Meaning → Result ℕ BadLine
 check waited (Executes digits) = do
   buffer ← ok_or (bytes_of digits) (misplaced wanted.Hex)
@@ -43,7 +44,7 @@ check waited (SetsEntropy digits) = do
 check waited CyclesPower = Ok waited
 check waited DoesNothing = Ok waited
 
--- the total of the waits before the next command, after this line, or the reason why the line is
+-- the milliseconds waited since the last command, after this line, or the reason why the line is
 -- bad; every line of over 65,536 bytes is bad
 unfoldable pub line_check : (waited : ℕ) → List ℕ → Result ℕ BadLine
 line_check waited line = do
@@ -51,8 +52,8 @@ line_check waited line = do
   said ← line_reading line
   check waited said
 
--- A line was checked. If it is good, it sets the total of the waits before the next command
--- (`new`); if it is bad, it has no effect.
+-- A line was checked. If it is good, `new` is the number of milliseconds waited after it; if it is
+-- bad, it has no effect.
 abbrev pub Checks : Result ℕ BadLine → (old : ℕ) → Result (Unit {0}) BadLine → (new : ℕ) → Type 0
 Checks defined old (Ok done) new = defined ≡ Ok new
 Checks defined old (Err bad) new = (defined ≡ Err bad) × (new ≡ old)
@@ -68,7 +69,7 @@ abbrev pub fault_at : Result ℕ BadLine → (number : ℕ) → (line : List ℕ
 fault_at (Ok next) number line = []
 fault_at (Err bad) number line = record { number = number; line = line; bad = bad } ∷ []
 
--- the total of the waits after a checked line; a bad line does not change it
+-- the milliseconds waited after a checked line; a bad line does not change them
 abbrev pub waited_behind : Result ℕ BadLine → (waited : ℕ) → ℕ
 waited_behind (Ok next) waited = next
 waited_behind (Err bad) waited = waited

@@ -1,5 +1,5 @@
--- How a script keeps its device: the saver is notified of the device line by line, and only the
--- output of lines that were played is written.
+-- How the device of a script is kept: the saver is notified of the device line by line, and only
+-- the output of lines that were played is written.
 use Rattle.std.specs.Prelude.{◌≡◌, ℕ, ◌+◌, Bool, true, false, List, [], ◌∷◌, ◌++◌, length}
 use Rattle.std.specs.Prelude.{Option, Some, None, IfSome, Result, Ok, Err}
 use Rattle.std.specs.Io.KnownBytes.{Appends, append_known}
@@ -13,7 +13,7 @@ use Rattle.tpmsim_script.specs.Script.{Effect, Playing, perform_line}
 use Rattle.tpmsim_script.specs.declared.fault.ScriptFault.{ScriptFault}
 use Rattle.tpmsim_script.specs.declared.fault.ScriptFault.TheVariants as fault
 
--- a script that is being played, and its device's saver
+-- a script that is being played, and the saver of its device
 pub record Kept (S : Type 0) : Type 0 where
   pub playing : Playing
   pub saver : S
@@ -21,9 +21,9 @@ pub record Kept (S : Type 0) : Type 0 where
 abbrev pub kept : {S : Type 0} → Playing → S → Kept S
 kept playing saver = record { playing = playing; saver = saver }
 
--- How the saver was notified of the device after a line. After a command, it was notified that the
--- device may have changed; after a power cycle, of the device with its clock. After any other line
--- the saver is unchanged.
+-- How the saver was notified of the device after a line. After a command, the saver was notified
+-- that the device may have changed. After a power cycle, it was notified of the device with its
+-- clock. After any other line, the saver is unchanged.
 abbrev pub Tells : {S : Type 0} → (saves saves_change : S → Record → S → Type 0)
     → Option Meaning → Record → S → S → Type 0
 Tells saves saves_change (Some (Executes digits)) device old new = saves_change old device new
@@ -47,17 +47,17 @@ PlaysLines {S = S} saves saves_change old (line ∷ lines) text new =
     × PlaysLine saves saves_change old line first mid
     × PlaysLines saves saves_change mid lines more new
 
--- The number of lines that were played: those before a bad line, or the largest number that a
--- script may have.
+-- The number of lines that were played. If a line is bad, all lines before it were played. If the
+-- script has too many lines, as many as a script may have were played.
 abbrev pub Counts : Result (Unit {0}) ScriptFault → ℕ → Type 0
 Counts (Err (fault.Line number)) count = number ≡ count + 1
 Counts (Err fault.TooManyLines) count = count ≡ 1048576
 Counts other count = Unit {0}
 
--- The lines from this state on that were not played. If the run ended well, there are none. If it
--- stopped at a bad line, they are that line and all later ones. If the reader failed, they are the
--- line that it had begun to return and all later ones (`left` is the text that the reader has not
--- returned). If there were too many lines, at least one was not played.
+-- The lines that a run has not played. If the run ended well, there are none. If it stopped at a
+-- bad line, they are that line and all later ones. If the reader failed, they are the line that it
+-- had begun to return and all later ones (`left` is the text that the reader has not returned). If
+-- there were too many lines, at least one was not played.
 abbrev pub Leaves : Result (Unit {0}) ScriptFault → (left : Option (List ℕ)) → Playing
     → List (List ℕ) → Type 0
 Leaves (Ok done) left p rest = rest ≡ []
@@ -92,9 +92,9 @@ pub record Played {S : Type 0} (saves saves_change : S → Record → S → Type
   pub last : Last end
 
 -- A run kept its device: the output is that of the played lines, and the saver was notified of each
--- of them. The state after these lines satisfies `Last`. If a save failed, the line of that save is
--- not among them, and none of its output was written. In that case `Last` is not claimed, and if
--- the writer failed too, the output is unspecified.
+-- of them. The state after these lines satisfies `Last`. If a save failed at a line, that line does
+-- not count as played, and none of its output was written. In that case `Last` is not claimed, and
+-- if the writer failed too, the output is unspecified.
 abbrev pub KeepsDevice : {S : Type 0} → (saves saves_change : S → Record → S → Type 0)
     → (text left old new : Option (List ℕ)) → (writer : Marks) → Kept S
     → Result (Unit {0}) ScriptFault → (Last : Kept S → Type 0) → Type 0

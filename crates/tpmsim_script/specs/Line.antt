@@ -13,15 +13,15 @@ use Rattle.tpmsim_script.specs.declared.bad_line.Wanted.TheVariants as wanted
 use Rattle.tpmsim_script.specs.declared.line.Line as declared
 use Rattle.tpmsim_script.specs.declared.line.Line.TheVariants as code
 
--- the lines of a text, without the 0a that ends each of them; it is optional for the last line,
--- and a 0a at the end of the text starts no further line
+-- the lines of a text, without the 0a that ends each of them. The last line may lack its 0a. A 0a
+-- at the end of the text starts no further line
 abbrev pub lines_of : List ℕ → List (List ℕ)
 lines_of [] = []
 lines_of (byte ∷ text) = if byte == 10 then [] ∷ lines_of text else onto_first byte (lines_of text)
 
 -- The meaning of a line: a command in hex or in words, neither of which is decoded here; the
--- locality of later commands; the milliseconds before the next one; entropy, in hex; a power
--- cycle; or nothing.
+-- locality of later commands; the milliseconds before the next command; the random bytes of later
+-- commands, in hex; a power cycle; or nothing.
 pub data Meaning : Type 0 where
   Executes : (digits : List ℕ) → Meaning
   ExecutesWords : (words : List ℕ) → Meaning
@@ -36,7 +36,7 @@ pub data Meaning : Type 0 where
 abbrev pub bytes_of : List ℕ → Option (List ℕ)
 bytes_of digits = result_ok (decode_of digits)
 
--- the meaning of a line of one word, or the reason why it is bad
+-- the meaning of a line that consists of one word, or the reason why it is bad
 unfoldable pub reading_alone : List ℕ → Result Meaning BadLine
 reading_alone word =
     if is_word (codes "cmd") word then Ok (Executes [])
@@ -47,18 +47,19 @@ reading_alone word =
     else if is_word (codes "entropy") word then Err (missing wanted.Entropy)
     else Err unknown_word
 
--- the meaning of the argument of loc
+-- the meaning of the argument of `loc`
 abbrev pub locality_reading : List ℕ → Result Meaning BadLine
 locality_reading argument =
     ok_or (option_map SetsLocality (option_and_then locality_of (decimal_of argument)))
     (number_fault argument wanted.Locality)
 
--- the meaning of the argument of wait
+-- the meaning of the argument of `wait`
 abbrev pub wait_reading : List ℕ → Result Meaning BadLine
 wait_reading argument = ok_or (option_map Waits (decimal_of argument))
     (number_fault argument wanted.Milliseconds)
 
--- the meaning of a line of a word, a space and an argument, or the reason why it is bad
+-- the meaning of a line that consists of a word, a space and an argument, or the reason why it is
+-- bad
 unfoldable pub reading_with : List ℕ → List ℕ → Result Meaning BadLine
 reading_with word argument =
     if is_word (codes "cmd") word then Ok (Executes argument)
@@ -75,7 +76,7 @@ abbrev pub reading_by : Option ℕ → List ℕ → Result Meaning BadLine
 reading_by None text = reading_alone text
 reading_by (Some space) text = reading_with (take space text) (drop (space + 1) text)
 
--- the meaning of a line, or the reason why it is bad; a line that is empty or begins with # is
+-- the meaning of a line, or the reason why it is bad; a line that is empty or begins with `#` is
 -- good and has no effect
 unfoldable pub line_reading : List ℕ → Result Meaning BadLine
 line_reading [] = Ok DoesNothing

@@ -8,7 +8,7 @@ use Rattle.tpmsim_script.specs.declared.lines.Lines.{Lines}
 use Rattle.tpmsim_script.specs.declared.lines.Next.{Next}
 use Rattle.tpmsim_script.specs.declared.lines.Next.TheVariants.{Line, TooLong, Incomplete, End}
 
--- the line that was found last, or the part of the next line that has been read
+-- the line that was found last, or as much of the next line as has been read
 abbrev pub line_of : Lines → List ℕ
 line_of lines = lines.line.items
 
@@ -20,8 +20,8 @@ rest_of lines = slice_range lines.bytes.items lines.next lines.filled
 abbrev pub IsUnbroken : List ℕ → Type 0
 IsUnbroken bytes = All (λ byte. (byte == 10) ≡ false) bytes
 
--- the result of a search that found no end of a line: more bytes may follow; or the reader has
--- ended, either after a whole line or within the last one
+-- the result of a search that found no end of a line. If the reader has not ended, more bytes may
+-- follow. If it has ended, the line is the last one, or the text is at its end
 abbrev pub next_at : Bool → List ℕ → Next
 next_at false line = Incomplete
 next_at true [] = End
@@ -37,8 +37,8 @@ BeginsTooLong text =
     (line : List ℕ) × (rest : List (List ℕ))
     × (lines_of text ≡ line ∷ rest) × (65536 < length line)
 
--- The result of a search for the next line, which is right whatever the reader returns from now on:
--- the next line is this one, or is too long, or is incomplete, or does not exist.
+-- The result of a search for the next line is correct for all bytes that the reader may return from
+-- now on. The next line is this one, or is too long, or is incomplete, or does not exist.
 abbrev pub Finds : Lines → Next → Lines → Type 0
 Finds old Line new = (more : List ℕ) → MayFollow old more
     → lines_of (line_of old ++ (rest_of old ++ more))
@@ -49,16 +49,16 @@ Finds old Incomplete new =
     × IsUnbroken (line_of new) × (old.ended ≡ false) × (length (line_of new) ≤ 65536)
 Finds old End new = (line_of old ++ rest_of old ≡ []) × (rest_of new ≡ []) × (old.ended ≡ true)
 
--- If the buffer of lines records that its reader has ended, the reader has ended.
+-- If the flag of the line buffer says that the reader has ended, the reader has ended.
 abbrev pub Agrees : Option (List ℕ) → Lines → Type 0
 Agrees remaining lines = lines.ended ≡ true → IsAtEnd remaining
 
--- the rest of a script after the line that was found last, if it is known what the reader will
--- return
+-- the rest of a script after the line that was found last; None if it is unknown what the reader
+-- will return
 abbrev pub text_left : Option (List ℕ) → Lines → Option (List ℕ)
 text_left remaining lines = prepend_known (rest_of lines) remaining
 
--- The first line of a text was read, and it is this line.
+-- The first line of a text was read: it is this line.
 abbrev pub LosesFirstLine : Option (List ℕ) → List ℕ → Option (List ℕ) → Type 0
 LosesFirstLine None line new = Unit {0}
 LosesFirstLine (Some text) line None = ⊥

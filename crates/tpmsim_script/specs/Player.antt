@@ -10,14 +10,14 @@ use Rattle.tpmsim_script.specs.declared.line_fault.LineFault.{LineFault}
 use Rattle.tpmsim_script.specs.declared.line_fault.LineFault.TheVariants.{Bad, Write, Save}
 use Rattle.tpmsim_script.specs.declared.player.Player.{Player}
 
--- the script that a player plays; `record_of` returns the record of its device's state
+-- the script that a player plays; `record_of` maps the state of the player's device to its record
 abbrev pub playing_of : {K S O P N : Type 0} → (K → Record) → Player K S O P N → Playing
 playing_of record_of player =
     playing player.traced player.script (state_of record_of player.machine)
 
--- A line had its effect, and its output was printed after the old contents; or the writer failed,
--- and the output was truncated; or the line is bad, had no effect and printed nothing. If the saver
--- failed, nothing was printed.
+-- How a line was performed. On success, the line had its effect, and its output was printed after
+-- the old contents. If the line is bad, it had no effect and printed nothing. If the writer failed,
+-- the line had its effect, but the output was truncated. If the saver failed, nothing was printed.
 abbrev pub Did : Option Effect
     → Option (List ℕ) → Playing
     → Result (Unit {0}) LineFault → Option (List ℕ) → Playing → Type 0

@@ -13,7 +13,7 @@ use Rattle.tpmsim_script.specs.declared.bad_line.Wanted.TheVariants as wanted
 use Rattle.tpmsim_script.specs.declared.fault.ScriptFault.{ScriptFault}
 use Rattle.tpmsim_script.specs.declared.fault.ScriptFault.TheVariants as script
 
--- the name of a line's fault, and the column of the faulty token
+-- the name of the fault of a line, with the column of the faulty token
 abbrev pub fault_name : AsmFault → List ℕ
 fault_name fault.BadName = codes "BadName"
 fault_name (fault.BadField column) = codes "BadField " ++ decimal column
@@ -22,8 +22,8 @@ fault_name (fault.Range column) = codes "Range " ++ decimal column
 fault_name fault.TooLong = codes "TooLong"
 fault_name fault.NoMemory = codes "NoMemory"
 
--- the words that say what is expected at the position of a bad line's fault; a command in words
--- begins after `do` and a space
+-- the words that say what is expected where a bad line has its fault; a command in words begins
+-- after `do` and a space
 abbrev pub wanted_text : Wanted → (line : List ℕ) → AsmFault → List ℕ
 wanted_text wanted.Word line fault = codes "do, cmd, loc, wait, entropy or power"
 wanted_text wanted.Command line fault = word_at (drop 3 line) fault
@@ -34,7 +34,7 @@ wanted_text wanted.Entropy line fault = codes "1 to 256 bytes of hex"
 wanted_text wanted.End line fault = codes "end of line"
 wanted_text wanted.ShortLine line fault = codes "at most 65536 bytes"
 
--- the report of a bad line: its number, its fault, and what is expected there
+-- the report of a bad line: its number, its fault, and what is expected instead
 abbrev pub fault_text : (number : ℕ) → AsmFault → (wanted : List ℕ) → List ℕ
 fault_text number fault wanted =
     codes "line " ++ decimal number ++ codes ": " ++ fault_name fault ++ codes ": " ++ wanted
@@ -43,12 +43,12 @@ fault_text number fault wanted =
 abbrev pub told : Fault → List ℕ
 told f = fault_text f.number f.bad.fault (wanted_text f.bad.wanted f.line f.bad.fault) ++ 10 ∷ []
 
--- the bad lines of a script, up to the number of lines that a script may have
+-- the faults of a script; lines beyond the largest number of lines are not checked
 abbrev pub script_faults : List ℕ → List Fault
 script_faults text = faults_of 0 1 (take 1048576 (lines_of text))
 
--- how a script ends, given the number of its first bad line, if any, and whether it contains more
--- lines than the limit
+-- how a script ends, given the number of its first bad line, if any, and whether it has more lines
+-- than the limit
 abbrev pub end_of : (first : Option ℕ) → (more : Bool) → Result (Unit {0}) ScriptFault
 end_of (Some number) more = Err (script.Line number)
 end_of None true = Err script.TooManyLines

@@ -49,8 +49,8 @@ AreTheirs (Err fault.Write) reader writer unsaved = writer.failed ≡ true
 AreTheirs (Err fault.Save) reader writer unsaved = unsaved ≡ true
 AreTheirs other reader writer unsaved = Unit {0}
 
--- The lines before the line `next` were played from `p` on; `number` is the number of the first of
--- these lines. No line is bad; their output was written after the old contents of the writer
+-- The lines from number `number` to just before number `next` were played, starting in the state
+-- `p`. None of them is bad, and their output was written after the old contents of the writer
 -- (`old`). `rest` contains the remaining lines.
 abbrev pub PlaysUpTo : Option (List ℕ) → Option (List ℕ) → Option (List ℕ)
     → Playing → ℕ → ℕ → List (List ℕ) → Type 0
@@ -77,7 +77,7 @@ PlaysAllAllowed text old new p =
 
 -- The result of a search for the next line: the text's first line is this line; or the text is
 -- empty; or its first line, which has this number, is too long; or the reader or the writer failed.
--- There is no other fault.
+-- No other fault occurs.
 abbrev pub NextFound : ℕ → Option (List ℕ)
     → Result Bool ScriptFault → List ℕ → Option (List ℕ) → Type 0
 NextFound number old (Ok true) line new = LosesFirstLine old line new
@@ -87,14 +87,14 @@ NextFound number old (Err fault.Read) line new = Unit {0}
 NextFound number old (Err fault.Write) line new = Unit {0}
 NextFound number old (Err other) line new = ⊥
 
--- If a run ended well, at a bad line, or because the reader failed, `fact` holds.
+-- `fact` holds if a run ended well, stopped at a bad line, or ended because the reader failed.
 abbrev pub UnlessFailed : {X : Type 0} → Result X ScriptFault → Type 0 → Type 0
 UnlessFailed (Ok x) fact = fact
 UnlessFailed (Err (fault.Line number)) fact = fact
 UnlessFailed (Err fault.Read) fact = fact
 UnlessFailed (Err other) fact = Unit {0}
 
--- how a run ends after the last line that a script may have: with TooManyLines if there is one more
+-- how a run ends after as many lines as a script may have: with TooManyLines if there is one more
 -- line
 abbrev pub end_at_limit : Result Bool ScriptFault → Result (Unit {0}) ScriptFault
 end_at_limit (Ok true) = Err fault.TooManyLines

@@ -19,8 +19,8 @@ use Rattle.tpmsim_script.specs.Line.{bytes_of, line_meaning, lines_of}
 use Rattle.tpmsim_script.specs.declared.script.Script.{Script}
 
 -- A script that is being played: whether its events are traced, the locality of its commands, the
--- total of the waits since the last command (across power cycles), the random bytes of each
--- command, and the device.
+-- milliseconds waited since the last command (including waits before a power cycle), the random
+-- bytes of each command, and the device.
 pub record Playing : Type 0 where
   pub traced : Bool
   pub locality : ℕ
@@ -46,7 +46,8 @@ script_bytes = range_with_len 0 256
 abbrev pub new_device : Record
 new_device = manufactured script_bytes
 
--- the start of a script: locality 0, no elapsed time, random bytes that are all 0, and this device
+-- the start of a script on this device: locality 0, no elapsed time, and random bytes that are all
+-- 0
 unfoldable pub at_first : (traced : Bool) → (device : Record) → Playing
 at_first traced device = record {
   traced = traced;
@@ -56,7 +57,7 @@ at_first traced device = record {
   device = device;
 }
 
--- the 256 random bytes of an event: these bytes, repeated
+-- 256 random bytes, made by repeating these bytes
 unfoldable pub repeated : List ℕ → List ℕ
 repeated entropy =
     map (λ place. slice_index entropy (place % length entropy)) (range_with_len 0 256)
@@ -80,18 +81,18 @@ unfoldable pub printed_trace : (traced : Bool) → PlainEvent → Stepped → Li
 printed_trace traced event s =
     if traced then trace_text event s.row s.response ++ 10 ∷ [] else []
 
--- the effect of a command with this outcome
+-- the effect of a command that was executed with this outcome
 abbrev pub answer : Playing → PlainEvent → Stepped → Effect
 answer p event s = record {
   text = printed_trace p.traced event s ++ printed_response s.response;
   next = record p { waited = 0; device = s.after };
 }
 
--- the event of a command
+-- the event of a command, with the values that earlier lines have set
 abbrev pub command_of : Playing → List ℕ → PlainEvent
 command_of p buffer = Given buffer p.locality p.waited p.random
 
--- the effect of a command
+-- the effect of a line with this command
 abbrev pub execute : Playing → List ℕ → Effect
 execute p buffer = answer p (command_of p buffer) (step p.device (command_of p buffer))
 
@@ -110,13 +111,14 @@ wait p milliseconds =
     if nat_lt (p.waited + milliseconds) (2 ^ 32)
     then Some (silence (record p { waited = p.waited + milliseconds })) else None
 
--- the effect of setting the random bytes, which repeat 1 to 256 bytes
+-- the effect of a line that sets the random bytes to these bytes, repeated; None unless there are 1
+-- to 256 bytes
 abbrev pub set_entropy : Playing → List ℕ → Option Effect
 set_entropy p entropy =
     if nat_lt 0 (length entropy) && nat_le (length entropy) 256
     then Some (silence (record p { random = repeated entropy })) else None
 
--- the effect of a line with this meaning; None if it cannot be performed
+-- the effect of a line with this meaning; None if the line cannot be performed
 abbrev pub perform : Playing → Meaning → Option Effect
 perform p (Executes digits) = option_map (execute p) (bytes_of digits)
 perform p (ExecutesWords words) = option_map (execute p) (result_ok (assembled words))
@@ -131,8 +133,8 @@ unfoldable pub perform_line : Playing → List ℕ → Option Effect
 perform_line p line =
     if nat_le (length line) 65536 then option_and_then (perform p) (line_meaning line) else None
 
--- the output of a script, and the number of its first bad line, if any; the lines after that line
--- have no effect
+-- the output of a script, and the number of its first bad line, if any. Lines after a bad line have
+-- no effect
 pub record Output : Type 0 where
   pub text : List ℕ
   pub bad : Option ℕ

@@ -70,8 +70,7 @@ impl Answers {
         Ok(())
     }
 
-    /// Frees space for a line of this size, including its end, by writing earlier lines if
-    /// needed.
+    /// Makes space for a line of this size, including its end. Writes earlier lines if needed.
     fn make_room<W: Write>(&mut self, writer: &mut Tap<W>, size: usize) -> Result<(), Failed>
         requires { size ≤ CAPACITY }
         ensures failed { OnErr result ((marks_of writer.new).failed ≡ true) }
@@ -107,7 +106,8 @@ impl Answers {
         self.used = end;
     }
 
-    /// Writes all buffered lines. Lines that an error truncated are not written again.
+    /// Writes all buffered lines. If the writer fails, the lines are dropped: a later call does not
+    /// write them again.
     pub fn flush<W: Write>(&mut self, writer: &mut Tap<W>) -> Result<(), Failed>
         ensures unmarked { OnOk result (marks_of writer.new ≡ marks_of writer.old) }
         ensures failed { OnErr result ((marks_of writer.new).failed ≡ true) }

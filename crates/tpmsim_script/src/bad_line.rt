@@ -1,4 +1,4 @@
-//! Why a line is not allowed in a script, and what is expected there.
+//! The reasons why a line is not allowed in a script, and what is expected instead.
 
 use tpm_text::AsmFault;
 
@@ -11,19 +11,18 @@ pub struct BadLine {
     pub wanted: Wanted,
 }
 
-/// What is expected instead of a bad part of a line.
+/// What is expected instead of the bad part of a line.
 #[derive(Clone, Copy, PartialEq, Eq)]
 pub enum Wanted {
     /// The first word of a line: `do`, `cmd`, `loc`, `wait`, `entropy` or `power`.
     Word,
-    /// A command in words. The shape of the command says what is expected at the position of the
-    /// fault.
+    /// A command in words. The command's shape says what is expected at the position of the fault.
     Command,
     /// A buffer in hex.
     Hex,
     /// The number of a locality.
     Locality,
-    /// Milliseconds; their total before a command must be below 2^32.
+    /// A number of milliseconds. The waits before a command must be below 2^32 in total.
     Milliseconds,
     /// Random bytes in hex.
     Entropy,

@@ -33,7 +33,8 @@ impl Checker {
         })
     }
 
-    /// Checks the next line, passed without its 0a. A bad line sets nothing for the next command.
+    /// Checks the next line, passed without its 0a. A bad line does not change the values for the
+    /// next command.
     #[tactic(auto, unfolding(crate::specs::Checking::line_check))]
     pub fn check(&mut self, line: &[u8]) -> Result<(), BadLine>
         ensures { Checks (line_check (waited_of self.old) line.now) (waited_of self.old) result

@@ -5,7 +5,7 @@ ghost use Rattle.std.specs.Result.{result_ok};
 ghost use Rattle.tpmsim_script.specs.Checking.{faults_of, first_number, line_check};
 ghost use Rattle.tpmsim_script.specs.Script.{Playing, perform_line, play};
 
-/// A line is bad exactly if it cannot be performed, and a run ends at the first bad line of its
+/// A line is bad if and only if it cannot be performed, and a run ends at the first bad line of its
 /// script.
 #[inline(always)]
 pub fn check_laws()

@@ -35,13 +35,13 @@ pub enum Line<'a> {
     Nothing,
 }
 
-/// The fault of a line that cannot be performed: its hex is not valid, its words are not a
-/// command, or it contains too many bytes or milliseconds.
+/// The fault of a line that cannot be performed: its hex is not valid, its words are not a command,
+/// it has too many bytes, or the waits are too long.
 #[derive(Clone, Copy, PartialEq, Eq)]
 pub struct Unfit;
 
 impl<'a> Line<'a> {
-    /// Parses a line, passed without its 0a. Does not yet decode the hex digits or the words of a
+    /// Parses a line, passed without its 0a. Does not decode the hex digits or the words of a
     /// command.
     #[tactic(auto, unfolding(crate::specs::Line::line_reading), using(crate::proofs::SaidLemmas::read_by_words))]
     pub fn parse(text: &'a [u8]) -> Result<Line<'a>, BadLine>
@@ -141,7 +141,7 @@ const UNKNOWN_WORD: BadLine = BadLine {
     wanted: Wanted::Word,
 };
 
-/// The fault of a line that ends after its first word, if an argument is expected there.
+/// The fault of a line that ends after its first word, although an argument is expected there.
 fn missing(wanted: Wanted) -> BadLine
     ensures { result ≡ missing wanted }
 {
@@ -151,7 +151,7 @@ fn missing(wanted: Wanted) -> BadLine
     }
 }
 
-/// The fault of a wrong argument, and what is expected instead.
+/// The fault of a wrong argument; `wanted` says what is expected instead.
 pub fn misplaced(wanted: Wanted) -> BadLine
     ensures { result ≡ misplaced wanted }
 {
@@ -202,7 +202,7 @@ fn is_digit(byte: u8) -> bool
     char::from(byte).is_digit(10)
 }
 
-/// Decodes hex digits of either case to a buffer that is large enough. Fails if a character is
+/// Decodes hex digits of either case into a buffer that is large enough. Fails if a character is
 /// not a hex digit, or the number of digits is odd.
 pub fn decode<'a>(digits: &[u8], room: &'a mut [u8]) -> Result<&'a [u8], Unfit>
     requires { length digits.now ≤ 2 * length room.old + 1 }

@@ -37,7 +37,7 @@ struct TooLong;
 /// type does not depend on the text.
 #[derive(Drop)]
 pub struct Lines {
-    /// The line that was found last, or the part of the next line that has been read.
+    /// The line that was found last, or as much of the next line as has been read.
     line: ArrayVec<u8, 65536>,
     bytes: Vec<u8>,
     /// The bytes from offset `next` to `filled` were read and do not belong to a line yet.
@@ -59,7 +59,7 @@ impl Lines {
     ghost use Rattle.tpmsim_script.specs.Lines.{Agrees, Finds, IsUnbroken};
     ghost use Rattle.tpmsim_script.specs.Lines.{line_of, next_at, rest_of};
 
-    /// The lines of a script that is not read yet.
+    /// The lines of a script of which nothing has been read yet.
     pub fn new(alloc: Global) -> Result<Lines, AllocError>
         ensures { IfOk result (λ lines. (rest_of lines ≡ []) × (lines.ended ≡ false)) }
     {
@@ -90,8 +90,8 @@ impl Lines {
         self.line.clear();
     }
 
-    /// Appends bytes that were read to the line: up to the end of the line, or all of them if they
-    /// do not contain it.
+    /// Moves the next bytes to the line, up to the end of the line. If the bytes that were read do
+    /// not contain it, moves all of them.
     pub fn find(&mut self) -> Next
         requires { IsUnbroken (line_of self.old) }
         ensures found { Finds self.old result self.new }
@@ -109,7 +109,7 @@ impl Lines {
         }
     }
 
-    /// Adds the next `count` bytes to the line, and consumes `past` bytes in total.
+    /// Consumes the next `past` bytes, and adds the first `count` of them to the line.
     fn take(&mut self, count: usize, past: usize) -> Result<(), TooLong>
         requires count { count ≤ past }
         requires past { past ≤ length (rest_of self.old) }
@@ -152,8 +152,8 @@ impl Lines {
         }
     }
 
-    /// Reads more bytes, with one read of the reader. All output must have been written by then:
-    /// the author of a script may need it before writing the next line.
+    /// Reads more bytes, with one read of the reader. All output must have been written before: the
+    /// author of a script may need it to write the next line.
     pub fn fill<R: Read>(&mut self, reader: &mut Tap<R>, _answers: &Answers) -> Result<(), Failed>
         requires rest { rest_of self.old ≡ [] }
         requires written { backlog _answers.now ≡ [] }

@@ -67,7 +67,7 @@ impl<K: Keep> Player<K> {
     }
 
     /// Performs a line. Prints the response if the line is a command, and a trace if requested.
-    /// Decodes the line's hex or words into `room`. If an allocation can fail, the effect is
+    /// Decodes the line's hex or words into `room`. If an allocation can fail, the line's effect is
     /// unspecified.
     #[tactic(auto, using(crate::proofs::Doing::unsaid_done))]
     pub fn line<W: Write, S: Saver>(

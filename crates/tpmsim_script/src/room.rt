@@ -1,4 +1,4 @@
-//! The memory for decoding a line's hex, or for assembling the command of its words. It is
+//! The memory for decoding a line's hex, or for assembling the command that its words encode. It is
 //! allocated once for all lines.
 
 ghost use Rattle.std.specs.Prelude.{◌≡◌, ◌≤◌, length, vec_len};

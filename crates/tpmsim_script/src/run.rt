@@ -25,7 +25,7 @@ use tpm_bytes::{NoMemory, Tap};
 use tpm_machine::{Machine, Saver, SavesNothing};
 use tpm_record::Keep;
 
-/// The largest number of lines in a script.
+/// The largest number of lines that a script may have.
 pub const SCRIPT_LINES: u32 = 1_048_576;
 
 /// Runs the script from `reader` on a new device, as [`run_device`] does. The device is
@@ -70,14 +70,14 @@ pub fn first_bytes() -> [u8; 256]
     array::from_fn(|place| place as u8)
 }
 
-/// Runs the script from `reader` on a device whose state is a `K`, and writes the response to
-/// each command to `writer`. With `trace` it also writes the trace of each command before its
-/// response, and the trace of each power cycle. The device is saved before a response is written,
-/// if a change has to be saved; at each power cycle; and at the end, however the run ends. Memory
-/// is allocated only at the start, except for the device's state. Whatever the fault, the lines
-/// before it were run, and their responses written. Only a `Write` or a `Save` fault can truncate
-/// the responses. If both occur, the fault is `Save`. If a script contains more than
-/// [`SCRIPT_LINES`] lines, the first [`SCRIPT_LINES`] are run.
+/// Runs the script from `reader` on a device whose state is a `K`, and writes the response to each
+/// command to `writer`. With `trace` it also writes the trace of each command before its response,
+/// and the trace of each power cycle. If a command made a change that has to be saved, the device
+/// is saved before the response is written. The device is also saved at each power cycle, and at
+/// the end, however the run ends. Memory is allocated only at the start, except for the device's
+/// state. Whatever the fault, the lines before it were run, and their responses written. Only a
+/// `Write` or a `Save` fault can truncate the responses. If both occur, the fault is `Save`. If a
+/// script contains more than [`SCRIPT_LINES`] lines, the first [`SCRIPT_LINES`] are run.
 pub fn run_device<K: Keep, S: Saver, R: Read, W: Write>(
     alloc: Global,
     machine: Machine<K>,
@@ -86,7 +86,7 @@ pub fn run_device<K: Keep, S: Saver, R: Read, W: Write>(
     writer: &mut Tap<W>,
     trace: bool,
 ) -> Result<(), ScriptFault>
-    // If allocations never fail, the output is what the script prints, to its end or up to its
+    // If allocations never fail, the output is the one defined for the script, to its end or to its
     // first bad line.
     ensures played { K.can_refuse ≡ false → Ran (Plays (R.remaining (device_of reader.old))
         (W.contents (device_of writer.old)) (W.contents (device_of writer.new))
@@ -107,7 +107,7 @@ pub fn run_device<K: Keep, S: Saver, R: Read, W: Write>(
         (at_first trace (state_of K.record_of machine))) }
 
     // The saver was notified of the device at each line that was played, and once more after the
-    // last. The output is what these lines print, up to the first line at which a save failed.
+    // last line. The output is what these lines print, up to the first line at which a save failed.
     ensures kept { K.can_refuse ≡ false → KeepsDevice S.saves S.saves_change
         (R.remaining (device_of reader.old)) (R.remaining (device_of reader.new))
         (W.contents (device_of writer.old)) (W.contents (device_of writer.new))
@@ -218,8 +218,8 @@ impl<K: Keep> Run<K> {
         end_at_limit(next)
     }
 
-    /// Advances to the next line, which has this number, and returns whether there is one. Writes
-    /// the responses before reading more of the script.
+    /// Advances to the next line, which has this number. Returns whether there is such a line.
+    /// Writes the responses before reading more of the script.
     fn next_line<R: Read, W: Write>(
         &mut self,
         reader: &mut Tap<R>,
@@ -262,7 +262,7 @@ impl<K: Keep> Run<K> {
     }
 }
 
-/// Returns how a run ends after the last line that a script may have: with TooManyLines if there is
+/// Returns how a run ends after as many lines as a script may have: with TooManyLines if there is
 /// one more line.
 fn end_at_limit(next: Result<bool, ScriptFault>) -> Result<(), ScriptFault>
     ensures { result ≡ end_at_limit next }

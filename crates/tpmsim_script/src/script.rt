@@ -1,5 +1,5 @@
-//! The values that the lines of a script so far set for its next command: the locality, the
-//! elapsed time, and the random bytes.
+//! The values that the lines of a script set for the next command: the locality, the elapsed time,
+//! and the random bytes.
 
 ghost use Rattle.std.specs.Prelude.{◌≡◌, ◌+◌, ◌≤◌, ◌<◌, ◌^◌, ◌↔◌, length, replicate};
 ghost use Rattle.std.specs.Prelude.{IsOk, OnOk, OnErr};
@@ -14,7 +14,7 @@ use tpm_types::Locality;
 /// The number of random bytes for each command.
 pub const RANDOM_BYTES: usize = 256;
 
-/// The values that the lines of a script so far set for its next command.
+/// The values that the lines so far have set for the script's next command.
 #[derive(Drop)]
 pub struct Script {
     locality: Locality,
@@ -55,7 +55,8 @@ impl Script {
         Ok(())
     }
 
-    /// Sets the random bytes of later commands: 1 to 256 bytes, which are repeated to 256.
+    /// Sets the random bytes of later commands by repeating these bytes to 256. Fails unless there
+    /// are 1 to 256 bytes.
     pub fn set_entropy(&mut self, entropy: &[u8]) -> Result<(), Unfit>
         ensures fits { IsOk result
             ↔ ((0 < length entropy.now) × (length entropy.now ≤ RANDOM_BYTES)) }
@@ -80,7 +81,7 @@ impl Script {
     }
 }
 
-/// The given bytes, repeated to 256 bytes.
+/// Returns 256 bytes, made by repeating the given bytes.
 pub fn repeated(entropy: &[u8]) -> [u8; 256]
     requires { 0 < length entropy.now }
     ensures { result ≡ repeated entropy.now }

@@ -8,7 +8,7 @@ use std::fmt;
 use tpm_help::word_at;
 use tpm_text::AsmFault;
 
-/// A bad line: its number, its fault, and what is expected there.
+/// A bad line: its number, its fault, and what is expected instead.
 #[derive(Clone, Copy)]
 pub struct ToldFault {
     pub number: u32,
@@ -45,7 +45,7 @@ impl fmt::Display for ToldFault {
     }
 }
 
-/// The name of a line's fault, and the column of the faulty token.
+/// The name of the fault of a line, with the column of the faulty token.
 #[derive(Clone, Copy)]
 struct FaultName {
     fault: AsmFault,
@@ -69,7 +69,7 @@ impl fmt::Display for FaultName {
     }
 }
 
-/// What is expected at the position of a bad line's fault.
+/// Says what is expected where a bad line has its fault.
 fn wanted_text(bad: BadLine, line: &[u8]) -> &'static str
     ensures { result.now ≡ wanted_text bad.wanted line.now bad.fault }
 {

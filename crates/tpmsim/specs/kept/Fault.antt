@@ -32,8 +32,8 @@ said_of_opening (opening.Follow fault) = said_of_following fault
 abbrev pub HasFault : List ℕ → OpenFault → Type 0
 HasFault text fault = (new : Record) × OpensJournal text (Err fault) new
 
--- The report says why a text is not a journal. If the text is a journal, the report says that it
--- was damaged when it was read before. The report may also say that an allocation failed.
+-- The report says why a text is not a journal. If the text is a journal, the report says that an
+-- earlier attempt found it damaged. The report may also say that an allocation failed.
 abbrev pub IsSaidOf : List ℕ → Said → Type 0
 IsSaidOf text words =
     ((fault : OpenFault) × (words ≡ said_of_opening fault) × HasFault text fault)

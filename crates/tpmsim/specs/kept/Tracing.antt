@@ -12,7 +12,7 @@ use Rattle.tpm_types.specs.declared.check.Check.{Check}
 abbrev pub row_of : Answer → Row
 row_of a = record { code = a.code; check = a.check }
 
--- A number is 0, or the number of a command. `IsCheck` says the same of checks.
+-- The number is 0, or the number of a command. `IsCheck` is the same for checks.
 abbrev pub IsCode : ℕ → Type 0
 IsCode number = (number ≡ 0) ⊎ ((code : CommandCode) × (number ≡ code_number code))
 

@@ -17,7 +17,7 @@ use tpm_types::Locality;
 use tpmsim_folder::moment::{clock_of, start_of};
 use tpmsim_folder::{Host, KeptFault, Place, Said};
 
-/// When a journal has this size, the next command begins a new journal.
+/// When a journal has this size in bytes, the next command begins a new journal.
 const JOURNAL_LIMIT: u64 = 262_144;
 
 /// A device that is kept in a folder. If a call fails, the command was not answered, and the next
@@ -29,8 +29,7 @@ pub struct Kept<'a> {
     keeper: Keeper<KeptDevice>,
     /// The text of the journal when it was last opened.
     journal: Vec<u8>,
-    /// When a new journal replaces the old one: the part of the old one that the device did not
-    /// execute.
+    /// The part of the old journal that the device did not execute, when a new journal replaces it.
     tail: Tail,
     /// Whether the latest call began a new journal.
     has_begun: bool,
@@ -61,8 +60,7 @@ impl<'a> Kept<'a> {
         self.host.is_there()
     }
 
-    /// Creates a new device, whose secrets are these random bytes, unless the folder contains a
-    /// device.
+    /// Creates a new device from these random bytes, unless the folder contains a device.
     pub fn manufacture(&mut self, random: &[u8; 256]) -> Result<(), KeptFault> {
         let now_ms = clock_of(self.rt)?;
         let seed = seed_of_random(self.rt.alloc(), now_ms, start_of(self.rt)?, random)?;
@@ -105,7 +103,7 @@ impl<'a> Kept<'a> {
         self.execute(&command)
     }
 
-    /// Executes a TPM command, given the text that encodes it for the keeper.
+    /// Executes a TPM command. `command` is the text that encodes it for the keeper.
     fn execute(&mut self, command: &[u8]) -> Result<Answer<'_>, KeptFault>
         ensures { IfOk result (λ answer. length answer.response.now ≤ buffer_limit) }
     {
@@ -141,7 +139,7 @@ impl<'a> Kept<'a> {
     }
 
     /// Replaces the device by the device of a state text, for all processes that use it, or creates
-    /// the device if there is none. First cuts damage in the journal.
+    /// the device if there is none. First removes the damage in the journal, if there is any.
     pub fn restore(&mut self, state: &[u8]) -> Result<(), KeptFault> {
         let alloc = self.rt.alloc();
         let now_ms = clock_of(self.rt)?;
@@ -187,7 +185,7 @@ impl<'a> Kept<'a> {
         Err(Place::Journal.that(Said::Keeper(Fault::Idle)))
     }
 
-    /// How a job ended: it is done; or the host failed; or the keeper ended it.
+    /// Returns the result of a job: success, the fault of the host, or the fault of the keeper.
     fn end(&self, end: End, fault: Option<KeptFault>) -> Result<(), KeptFault> {
         match (end, fault) {
             (End::Done, _) => Ok(()),
@@ -205,8 +203,8 @@ impl<'a> Kept<'a> {
         }
     }
 
-    /// Performs one request of the keeper, and reports the result to the keeper, except for an
-    /// error, which the caller reports.
+    /// Performs one request of the keeper, and reports the result to the keeper. Returns an error
+    /// instead of reporting it.
     fn perform_one(&mut self, job: Job, ask: Ask) -> Result<(), KeptFault> {
         let got = match ask {
             Ask::Read(from) => return self.read(from),
@@ -221,8 +219,8 @@ impl<'a> Kept<'a> {
         Ok(())
     }
 
-    /// Passes the journal, from an offset on, to the keeper. Remembers the text if the whole
-    /// journal was read.
+    /// Passes the journal, from an offset on, to the keeper. Remembers the text if it is that of
+    /// the whole journal.
     fn read(&mut self, from: u64) -> Result<(), KeptFault> {
         let bytes = self.host.read(from)?;
         let _ = self.keeper.next(Got::Bytes(&bytes));

@@ -77,8 +77,8 @@ impl Player {
         Ok(())
     }
 
-    /// Advances to the next line, which has this number, and returns whether there is one. Writes
-    /// the output before reading more of the script.
+    /// Advances to the next line, which has this number. Returns whether there is such a line.
+    /// Writes the output before reading more of the script.
     fn next_line<R: Read, W: Write>(
         &mut self,
         lines: &mut Lines,

@@ -14,7 +14,7 @@ use tpm_step::Outcome;
 use tpmsim_folder::Said;
 
 /// Returns why a text cannot be opened as a journal. If the text can be opened, returns `Damaged`,
-/// since it was damaged when it was read before.
+/// since an earlier attempt found it damaged.
 pub fn said_of_text(alloc: Global, text: &[u8]) -> Said
     ensures { IsSaidOf text.now result }
 {

@@ -38,8 +38,9 @@ pub trait RandomBytes {
     fn next(&mut self) -> Option<[u8; 256]>;
 }
 
-/// Serves a connection: executes the command buffers that it sends, each at the present time of the
-/// host's clock, with these settings and with its own random bytes, and writes their responses.
+/// Serves a connection: executes each command buffer that it sends, and writes the response. Each
+/// is executed at the present time of the host's clock, with these settings and with fresh random
+/// bytes.
 pub fn serve<R: Read, W: Write, B: RandomBytes>(
     kept: &mut Kept<'_>,
     terms: Terms,
@@ -64,8 +65,8 @@ pub fn serve<R: Read, W: Write, B: RandomBytes>(
     Err(ServeFault::Client)
 }
 
-/// Executes the complete buffers that a connection has received, and writes their responses. There
-/// are fewer buffers than bytes.
+/// Executes the complete buffers that a connection has received, and writes their responses. The
+/// loop is long enough, since a buffer has at least one byte.
 fn answer_whole<W: Write, B: RandomBytes>(
     kept: &mut Kept<'_>,
     terms: Terms,

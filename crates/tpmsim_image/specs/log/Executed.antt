@@ -6,7 +6,7 @@ use Rattle.tpm_machine.specs.Drawn.{drawn_by}
 use Rattle.tpm_journal_text.specs.Sum.{sum_of}
 use Rattle.tpm_journal_text.specs.Entry.{PlainEntry, entry_limit}
 
--- the entry of an event with this response, which drew `drawn` random bytes, without a layer above
+-- the entry of a command that drew `drawn` random bytes and got this response, with no layer above
 -- the device; a power cycle and a placed object have no entry
 abbrev pub entry_by : PlainEvent → (drawn : ℕ) → (response : List ℕ) → Option PlainEntry
 entry_by (Given buffer locality elapsed random) drawn response = Some (record {
@@ -20,7 +20,7 @@ entry_by (Given buffer locality elapsed random) drawn response = Some (record {
 entry_by Cycled drawn response = None
 entry_by (Placed object) drawn response = None
 
--- whether an entry can contain this buffer and this number of the random bytes
+-- whether this buffer and this number of random bytes fit into an entry
 abbrev pub fits_entry : (buffer : List ℕ) → (drawn : ℕ) → (random : List ℕ) → Bool
 fits_entry buffer drawn random =
     nat_le (length buffer) entry_limit && nat_le drawn (length random)

@@ -1,4 +1,4 @@
--- The text of a log: a head, and the entries of the commands executed since then.
+-- The text of a log: a head, and the entries of the commands executed since the log began.
 use Rattle.std.specs.Prelude.{◌≡◌, ℕ, Bool, false, List, map, Option, Some, None}
 use Rattle.std.specs.Io.KnownBytes.{Appends}
 use Rattle.std.specs.List.{AllByRecursion, FoldsTo}
@@ -11,7 +11,7 @@ use Rattle.tpm_journal_text.specs.Journal.{entries_text, sum_after_all}
 use Rattle.tpmsim_image.specs.log.Executed.{entry_in}
 use Rattle.tpmsim_image.specs.declared.log.Log.{Log}
 
--- the state of a log: its text, if that is known, and the checksum of its marks
+-- the state of a log: its text, if that is known, and the checksum of all its marks
 pub record Written : Type 0 where
   pub text : Option (List ℕ)
   pub sum : ℕ
@@ -20,7 +20,7 @@ pub record Written : Type 0 where
 abbrev pub written_of : {W : Type 0} → (W → Option (List ℕ)) → Log W → Written
 written_of contents log = record { text = contents (device_of log.writer); sum = log.sum }
 
--- The head with this clock and this image was appended to the text.
+-- A log was begun: the head with this clock and this image was appended to the old text.
 pub record Begins (clock : ℕ) (image : List ℕ) (before : Option (List ℕ)) (now : Written) : Type 0
   where
     pub text : Appends before now.text (head_text Image clock image)
@@ -32,7 +32,7 @@ pub record AddsEntry (old : Written) (e : PlainEntry) (new : Written) : Type 0 w
   pub text : Appends old.text new.text (entry_text old.sum e)
   pub sum : new.sum ≡ sum_after old.sum e
 
--- The entry of an execution, which must exist, was appended to a log.
+-- The execution has an entry, which was appended to a log.
 abbrev pub AddsSome : Written → Option PlainEntry → Written → Type 0
 AddsSome old None new = ⊥
 AddsSome old (Some e) new = AddsEntry old e new

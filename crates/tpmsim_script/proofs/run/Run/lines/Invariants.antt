@@ -9,8 +9,8 @@ use Rattle.tpmsim_script.specs.Keeping.{kept}
 use Rattle.tpmsim_script.proofs.Keeping.{SoFar}
 use Rattle.tpmsim_script.proofs.run.Run.lines.Given as goal
 
--- If allocations never fail: playing the remaining lines from here completes the run, and the saver
--- was notified of each line so far.
+-- If allocations never fail, playing the remaining lines completes the run, and the saver was
+-- notified of each line so far.
 abbrev pub invariant-loop-number : goal.invariant-loop-number
 invariant-loop-number g l =
     let remaining = g.R.Read.remaining in
