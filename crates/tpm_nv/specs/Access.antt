@@ -43,7 +43,7 @@ undefined = record {}
 abbrev pub index_has : NvIndex → NvAttribute → Bool
 index_has index attribute = has index.public.attributes attribute
 
--- an index after one more attribute was set
+-- an index with one more attribute set
 abbrev pub marked : NvIndex → NvAttribute → NvIndex
 marked index attribute =
     record index {

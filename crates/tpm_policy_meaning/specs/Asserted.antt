@@ -1,5 +1,5 @@
--- The assertions of a session, and the texts from which its digest is computed. TPM 2.0 Library,
--- Part 1, section 19.7, and Part 3, section 23.
+-- The assertions of a session, and the hash inputs from which its digest is computed. TPM 2.0
+-- Library, Part 1, section 19.7, and Part 3, section 23.
 use Rattle.std.specs.Prelude.{◌≡◌, ◌⊎◌, ◌<◌, ◌^◌, ℕ, Bool, false, List, [], ◌∷◌, ◌++◌, length, Ok}
 use Rattle.tpm_mac.specs.Digest.{digest_size}
 use Rattle.tpm_mac.specs.declared.algorithm.HashAlg.{HashAlg}
@@ -88,7 +88,7 @@ AreAccepted hash [] = Unit {0}
 AreAccepted hash (latest ∷ earlier) =
     HasWidths hash latest × FindsDigest hash latest earlier × AreAccepted hash earlier
 
--- ---- the texts that a session hashes
+-- ---- the inputs that a session hashes
 
 -- what an assertion contributes to the digest
 abbrev pub update_by : HashAlg → Assertion → PolicyUpdate
@@ -113,7 +113,7 @@ abbrev pub digest_before : HashAlg → Assertion → (earlier : List Assertion) 
 digest_before hash (assertion.Or digests) earlier = zeros hash
 digest_before hash _ earlier = session_digest hash earlier
 
--- the texts that a session hashed, and the session's digests, both with the latest first
+-- the inputs that a session hashed, and the session's digests, both with the latest first
 abbrev pub session_texts : HashAlg → List Assertion → List (List ℕ)
 session_texts hash [] = []
 session_texts hash (latest ∷ earlier) =
@@ -127,7 +127,7 @@ session_digests hash (latest ∷ earlier) =
 
 -- ---- laws of the digest of a session
 
--- A policy session's digest is the hash of the latest text that it hashed, or zeros if there is
+-- A policy session's digest is the hash of the latest input that it hashed, or zeros if there is
 -- none.
 abbrev pub SessionHashesTexts : Type 0
 SessionHashesTexts =
@@ -141,7 +141,7 @@ AcceptedFindDigest =
     → asserted hash false latest (evaluated hash false earlier) ≡ Ok made
     → FindsDigest hash latest earlier
 
--- If TPM2_PolicyAuthValue or TPM2_PolicyPassword was asserted, the session demands the
+-- If TPM2_PolicyAuthValue or TPM2_PolicyPassword was asserted, the session requires the
 -- authorization value, in an HMAC key or as a password.
 abbrev pub DemandsValue : Type 0
 DemandsValue =

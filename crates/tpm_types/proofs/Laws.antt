@@ -1,5 +1,5 @@
 -- Derives the contracts of the read functions from `Spelled`, which says that a read returns a
--- value exactly when the text starts with the value's encoding.
+-- value exactly when the input starts with the value's encoding.
 use Rattle.std.proofs.Common.{◌≡◌, ℕ, List, ◌++◌, Result, Ok, Err, ap, subst, ◌∙◌}
 use Rattle.std.specs.Prelude.{IfOk}
 use Rattle.tpm_bytes.specs.Reading.{Reads}

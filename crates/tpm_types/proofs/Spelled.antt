@@ -1,4 +1,4 @@
--- If a read returns each field of a structure exactly when the text starts with the field's
+-- If a read returns each field of a structure exactly when the input starts with the field's
 -- encoding, the same holds for the structure.
 use Rattle.std.proofs.Common.{◌≡◌, ℕ, ◌+◌, List, [], ◌++◌, length, drop, Result, Ok, refl, sym, ap, subst, ◌∙◌, append_assoc, append-nil}
 use Rattle.std.proofs.lemmas.List.{take_at, drop_at, get_or-drop}
@@ -87,7 +87,7 @@ rest_fits front rest fits = subst AreBytes (drop_at front rest (length front) re
     later : AreBytes (drop (length front) (front ++ rest))
     later i = rw get_or-drop (fits (length front + i))
 
--- if the bytes are a text followed by a rest, then reading the text leaves the rest
+-- if the bytes are `text` followed by `rest`, then reading `text` leaves `rest`
 pub takes : (bytes text rest : List ℕ) → AreBytes bytes → bytes ≡ text ++ rest → Takes bytes text rest
 takes bytes text rest fits parts = record { parts = parts; rest_fits = rest_fits text rest (subst AreBytes parts fits) }
 

@@ -32,10 +32,10 @@ impl SymmetricDefinition {
         // The result is the decoded definition, or the first fault.
         ensures exact { Reads (λ definition. definition) (symmetric_at text.old) text.old
             result text.new }
-        // If decoding succeeds, the text starts with the encoding of the returned value.
+        // If decoding succeeds, the input starts with the encoding of the returned value.
         ensures found { IfOk result (λ definition.
             text.old ≡ symmetric_text definition ++ text.new) }
-        // The encoding of a value decodes to that value, whatever follows it.
+        // The encoding of a value decodes to that value, whatever bytes follow.
         ensures only { (definition : SymmetricDefinition) (rest : List ℕ)
             → text.old ≡ symmetric_text definition ++ rest
             → Reads (λ definition. definition) (Ok (definition, rest)) text.old result text.new }
