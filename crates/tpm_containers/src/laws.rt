@@ -7,8 +7,8 @@ ghost use Rattle.tpm_containers.specs.SortedMap.{kept_entries, without_key};
 
 /// Entries with ascending keys form a map. The laws say which values are found after a key was
 /// inserted, removed or changed. They also say that the keys still ascend, how many there are, and
-/// which is the lowest key from a given key on. This function is only a proof: it has no effect at
-/// run time.
+/// which key is the lowest at or above any given key. This function is only a proof: it has no
+/// effect at run time.
 #[inline(always)]
 #[tactic(auto, using(crate::proofs::SortedMapLaws::is_map))]
 pub fn sorted_map_laws<T>()

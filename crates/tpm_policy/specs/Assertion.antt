@@ -40,8 +40,8 @@ pub record PcrParts : Type 0 where
   pub digest : List ℕ
   pub update_count : ℕ
 
--- the data of TPM2_PolicySecret: the Name of the entity of authHandle, the nonce in the command,
--- the session's nonceTPM, cpHashA, policyRef, and expiration
+-- the data of TPM2_PolicySecret: the Name of the entity that authHandle names, the nonce in the
+-- command, the session's nonceTPM, cpHashA, policyRef, and expiration
 pub record SecretParts : Type 0 where
   pub name : List ℕ
   pub nonce : List ℕ

@@ -105,7 +105,8 @@ module _ (hash : HashAlg) (Broken : Type 0) (One Other : List ℕ → Type 0) (b
 
 -- ---- TPM2_PolicyOR
 
--- The assertion is a TPM2_PolicyOR, and its concatenated digests equal these digests, concatenated.
+-- The assertion is a TPM2_PolicyOR. Its digests, concatenated, equal the concatenation of these
+-- digests.
 abbrev pub IsOrOf : (digests : List (List ℕ)) → Assertion → Type 0
 IsOrOf digests one =
     (given : List (List ℕ)) × (one ≡ assertion.Or given)

@@ -35,9 +35,9 @@ evaluated hash trial (latest ∷ earlier) =
 abbrev pub session_digest : HashAlg → List Assertion → List ℕ
 session_digest hash assertions = (evaluated hash false assertions).digest
 
--- ---- assertions of a session and of a written policy
+-- ---- assertions of a session and of a policy expression
 
--- An assertion of a session asserts the same as an assertion of a written policy.
+-- An assertion of a session asserts the same as an assertion of a policy expression.
 -- TPM2_PolicyAuthValue and TPM2_PolicyPassword count as the same, since they extend the digest in
 -- the same way. After either, a caller must prove that it knows the authorization value
 -- (`DemandsValue`); the session's demand decides how.
@@ -59,7 +59,7 @@ Says (assertion.Nv parts) (PolicyNv name operand offset operation) =
     × (parts.operation ≡ operation)
 Says _ _ = ⊥
 
--- One of these assertions asserts the same as this assertion of a written policy.
+-- One of these assertions asserts the same as this assertion of a policy expression.
 abbrev pub IsAsserted : List Assertion → PolicyAssertion → Type 0
 IsAsserted assertions written =
     (one : Assertion) × IsAmong one assertions × Says one written

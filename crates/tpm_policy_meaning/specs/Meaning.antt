@@ -27,7 +27,7 @@ abbrev mutual
   IsOneMet P NoBranch = ⊥
   IsOneMet P (Branch policy branches) = IsMet P policy ⊎ IsOneMet P branches
 
--- An assertion of a written policy can be encoded: a PCR digest is as long as a digest of the
+-- An assertion of a policy expression can be encoded: a PCR digest is as long as a digest of the
 -- policy's hash, a command code fits in 32 bits, and an offset in 16.
 abbrev pub IsPolicyAssertion : HashAlg → PolicyAssertion → Type 0
 IsPolicyAssertion hash (PolicyPcr selection digest) = length digest ≡ digest_size hash

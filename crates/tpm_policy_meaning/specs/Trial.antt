@@ -13,8 +13,8 @@ use Rattle.tpm_policy_meaning.specs.Expression.{PolicyExpression, Nothing, Then,
 use Rattle.tpm_policy_meaning.specs.Meaning.{IsPolicyExpression}
 use Rattle.tpm_policy_meaning.specs.PolicyDigest.{branch_digests, policy_digest}
 
--- the assertion that a trial session makes for an assertion of a written policy; `pcrs_now` is the
--- current digest of the device's PCRs
+-- the assertion that a trial session makes for an assertion of a policy expression; `pcrs_now` is
+-- the current digest of the device's PCRs
 abbrev pub assertion_of : (pcrs_now : List ℕ) → PolicyAssertion → Assertion
 assertion_of pcrs_now (PolicyPcr selection digest) = assertion.Pcr (record {
   given = digest;
