@@ -50,7 +50,7 @@ sized_at limit text = do
   size ← or_fault (number_at w16 text) fault.Short
   if nat_lt limit size.0 then Err fault.TooLong else or_fault (bytes_at size.0 size.1) fault.Short
 
--- The code's result matches the definition: either the value, seen through `view`, or the fault.
+-- The code's result matches the definition: either the value, converted by `view`, or the fault.
 abbrev pub Gives : {X Y E : Type 0} → (X → Y) → Result Y E → Result X E → Type 0
 Gives view defined (Ok x) = defined ≡ Ok (view x)
 Gives view defined (Err e) = defined ≡ Err e

@@ -18,7 +18,7 @@ module _ {X : Type 0} where
   abbrev pub if_of_kind : (X → ℕ) → ℕ → X → Option X
   if_of_kind kind number x = if kind_of number == kind x then Some x else None
 
-  -- the value that a number finds
+  -- the value with this number, or None
   unfoldable pub at_number : (X → ℕ) → List (Option X) → ℕ → Option X
   at_number kind places number =
       option_and_then (if_of_kind kind number) (at_place places (place_of number))

@@ -68,8 +68,8 @@ number_or number index =
 
 -- ---- writing
 
--- the check that a command for indices of this type may write an index: the index is not locked
--- against writing, and it is of this type
+-- checks whether a command for indices of this type may write an index: the index must not be
+-- locked against writing, and must be of this type
 abbrev pub writable : NvType → NvIndex → Result (Unit {0}) WriteFault
 writable type index = do
   unlocked ← refused_if (index_has index attribute.WriteLocked) write_fault.Locked

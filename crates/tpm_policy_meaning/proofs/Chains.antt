@@ -68,7 +68,7 @@ unless_broken (inr broken) next = inr broken
 
 -- ---- chains of steps
 
--- the digest of a chain of steps, the latest first; and the inputs that are hashed for these steps
+-- the digest of a chain of steps (latest first); and the inputs that are hashed for these steps
 abbrev pub chain : HashAlg → List (List ℕ) → List ℕ
 chain hash [] = zeros hash
 chain hash (step ∷ earlier) = hash_of hash (chain hash earlier ++ step)

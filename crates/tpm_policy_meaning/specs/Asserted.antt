@@ -25,13 +25,13 @@ abbrev pub IsAmong : {X : Type 0} → X → List X → Type 0
 IsAmong x [] = ⊥
 IsAmong x (y ∷ ys) = (x ≡ y) ⊎ IsAmong x ys
 
--- the policy of a session after these assertions, the latest first
+-- the policy of a session after these assertions (latest first)
 abbrev pub evaluated : HashAlg → (trial : Bool) → List Assertion → Policy
 evaluated hash trial [] = starting hash
 evaluated hash trial (latest ∷ earlier) =
     policy_with hash trial latest (evaluated hash trial earlier)
 
--- the digest of a policy session after these assertions, the latest first
+-- the digest of a policy session after these assertions (latest first)
 abbrev pub session_digest : HashAlg → List Assertion → List ℕ
 session_digest hash assertions = (evaluated hash false assertions).digest
 
@@ -81,8 +81,8 @@ FindsDigest hash (assertion.Or digests) earlier =
     IsAmong (session_digest hash earlier) digests
 FindsDigest hash _ earlier = Unit {0}
 
--- The values of each of these assertions, the latest first, have the right sizes. The list of
--- each TPM2_PolicyOR contains the session's digest after the earlier assertions.
+-- The values of each of these assertions (latest first) have the right sizes. The list of each
+-- TPM2_PolicyOR contains the session's digest after the earlier assertions.
 abbrev pub AreAccepted : HashAlg → List Assertion → Type 0
 AreAccepted hash [] = Unit {0}
 AreAccepted hash (latest ∷ earlier) =
@@ -113,7 +113,7 @@ abbrev pub digest_before : HashAlg → Assertion → (earlier : List Assertion) 
 digest_before hash (assertion.Or digests) earlier = zeros hash
 digest_before hash _ earlier = session_digest hash earlier
 
--- the inputs that a session hashed, and the session's digests, both with the latest first
+-- the inputs that a session hashed, and the session's digests (both latest first)
 abbrev pub session_texts : HashAlg → List Assertion → List (List ℕ)
 session_texts hash [] = []
 session_texts hash (latest ∷ earlier) =

@@ -81,7 +81,7 @@ abbrev pub with_reference : HashAlg → Option (List ℕ) → (text : List ℕ) 
 with_reference hash None text = text ∷ []
 with_reference hash (Some reference) text = (hash_of hash text ++ reference) ∷ text ∷ []
 
--- the inputs that are hashed when an assertion extends this digest, the latest first
+-- the inputs that are hashed when an assertion extends this digest (latest first)
 abbrev pub texts_after : HashAlg → (digest : List ℕ) → PolicyUpdate → List (List ℕ)
 texts_after hash digest update =
     with_reference hash update.reference (digest ++ update_text update) ++ update.apart
@@ -90,13 +90,13 @@ texts_after hash digest update =
 abbrev pub zeros : HashAlg → List ℕ
 zeros hash = replicate (digest_size hash) 0
 
--- the digest after these inputs were hashed, the latest first: the hash of the latest input, or
--- zeros if there is none
+-- the digest after these inputs were hashed (latest first): the hash of the latest input, or zeros
+-- if there is none
 abbrev pub digest_after : HashAlg → (texts : List (List ℕ)) → List ℕ
 digest_after hash [] = zeros hash
 digest_after hash (text ∷ earlier) = hash_of hash text
 
--- the inputs that are hashed for a policy and for its branches, the latest first; the input of
+-- the inputs that are hashed for a policy and for its branches (latest first); the input of
 -- TPM2_PolicyOR starts from zeros again
 abbrev mutual
   pub policy_texts : HashAlg → PolicyExpression → List (List ℕ)

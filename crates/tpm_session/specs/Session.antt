@@ -10,7 +10,8 @@ use Rattle.tpm_session.specs.Key.{is_nonce_size, key_size}
 use Rattle.tpm_session.specs.declared.session.Binding.{Binding}
 
 -- a session: its type, hash and symmetric definition; the last nonce that the device sent; the key;
--- the entity to which it is bound; and its policy state, which never changes in an HMAC session
+-- the entity to which the session is bound; and its policy state, which never changes in an HMAC
+-- session
 pub record Session : Type 0 where
   pub kind : SessionType
   pub hash : HashAlg
