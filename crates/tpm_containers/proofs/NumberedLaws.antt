@@ -179,8 +179,8 @@ module _ {X : Type 0} (kind : X → ℕ) where
   one_taken : (places : Slots) (number : ℕ) (x : X) → at_number kind places number ≡ Some x → counted (at_place places (place_of number)) ≡ 1
   one_taken places number x is = ap counted (found_at places number x is).0
 
-  -- If a number finds a value and the number's slot is overwritten, the number of taken slots stays
-  -- the same if the new content is a value, and decreases by one otherwise.
+  -- Suppose that the slot of a found value is overwritten. If the new content is a value, the
+  -- number of taken slots stays the same. Otherwise, it decreases by one.
   taken_there : (places : Slots) (number : ℕ) (x : X) (cell : Option X) → at_number kind places number ≡ Some x → taken_count (slice_set places (place_of number) cell) + 1 ≡ taken_count places + counted cell
   taken_there places number x cell is =
       let set = taken_set places (place_of number) cell (at_inside places (place_of number) x (found_at places number x is).0) in

@@ -1,6 +1,6 @@
 -- Slots as a map keyed by number. The three least significant bytes of a number identify a slot,
--- and its most significant byte is the kind of the value there. A number of another kind does not
--- find the value.
+-- and its most significant byte is the kind of the value in that slot. A number of another kind
+-- does not find the value.
 use Rattle.std.specs.Prelude.{◌≡◌, ◌≢◌, ℕ, ◌+◌, ◌*◌, ◌/◌, ◌%◌, ◌^◌, ◌==◌, ◌<◌, is_some, List, length, Option, Some, None, option_and_then, if◌then◌else◌, slice_set}
 use Rattle.std.specs.Option.{option_map_or}
 use Rattle.tpm_containers.specs.Slots.{at_place, lowest_free, taken_count}

@@ -5,7 +5,7 @@ use Rattle.std.specs.Prelude.{ℕ, ◌+◌, ◌-◌, List, ◌++◌, length, tak
 abbrev pub piece_of : (start size : ℕ) → List ℕ → List ℕ
 piece_of start size bytes = take size (drop start bytes)
 
--- the bytes with those at an offset overwritten by a piece
+-- the bytes with `piece` written over them at an offset
 abbrev pub put_over : (start : ℕ) → (piece bytes : List ℕ) → List ℕ
 put_over start piece bytes = take start bytes ++ (piece ++ drop (start + length piece) bytes)
 
