@@ -134,7 +134,7 @@ SessionHashesTexts =
     (hash : HashAlg) (assertions : List Assertion)
     → session_digest hash assertions ≡ digest_after hash (session_texts hash assertions)
 
--- If a policy session accepts a TPM2_PolicyOR, its digest at that time is in the list.
+-- If a policy session accepts a TPM2_PolicyOR, the session's digest at that time is in the list.
 abbrev pub AcceptedFindDigest : Type 0
 AcceptedFindDigest =
     (hash : HashAlg) (latest : Assertion) (earlier : List Assertion) (made : Policy)

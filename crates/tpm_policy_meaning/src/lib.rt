@@ -28,10 +28,10 @@ pub fn trial_laws()
     ensures { TrialComputes }
 {}
 
-/// Laws of a session's digest. If a policy session accepts a TPM2_PolicyOR, its digest at that time
-/// is in the list. A session's digest is the hash of the latest input that it hashed, or zeros if
-/// there is none. If TPM2_PolicyAuthValue or TPM2_PolicyPassword was asserted, the session requires
-/// the authorization value, in an HMAC key or as a password.
+/// Laws of a session's digest. If a policy session accepts a TPM2_PolicyOR, the session's digest at
+/// that time is in the list. A session's digest is the hash of the latest input that it hashed, or
+/// zeros if there is none. If TPM2_PolicyAuthValue or TPM2_PolicyPassword was asserted, the session
+/// requires the authorization value, in an HMAC key or as a password.
 #[inline(always)]
 pub fn session_laws()
     ensures find { AcceptedFindDigest }
