@@ -78,7 +78,8 @@ impl PolicyState {
         (self.localities >> locality.number()) & 1 == 0
     }
 
-    /// Whether the session's hash and policy digest are the entity's nameAlg and authPolicy.
+    /// Whether the session's hash algorithm and policy digest are the entity's nameAlg and
+    /// authPolicy.
     fn is_policy_of(&self, hash: HashAlg, entity: Option<EntityPolicy>) -> bool
         ensures { result
             ≡ is_policy_of hash self.now.digest (option_map entity_parts entity.entry) }

@@ -67,7 +67,7 @@ IsAsserted assertions written =
 -- ---- properties of assertions that a session accepted
 
 -- The values of an assertion have the right sizes: a PCR digest is as long as a digest of the
--- session's hash, a command code fits in 32 bits, and an offset in 16.
+-- session's hash algorithm, a command code fits in 32 bits, and an offset in 16.
 abbrev pub HasWidths : HashAlg → Assertion → Type 0
 HasWidths hash (assertion.Pcr parts) = length parts.digest ≡ digest_size hash
 HasWidths hash (assertion.CommandCode number) = number < 2 ^ 32

@@ -28,7 +28,7 @@ abbrev mutual
   IsOneMet P (Branch policy branches) = IsMet P policy ⊎ IsOneMet P branches
 
 -- An assertion of a policy expression can be encoded: a PCR digest is as long as a digest of the
--- policy's hash, a command code fits in 32 bits, and an offset in 16.
+-- policy's hash algorithm, a command code fits in 32 bits, and an offset in 16.
 abbrev pub IsPolicyAssertion : HashAlg → PolicyAssertion → Type 0
 IsPolicyAssertion hash (PolicyPcr selection digest) = length digest ≡ digest_size hash
 IsPolicyAssertion hash (PolicyCommandCode number) = number < 2 ^ 32

@@ -17,7 +17,7 @@ is_null Aes128Cfb = false
 is_null (Xor hash) = false
 
 -- the encoding of a symmetric definition: NULL alone; AES, its key size in bits, and its mode; or
--- XOR and the hash that generates its masks
+-- XOR and the hash algorithm that generates its masks
 unfoldable pub symmetric_text : SymmetricDefinition → List ℕ
 symmetric_text Null = to_be_bytes w16 0x0010
 symmetric_text Aes128Cfb =
