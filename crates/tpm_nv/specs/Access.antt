@@ -131,8 +131,9 @@ extended contents handle bytes = do
 
 -- ---- reading
 
--- the check that an index may be read: it is not locked against reading, and WRITTEN is set. A
--- command makes this check after it has parsed its parameters and before it checks their values
+-- checks whether an index may be read: it must not be locked against reading, and WRITTEN must be
+-- set. A command makes this check after it has parsed its parameters and before it checks their
+-- values
 abbrev pub readable : NvIndex → Result (Unit {0}) ReadFault
 readable index = do
   unlocked ← refused_if (index_has index attribute.ReadLocked) read_fault.Locked

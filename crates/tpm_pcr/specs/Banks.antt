@@ -49,7 +49,7 @@ abbrev pub HaveValues : BankValues → PcrValues → Type 0
 HaveValues banks values =
     (bank : HashAlg) (pcr : ℕ) → pcr < 24 → pcr_value banks bank pcr ≡ values bank pcr
 
--- ---- the answer of TPM2_PCR_Read
+-- ---- the response of TPM2_PCR_Read
 
 -- the PCRs that a bank's selection names, in ascending order, and their values
 unfoldable pub selected_pcrs : BankSelection → List ℕ
