@@ -21,7 +21,7 @@ pub round_key_more : (key : List ℕ) (n : ℕ) → round_key key (n + 1) ≡ ne
 unfolding round_key
 round_key_more key n = rw (add-one n) refl
 
--- before the first round, the state is the block with the key for round 0 added
+-- before round 1, the state is the block XORed with the key for round 0
 pub state_after_none : (key block : List ℕ) → state_after key block 0 ≡ xor_of block (round_key key 0)
 unfolding state_after
 state_after_none key block = refl

@@ -1,4 +1,4 @@
--- Replacing the blocks of a text one after another, from the start.
+-- Replacing the blocks of a list one after another, from the start.
 use Rattle.std.proofs.Common.{◌≡◌, ℕ, zero, suc, ◌+◌, ◌-◌, ◌*◌, ◌<◌, ◌≤◌, List, [], ◌∷◌, ◌++◌, add-one, add-zero, ap, append_assoc, arith, drop, length, length-append, length-drop, min, refl, sym, take, ◌∙◌, inl, inr}
 use Rattle.std.proofs.lemmas.Bool.{cases_lt}
 use Rattle.std.proofs.lemmas.Grind.{div_ceil_times, flat_map-append}
@@ -36,12 +36,12 @@ pieces_to-suc piece n =
 pub pieces_to-add-one : (piece : ℕ → List ℕ) (n : ℕ) → pieces_to piece (n + 1) ≡ pieces_to piece n ++ piece n
 pieces_to-add-one piece n = ap (pieces_to piece) (add-one n) ∙ pieces_to-suc piece n
 
--- The blocks of a text before block i are replaced by pieces of the same sizes.
+-- The blocks before block i are replaced by pieces of the same sizes.
 pub record IsDoneTo (piece : ℕ → List ℕ) (old now : List ℕ) (i : ℕ) : Type 0 where
   pub size : length now ≡ length old
   pub value : now ≡ pieces_to piece i ++ drop (16 * i) old
 
--- Before the first block is replaced, the text is unchanged.
+-- Before the first block is replaced, the list is unchanged.
 pub done_to_none : (piece : ℕ → List ℕ) (text : List ℕ) → IsDoneTo piece text text 0
 done_to_none piece text =
     record { size = refl; value = rw (pieces_to-zero piece) refl }
@@ -58,7 +58,8 @@ rest_left piece old now i start done at within =
     ap (drop start) done.value
     ∙ drop_at (pieces_to piece i) (drop (16 * i) old) start (length-done piece old now i done (omega arith) ∙ sym at)
 
--- If a text starts with block i, removing this block leaves a text that starts with block i + 1.
+-- If the remaining bytes start with block i, they start with block i + 1 after this block is
+-- removed.
 drop_block : (old : List ℕ) (i size : ℕ) → 16 * i ≤ length old → size ≡ min 16 (length old - 16 * i)
     → drop size (drop (16 * i) old) ≡ drop (16 * (i + 1)) old
 drop_block old i size within is_size =
@@ -112,19 +113,19 @@ done_to_more piece old now new part i start end done at within stop is_piece siz
           ∙ ap (λ (xs : List ℕ). xs ++ drop (16 * (i + 1)) old) (sym (pieces_to-add-one piece i));
     }
 
--- if i is below the number of blocks, block i starts inside the text
+-- if i is below the number of blocks, block i starts inside the list
 pub block_count-inside : (text : List ℕ) (i : ℕ) → i < block_count text → 16 * i < length text
 block_count-inside text i low = omega arith
 
--- A block is sixteen bytes long, or as long as the rest of the text if that is shorter.
+-- A block is sixteen bytes long, or as long as the rest of the list if that is shorter.
 pub length-block_at : (text : List ℕ) (i : ℕ) → length (block_at text i) ≡ min 16 (length text - 16 * i)
 length-block_at text i = length-take 16 (drop (16 * i) text) ∙ ap (min 16) (length-drop (16 * i) text)
 
--- no byte of the text lies past its last block
+-- no byte of the list lies past its last block
 pub block_count-covers : (text : List ℕ) → length text ≤ 16 * block_count text
 block_count-covers text = omega (arith, (div_ceil_times (length text) 16 (omega arith)).0)
 
--- after the last block is replaced, the text is the concatenation of all pieces
+-- after the last block is replaced, the list is the concatenation of all pieces
 pub done_to_all : (piece : ℕ → List ℕ) (old now : List ℕ) (i : ℕ) → IsDoneTo piece old now i
     → i ≡ block_count old → now ≡ pieces_to piece (block_count old)
 done_to_all piece old now i done last =

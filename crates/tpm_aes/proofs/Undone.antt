@@ -42,7 +42,7 @@ length-streamed key feedback text i =
     length-xor_of-whole (block_at text i) (aes_of key feedback)
     (omega (arith, length-block_at text i, length-aes_of key feedback))
 
--- Each piece has the size of the block of the text with the same index.
+-- Each piece has the size of the block with the same index.
 abbrev AreLikeBlocks : (ℕ → List ℕ) → List ℕ → Type 0
 AreLikeBlocks piece text = (i : ℕ) → length (piece i) ≡ length (block_at text i)
 
@@ -87,7 +87,7 @@ block_at-pieces_to piece (suc n) whole short i low =
           ∙ take_all 16 (piece n) (short n) ∙ ap piece same
     ]
 
--- If the pieces have the sizes of a text's blocks, block i of their concatenation is piece i.
+-- If the pieces have the sizes of the blocks of a list, block i of their concatenation is piece i.
 block_at-joined : (piece : ℕ → List ℕ) (text : List ℕ) → AreLikeBlocks piece text
     → (i : ℕ) → i < block_count text → block_at (pieces_to piece (block_count text)) i ≡ piece i
 block_at-joined piece text like =
@@ -102,7 +102,7 @@ pieces_to-same f g (suc n) each =
     pieces_to-suc f n ∙ ap (λ (xs : List ℕ). xs ++ f n) (pieces_to-same f g n (λ i h. each i (omega arith)))
     ∙ ap (λ (xs : List ℕ). pieces_to g n ++ xs) (each n (omega arith)) ∙ sym (pieces_to-suc g n)
 
--- The first n blocks of a text, concatenated, are the first bytes of the text.
+-- The first n blocks of a list, concatenated, are the first bytes of the list.
 pieces_to-block_at : (text : List ℕ) (n : ℕ) → pieces_to (block_at text) n ≡ take (16 * n) text
 pieces_to-block_at text zero = pieces_to-zero (block_at text)
 pieces_to-block_at text (suc n) =
@@ -110,7 +110,7 @@ pieces_to-block_at text (suc n) =
     pieces_to-suc (block_at text) n ∙ ap (λ (xs : List ℕ). xs ++ block_at text n) (pieces_to-block_at text n)
     ∙ sym (take-add (16 * n) 16 text) ∙ ap (λ (k : ℕ). take k text) more
 
--- if the pieces are a text's blocks, their concatenation is the text
+-- if the pieces are the blocks of a list, their concatenation is the list
 joined_again : (piece : ℕ → List ℕ) (text other : List ℕ) → length other ≡ length text
     → ((i : ℕ) → i < block_count text → piece i ≡ block_at text i)
     → pieces_to piece (block_count other) ≡ text
@@ -175,7 +175,7 @@ cfb_undone key iv text =
 length-plain_block : (key iv cipher : List ℕ) → AreLikeBlocks (plain_block key iv cipher) cipher
 length-plain_block key iv cipher i = length-streamed key (block_before iv cipher i) cipher i
 
--- a decrypted text is as long as its ciphertext
+-- a decrypted plaintext is as long as its ciphertext
 pub length-cfb_decrypt_of : (key iv cipher : List ℕ) → length (cfb_decrypt_of key iv cipher) ≡ length cipher
 unfolding pieces_to
 length-cfb_decrypt_of key iv cipher = length-joined (plain_block key iv cipher) cipher (length-plain_block key iv cipher)

@@ -1,14 +1,15 @@
--- Cipher feedback with segments of 128 bits (SP 800-38A, 6.3) and AES-128. Texts are lists of
--- bytes. Their blocks of sixteen bytes are numbered from 0. The last block may be shorter.
+-- Cipher feedback with segments of 128 bits (SP 800-38A, 6.3) and AES-128. Plaintexts and
+-- ciphertexts are lists of bytes. Their blocks of sixteen bytes are numbered from 0. The last block
+-- may be shorter.
 use Rattle.std.specs.Prelude.{ℕ, zero, suc, ◌+◌, ◌*◌, ◌/◌, ◌%◌, min, List, drop, length, take}
 use Rattle.std.specs.List.{flat_map, range_with_len}
 use Rattle.tpm_aes.specs.Cipher.{aes_of, xor_of}
 
--- block i of a text
+-- block i of a plaintext or ciphertext
 abbrev pub block_at : List ℕ → ℕ → List ℕ
 block_at text i = take 16 (drop (16 * i) text)
 
--- the number of blocks in a text
+-- the number of blocks in a plaintext or ciphertext
 abbrev pub block_count : List ℕ → ℕ
 block_count text = length text / 16 + min 1 (length text % 16)
 

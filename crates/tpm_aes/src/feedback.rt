@@ -10,8 +10,8 @@ use crate::cipher::Aes128;
 const BLOCK_SIZE: usize = 16;
 
 impl Aes128 {
-    /// Encrypts the text in place. The text may have any length. A short last block is XORed with
-    /// the first bytes of its key stream.
+    /// Encrypts `text` in place. It may have any length. A short last block is XORed with the first
+    /// bytes of its key stream.
     pub fn cfb_encrypt(&self, iv: &[u8; 16], text: &mut [u8])
         ensures value { text.new ≡ cfb_encrypt_of self.now iv.now text.old }
         ensures undone { cfb_decrypt_of self.now iv.now text.new ≡ text.old }
@@ -24,7 +24,7 @@ impl Aes128 {
         }
     }
 
-    /// Decrypts the text in place. With the same key and IV, this function and `cfb_encrypt` undo
+    /// Decrypts `text` in place. With the same key and IV, this function and `cfb_encrypt` undo
     /// each other.
     pub fn cfb_decrypt(&self, iv: &[u8; 16], text: &mut [u8])
         ensures value { text.new ≡ cfb_decrypt_of self.now iv.now text.old }

@@ -1,4 +1,4 @@
--- A read returns a field exactly when the text starts with the field's encoding.
+-- A read returns a field exactly when the input starts with the field's encoding.
 use Rattle.std.proofs.Common.{◌≡◌, ℕ, ◌+◌, ◌^◌, ◌<◌, ◌≤◌, Bool, true, false, cond, ltb, List, [], ◌∷◌, ◌++◌, length, take, drop, Option, Some, None, Result, Ok, Err, refl, sym, ap, subst, ◌∙◌, append_assoc, arith, inl, inr}
 use Rattle.std.specs.Prelude.{ok_or}
 use Rattle.std.specs.Int.{Width, w8, w16, w32, byte_len, from_be_bytes, to_be_bytes}
@@ -49,7 +49,7 @@ guard_passed false d r y e = (refl, e)
 pub ok_is : {A E : Type 0} (x y : A) → (let done : Result A E = Ok x in done ≡ Ok y) → x ≡ y
 ok_is x y e = cc
 
--- A read consumed this text at the start of the bytes and left the rest.
+-- A read of `bytes` consumed `text` at their start and left `rest`.
 pub record Takes (bytes text rest : List ℕ) : Type 0 where
   pub parts : bytes ≡ text ++ rest
   pub rest_fits : AreBytes rest

@@ -1,4 +1,4 @@
--- If a read returns an item exactly when the text starts with its encoding, the same is true of a
+-- If a read returns an item exactly when the input starts with its encoding, the same is true of a
 -- list of items.
 use Rattle.std.proofs.Common.{◌≡◌, ℕ, zero, suc, List, [], ◌∷◌, ◌++◌, length, Result, Ok, refl, ap, subst, ◌∙◌, append_assoc}
 use Rattle.std.specs.List.{flat_map, AllByRecursion}

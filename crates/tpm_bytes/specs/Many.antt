@@ -1,9 +1,9 @@
--- Several items in sequence in a text. TPM 2.0 Library, Part 2, section 10.9 (a TPML: a count,
+-- Several items, encoded one after another. TPM 2.0 Library, Part 2, section 10.9 (a TPML: a count,
 -- then the items), and Part 1, section 18 (the handles of a command, in order).
 use Rattle.std.specs.Prelude.{ℕ, zero, suc, ◌+◌, List, [], ◌∷◌, Result, Ok}
 use Rattle.tpm_bytes.specs.Reading.{◌>>=◌}
 
--- the given number of items at the start of a text, one after another, and the rest of the text
+-- the given number of items at the start of the bytes, one after another, and the remaining bytes
 abbrev pub many_at : {A E : Type 0}
     → (List ℕ → Result (A × List ℕ) E)
     → ℕ → List ℕ → Result (List A × List ℕ) E
@@ -13,8 +13,8 @@ many_at at (suc count) text = do
   others ← many_at at count first.1
   Ok (first.0 ∷ others.0, others.1)
 
--- one item for each key at the start of a text, one after another, and the rest of the text. The
--- keys are numbered from n
+-- the items at the start of the bytes, one for each key in order, and the remaining bytes; the keys
+-- are numbered from n
 abbrev pub each_at : {K A E : Type 0}
     → (ℕ → K → List ℕ → Result (A × List ℕ) E)
     → ℕ → List K → List ℕ → Result (List A × List ℕ) E

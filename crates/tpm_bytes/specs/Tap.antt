@@ -1,5 +1,5 @@
--- A tap wraps a reader or a writer, which is called its device. Its marks record what the device
--- did.
+-- A tap wraps a reader or a writer, which is called its device. The tap's marks record what the
+-- device did.
 use Rattle.std.specs.Prelude.{◌≡◌, ℕ, ◌+◌, ◌-◌, ◌^◌, ◌==◌, min, List, ◌++◌}
 use Rattle.std.specs.Prelude.{Bool, true, false, Option, Result, Ok, Err, if◌then◌else◌}
 use Rattle.std.specs.Io.KnownBytes.{Appends}
@@ -45,7 +45,7 @@ after_write marks (Err e) size = record marks { failed = true }
 after_write marks (Ok count) size =
     if count == 0 then (if size == 0 then marks else record marks { failed = true }) else marks
 
--- A prefix of the text, possibly empty or the whole text, was appended.
+-- A prefix of the bytes, possibly none or all of them, was appended.
 abbrev pub AppendsFront : Option (List ℕ) → Option (List ℕ) → List ℕ → Type 0
 AppendsFront old new text =
     (front : List ℕ) × (rest : List ℕ) × (text ≡ front ++ rest) × Appends old new front

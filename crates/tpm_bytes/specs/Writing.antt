@@ -1,4 +1,4 @@
--- Writes to a buffer of fixed capacity: a write appends the whole text or nothing.
+-- Writes to a buffer of fixed capacity: a write appends all its bytes or nothing.
 use Rattle.std.specs.Prelude.{◌≡◌, ℕ, ◌+◌, ◌≤◌, ◌<◌, ◌^◌, ◌↔◌, List, ◌++◌, length}
 use Rattle.std.specs.Prelude.{Result, IsOk, OnOk, OnErr}
 use Rattle.std.specs.Int.{w16, to_be_bytes}
@@ -7,8 +7,7 @@ use Rattle.std.specs.Int.{w16, to_be_bytes}
 abbrev pub sized_text : List ℕ → List ℕ
 sized_text bytes = to_be_bytes w16 (length bytes) ++ bytes
 
--- A write of a text to a buffer of this capacity appends all of it if it fits. Otherwise it appends
--- nothing.
+-- A write to a buffer of this capacity appends all bytes if they fit. Otherwise it appends nothing.
 abbrev pub Puts : {E : Type 0} → ℕ → List ℕ → List ℕ → Result (Unit {0}) E → List ℕ → Type 0
 Puts capacity text old result new =
     (IsOk result ↔ (length old + length text ≤ capacity))

@@ -1,5 +1,5 @@
-//! Reads bytes from the start of a text: a given number of bytes, a big-endian number, or a sized
-//! buffer (TPM2B). A read that fails leaves the text unchanged.
+//! Reads bytes from the start of the input: a given number of bytes, a big-endian number, or a
+//! sized buffer (TPM2B). A read that fails consumes nothing.
 
 ghost use Rattle.std.specs.Prelude.{◌≡◌, ℕ, ◌==◌, List, length};
 ghost use Rattle.std.specs.Int.{w8, w16, w32, w64};
@@ -20,7 +20,7 @@ pub enum SizedFault {
     Short,
 }
 
-/// The unread rest of a text. Contracts represent it by the list of unread bytes.
+/// The unread rest of the input. Contracts represent it by the list of unread bytes.
 #[derive(Drop)]
 pub struct Cursor<'a> {
     left: &'a [u8],
@@ -33,7 +33,7 @@ impl<'a> Model for Cursor<'a> {
 }
 
 impl<'a> Cursor<'a> {
-    /// A cursor at the start of a text.
+    /// A cursor at the start of `text`.
     pub fn new(text: &'a [u8]) -> Cursor<'a>
         ensures value { result ≡ text.now }
         ensures bytes { AreBytes text.now }
@@ -74,7 +74,7 @@ impl<'a> Cursor<'a> {
         Ok(front)
     }
 
-    /// Reads a byte. Fails if none is left, and then reads nothing.
+    /// Reads a byte. If none is left, fails and reads nothing.
     pub fn u8(&mut self) -> Result<u8, Short>
         ensures { Reads (λ n. n) (number_at w8 self.old) self.old result self.new }
     {
@@ -82,7 +82,7 @@ impl<'a> Cursor<'a> {
         Ok(u8::from_be_bytes([front[0]]))
     }
 
-    /// Reads a big-endian number of two bytes. Fails if fewer are left, and then reads nothing.
+    /// Reads a big-endian number of two bytes. If fewer are left, fails and reads nothing.
     pub fn u16(&mut self) -> Result<u16, Short>
         ensures { Reads (λ n. n) (number_at w16 self.old) self.old result self.new }
     {
@@ -90,7 +90,7 @@ impl<'a> Cursor<'a> {
         Ok(u16::from_be_bytes([front[0], front[1]]))
     }
 
-    /// Reads a big-endian number of four bytes. Fails if fewer are left, and then reads nothing.
+    /// Reads a big-endian number of four bytes. If fewer are left, fails and reads nothing.
     pub fn u32(&mut self) -> Result<u32, Short>
         ensures { Reads (λ n. n) (number_at w32 self.old) self.old result self.new }
     {
@@ -98,7 +98,7 @@ impl<'a> Cursor<'a> {
         Ok(u32::from_be_bytes([front[0], front[1], front[2], front[3]]))
     }
 
-    /// Reads a big-endian number of eight bytes. Fails if fewer are left, and then reads nothing.
+    /// Reads a big-endian number of eight bytes. If fewer are left, fails and reads nothing.
     pub fn u64(&mut self) -> Result<u64, Short>
         ensures { Reads (λ n. n) (number_at w64 self.old) self.old result self.new }
     {

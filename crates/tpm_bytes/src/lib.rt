@@ -4,7 +4,7 @@
 //! [`many`] read several items in sequence. Bytes are written to a [`sink::Sink`] of fixed
 //! capacity. A [`tap::Tap`] wraps a reader or a writer and records what it did.
 //!
-//! The crate uses `arrayvec` for texts of fixed capacity, and nothing in it is specific to TPMs.
+//! The crate uses `arrayvec` for buffers of fixed capacity, and nothing in it is specific to TPMs.
 //! Numbers are big-endian, as everywhere in a TPM's buffers (TPM 2.0 Library, Part 2, section 3.2).
 //! The result of each function equals its definition in `specs/`. A read or write that fails leaves
 //! the cursor or sink unchanged. No function of this crate allocates memory.

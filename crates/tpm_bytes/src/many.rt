@@ -1,5 +1,5 @@
 //! Reads several items in sequence: a given number of them, or one for each key in a list. A read
-//! that fails leaves the text unchanged.
+//! that fails consumes nothing.
 
 ghost use Rattle.std.specs.Prelude.{◌≡◌, ◌≤◌, ◌<◌, ℕ, List, Result, IfOk, length, map};
 ghost use Rattle.tpm_bytes.specs.Many.{each_at, many_at};
@@ -8,7 +8,7 @@ ghost use Rattle.tpm_bytes.specs.Reading.{Reads};
 use crate::cursor::Cursor;
 use arrayvec::ArrayVec;
 
-/// An item that can be read from a text.
+/// An item that can be read from bytes.
 pub trait Readable<'a>: Sized {
     type Fault;
 
@@ -17,7 +17,7 @@ pub trait Readable<'a>: Sized {
 
     ghost seen: { Self → Seen };
 
-    /// The item at the start of a text, and the rest of the text.
+    /// The item at the start of the bytes, and the remaining bytes.
     ghost at: { List ℕ → Result (Seen × List ℕ) Self.Fault };
 
     fn read(text: &mut Cursor<'a>) -> Result<Self, Self::Fault>
@@ -42,7 +42,7 @@ pub fn read_many<'a, T: Readable<'a> + Default + Drop, const N: usize>(
     Ok(things)
 }
 
-/// An item that can be read from a text, given a key and a number. The key determines which items
+/// An item that can be read from bytes, given a key and a number. The key determines which items
 /// are allowed, and a fault reports the number.
 pub trait ReadableBy<'a, K>: Sized {
     type Fault;
@@ -52,7 +52,7 @@ pub trait ReadableBy<'a, K>: Sized {
 
     ghost seen: { Self → Seen };
 
-    /// The item with this number at the start of a text, and the rest of the text.
+    /// The item with this number at the start of the bytes, and the remaining bytes.
     ghost at: { ℕ → K → List ℕ → Result (Seen × List ℕ) Self.Fault };
 
     fn read(number: u8, key: &K, text: &mut Cursor<'a>) -> Result<Self, Self::Fault>

@@ -1,4 +1,4 @@
-//! Writes bytes to a text of fixed capacity: big-endian numbers, and sized buffers (TPM2B). `put`
+//! Writes bytes to a buffer of fixed capacity: big-endian numbers, and sized buffers (TPM2B). `put`
 //! and its variants return an error and write nothing if the bytes do not fit. `append` and its
 //! variants require that the bytes fit.
 
@@ -15,7 +15,7 @@ use std::marker::Model;
 #[derive(Clone, Copy, PartialEq, Eq)]
 pub struct Full;
 
-/// A text of at most `N` bytes that is being written. Contracts represent it by the bytes written
+/// A buffer of at most `N` bytes that is being written. Contracts represent it by the bytes written
 /// so far.
 #[derive(Drop)]
 pub struct Sink<const N: usize> {
@@ -80,7 +80,7 @@ impl<const N: usize> Sink<N> {
         self.bytes
     }
 
-    /// Appends bytes. Fails if they do not fit, and then appends nothing.
+    /// Appends bytes. If they do not fit, appends nothing and fails.
     pub fn put(&mut self, bytes: &[u8]) -> Result<(), Full>
         ensures { Puts N bytes.now self.old result self.new }
     {

@@ -130,8 +130,8 @@ impl<D: Write> Tap<D> {
         outcome
     }
 
-    /// Writes the whole text, with as many writes as the device needs. On failure, the device
-    /// received a prefix of the text and nothing else.
+    /// Writes all of `text`, with as many writes as the device needs. On failure, the device
+    /// received a prefix of it and nothing else.
     pub fn write_all(&mut self, text: &[u8]) -> Result<(), Failed>
         ensures sent { OnOk result (Appends (D.contents (device_of self.old))
             (D.contents (device_of self.new)) text.now) }

@@ -32,7 +32,7 @@ facts number name part shape = record {
 
 -- ---- the words used in the table of commands
 
--- the shape of a command whose answer starts with a sized buffer
+-- the shape of a command whose response parameters start with a sized buffer
 abbrev pub answering : Facts → Facts
 answering shape = record shape { sized_answer = true }
 
@@ -52,13 +52,13 @@ reading shape = record shape { reads_nv = true }
 abbrev pub without_sessions : Facts → Facts
 without_sessions shape = record shape { forbids_sessions = true }
 
--- the shape of a command that creates a session or an object, and can run out of memory. Its answer
--- is the new handle, followed by a sized buffer
+-- the shape of a command that creates a session or an object, and can run out of memory. It returns
+-- the new handle, followed by a sized buffer
 abbrev pub making : Facts → Facts
 making shape = record shape { sized_answer = true; answers_handle = true; grows = true }
 
 -- the shape of a command whose only handle names an object and is authorized in the role USER. Its
--- answer starts with a sized buffer
+-- response parameters start with a sized buffer
 abbrev pub on_object : List ParameterKind → Facts
 on_object parameters = answering (shape_with (user kind.Object ∷ []) parameters)
 

@@ -20,7 +20,7 @@ use Rattle.tpm_commands.specs.Shape.{is_of_kind}
 abbrev pub handle_fault : ℕ → ResponseCode → Rc
 handle_fault n fault = at (place.Handle n) (plain fault)
 
--- the n-th handle of a command at the start of a text, and the rest of the text. The rule must
+-- the n-th handle of a command at the start of the bytes, and the remaining bytes. The rule must
 -- allow the handle
 unfoldable pub allowed_handle_at : ℕ → HandleRule → List ℕ → Result (Handle × List ℕ) Rc
 allowed_handle_at n rule text = do
@@ -28,7 +28,7 @@ allowed_handle_at n rule text = do
   allowed ← refused_if (not (is_of_kind rule.kind (numbered number.0))) (handle_fault n code.Value)
   Ok (numbered number.0, number.1)
 
--- the handles of a command at the start of a text, one for each handle rule of the command, and the
--- rest of the text
+-- the handles of a command at the start of the bytes, one for each handle rule of the command, and
+-- the remaining bytes
 abbrev pub allowed_handles_at : CommandCode → List ℕ → Result (List Handle × List ℕ) Rc
 allowed_handles_at code text = each_at allowed_handle_at 1 (shape_of code).handles text

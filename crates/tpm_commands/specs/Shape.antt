@@ -73,9 +73,9 @@ is_sized parameter.PersistentHandle = false
 is_sized parameter.YesNo = false
 
 -- the shape of a command, regardless of where its lists are in memory. Its fields: the handles and
--- how each is authorized; the parameters; whether the answer's first parameter is a sized buffer;
--- whether a handle precedes the answer's parameters; whether sessions are forbidden; whether memory
--- can run out; whether the command reads the NV index that authorizes it, if there is one
+-- how each is authorized; the parameters; whether the response's first parameter is a sized buffer;
+-- whether a handle precedes the response's parameters; whether sessions are forbidden; whether
+-- memory can run out; whether the command reads the NV index that authorizes it, if there is one
 -- (otherwise, it writes that index, or administers it in the role ADMIN); and whether the command,
 -- if it succeeds, preserves the state that TPM2_Shutdown saved (otherwise, its success discards
 -- that state: Part 3, section 9.4)

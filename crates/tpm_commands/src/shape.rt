@@ -1,5 +1,5 @@
-//! The shape of a command: its handles and their roles, its parameters, and its answer. A [`Shape`]
-//! contains every fact about a command except its number, its name and its effect.
+//! The shape of a command: its handles and their roles, its parameters, and its response. A
+//! [`Shape`] contains every fact about a command except its number, its name and its effect.
 
 ghost use Rattle.std.specs.Prelude.{◌≡◌};
 ghost use Rattle.tpm_commands.specs.Shape.{is_entity, is_provision};
@@ -168,9 +168,9 @@ impl ParameterKind {
 pub struct Shape {
     pub handles: &'static [HandleRule],
     pub parameters: &'static [ParameterKind],
-    /// Whether the first parameter of the answer is a sized buffer.
+    /// Whether the first parameter of the response is a sized buffer.
     pub sized_answer: bool,
-    /// Whether a handle precedes the answer's parameters.
+    /// Whether a handle precedes the response's parameters.
     pub answers_handle: bool,
     /// Whether the command forbids an authorization area.
     pub forbids_sessions: bool,

@@ -1,5 +1,5 @@
--- After a removal, the value found by each number is unchanged or removed. If all slots are free,
--- no number finds a value.
+-- After a removal, the value found by each number is unchanged or removed. If all slots are free, a
+-- search finds no value.
 use Rattle.std.proofs.Common.{◌≡◌, ◌⊎◌, ℕ, zero, suc, List, Option, None, option_and_then, refl, ap, ◌∙◌, inl, inr}
 use Rattle.std.proofs.lemmas.Bool.{cases_eq}
 use Rattle.tpm_containers.specs.Numbered.{at_number, if_of_kind, place_of, without_number}

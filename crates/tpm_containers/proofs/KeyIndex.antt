@@ -24,7 +24,7 @@ module _ {X : Type 0} where
   abbrev is_from : ℕ → ℕ × X → Bool
   is_from key e = nat_le key e.0
 
-  -- if a search finds no entry that passes a test, then the entry at each index fails it
+  -- if a search finds no entry that passes a test, then the entry at each index fails the test
   position-None : (test : ℕ × X → Bool) (es : Entries X) (d : ℕ × X) → position test es ≡ None → (k : ℕ) → k < length es → test (get_or es k d) ≡ false
   position-None test es d is k inside =
       let none : length es ≤ position_or_len test es = ltb-false _ _ (not_found _ (position_or_len test es) is) in
@@ -64,13 +64,13 @@ module _ {X : Type 0} where
 
   -- ---- changes at the index of a key
 
-  -- Index i is in the list, and the entry there is the first one that passes a test.
+  -- Index i is in the list, and the entry at this index is the first one that passes a test.
   abbrev IsFirst : (ℕ × X → Bool) → Entries X → ℕ → ℕ × X → Type 0
   IsFirst test es i d =
       (i < length es) × (test (get_or es i d) ≡ true) × ((k : ℕ) → k < i → test (get_or es k d) ≡ false)
 
   -- If the first entry that passes a test is not the first entry of a list, it is also the first
-  -- one that passes in the rest of the list.
+  -- entry that passes the test in the rest of the list.
   first_rest : (test : ℕ × X → Bool) (e : ℕ × X) (es : Entries X) (i : ℕ) (d : ℕ × X) → IsFirst test (e ∷ es) (suc i) d → IsFirst test es i d
   first_rest test e es i d p =
       let inside = p.0 in
@@ -141,8 +141,8 @@ module _ {X : Type 0} where
     pub value : at_key es key ≡ Some e.1
     pub written : (x : X) → slice_set es i (e.0, x) ≡ changed_key es key x
 
-  -- If an entry is borrowed (shared or mutably) from a container's slice at the index of a key, it
-  -- belongs to that key.
+  -- If an entry is borrowed (shared or mutably) from a container's slice at the index of a key, the
+  -- entry belongs to that key.
   pub lent_at : (shown es : Entries X) (key i : ℕ) (e : ℕ × X) → shown ≡ es → e ≡ get_or es i e → ((e : ℕ × X) → get_or shown i e ≡ e → at_key shown key ≡ Some e.1) → ((e : ℕ × X) (x : X) → get_or shown i e ≡ e → slice_set shown i (e.0, x) ≡ changed_key shown key x) → Lent es key i e
   lent_at shown es key i e same read value written =
       let is : get_or shown i e ≡ e = ap (λ (l : Entries X). get_or l i e) same ∙ sym {b = get_or es i e} read in

@@ -13,8 +13,8 @@ module _ {X : Type 0} (kind : X → ℕ) where
 
   -- ---- numbers
 
-  -- the value that a number finds in a slot with this content. It is None if the slot is free or
-  -- the value is of another kind
+  -- the value that a search by number finds in a slot with this content, or None if the slot is
+  -- free or the value is of another kind
   abbrev seen : ℕ → Option X → Option X
   seen number cell = option_and_then (if_of_kind kind number) cell
 
@@ -43,8 +43,8 @@ module _ {X : Type 0} (kind : X → ℕ) where
   kind_of-number_of : (k place : ℕ) → place < 2 ^ 24 → kind_of (number_of k place) ≡ k
   kind_of-number_of k place below = omega arith
 
-  -- Writing a slot does not change the value that a number finds, if the number identifies another
-  -- slot or finds the same value in the old and the new content.
+  -- If a number identifies another slot, or finds the same value in a slot's old and new content,
+  -- writing the slot does not change the value with that number.
   elsewhere : (places : Slots) (place other : ℕ) (cell : Option X) → (place_of other ≡ place → seen other cell ≡ seen other (at_place places place)) → place < length places → at_number kind (slice_set places place cell) other ≡ at_number kind places other
   unfolding at_number
   elsewhere places place other cell same inside =
@@ -179,8 +179,8 @@ module _ {X : Type 0} (kind : X → ℕ) where
   one_taken : (places : Slots) (number : ℕ) (x : X) → at_number kind places number ≡ Some x → counted (at_place places (place_of number)) ≡ 1
   one_taken places number x is = ap counted (found_at places number x is).0
 
-  -- If a number finds a value and the number's slot is overwritten, the number of taken slots stays
-  -- the same if the new content is a value, and decreases by one otherwise.
+  -- Suppose that the slot of a found value is overwritten. If the new content is a value, the
+  -- number of taken slots stays the same. Otherwise, it decreases by one.
   taken_there : (places : Slots) (number : ℕ) (x : X) (cell : Option X) → at_number kind places number ≡ Some x → taken_count (slice_set places (place_of number) cell) + 1 ≡ taken_count places + counted cell
   taken_there places number x cell is =
       let set = taken_set places (place_of number) cell (at_inside places (place_of number) x (found_at places number x is).0) in

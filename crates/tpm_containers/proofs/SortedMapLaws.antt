@@ -1,6 +1,6 @@
 -- Entries in ascending order of key form a map. These lemmas say which values are found after a
 -- value is inserted, removed or changed, or after only some values are kept. They also say that the
--- keys still ascend, how many keys there are, and which is the lowest key from a given key on.
+-- keys still ascend, how many keys there are, and which key is the lowest at or above a given key.
 use Rattle.std.proofs.Common.{◌≡◌, ◌≢◌, ℕ, ◌<◌, ◌≤◌, ◌+◌, ◌⊎◌, Bool, false, true, cond, eqb, leb, [], ◌∷◌, length, Option, Some, None, is_some, refl, sym, ap, subst, ◌∙◌, arith, inl, inr}
 use Rattle.std.proofs.lemmas.Bool.{cases_eq, cases_lt, cond_both, cond-true, cond-false, eq-eqb, ne_eqb, eqb-true, leb-true, leb-false}
 use Rattle.tpm_containers.specs.SortedMap.{AllAbove, AreEach, Ascends, Entries, at_key, changed_key, kept_entries, key_from, with_key, without_key}

@@ -15,7 +15,7 @@ pub record IsSortedMap (X : Type 0) : Type 0 where
       → at_key entries key ≡ None → Ascends (with_key entries key x)
   pub put_length : (entries : Entries X) (key : ℕ) (x : X)
       → length (with_key entries key x) ≡ length entries + 1
-  -- a removed key finds no value, and the other values are unchanged
+  -- a removed key has no value, and the other values are unchanged
   pub removed_gone : (entries : Entries X) (key : ℕ) → Ascends entries
       → at_key (without_key entries key) key ≡ None
   pub removed_others : (entries : Entries X) (key other : ℕ) → other ≢ key
@@ -44,7 +44,7 @@ pub record IsSortedMap (X : Type 0) : Type 0 where
       → Ascends (changed_key entries key x)
   pub changed_length : (entries : Entries X) (key : ℕ) (x : X)
       → length (changed_key entries key x) ≡ length entries
-  -- keeping only some values leaves these unchanged, removes all others, and adds no value
+  -- keeping only some values leaves the kept ones unchanged, removes all others, and adds no value
   pub kept_found : (stays : X → Bool) (entries : Entries X) (key : ℕ) (x : X)
       → at_key entries key ≡ Some x → stays x ≡ true
       → at_key (kept_entries stays entries) key ≡ Some x

@@ -1,6 +1,6 @@
 -- Slots as a map keyed by number. The three least significant bytes of a number identify a slot,
--- and its most significant byte is the kind of the value there. A number of another kind does not
--- find the value.
+-- and its most significant byte is the kind of the value in that slot. A number of another kind
+-- does not find the value.
 use Rattle.std.specs.Prelude.{◌≡◌, ◌≢◌, ℕ, ◌+◌, ◌*◌, ◌/◌, ◌%◌, ◌^◌, ◌==◌, ◌<◌, is_some, List, length, Option, Some, None, option_and_then, if◌then◌else◌, slice_set}
 use Rattle.std.specs.Option.{option_map_or}
 use Rattle.tpm_containers.specs.Slots.{at_place, lowest_free, taken_count}
@@ -18,17 +18,17 @@ module _ {X : Type 0} where
   abbrev pub if_of_kind : (X → ℕ) → ℕ → X → Option X
   if_of_kind kind number x = if kind_of number == kind x then Some x else None
 
-  -- the value that a number finds
+  -- the value with this number, or None
   unfoldable pub at_number : (X → ℕ) → List (Option X) → ℕ → Option X
   at_number kind places number =
       option_and_then (if_of_kind kind number) (at_place places (place_of number))
 
-  -- the slots without the value that a number finds, or the same slots if it finds none
+  -- the slots without the value with this number, or the same slots if there is none
   unfoldable pub without_number : (X → ℕ) → List (Option X) → ℕ → List (Option X)
   without_number kind places number =
       if is_some (at_number kind places number) then slice_set places (place_of number) None else places
 
-  -- the slots with the value that a number finds changed, or the same slots if it finds none
+  -- the slots after changing the value with this number, or the same slots if there is none
   abbrev pub changed_at : (X → ℕ) → (X → X) → List (Option X) → ℕ → List (Option X)
   changed_at kind change places number =
       option_map_or (λ (x : X). slice_set places (place_of number) (Some (change x)))
@@ -55,12 +55,12 @@ module _ {X : Type 0} where
     -- a value in a slot is found by its number
     pub taken : (places : List (Option X)) (place : ℕ) (x : X) → place < 2 ^ 24
         → at_place places place ≡ Some x → at_number kind places (number_of (kind x) place) ≡ Some x
-    -- a removed number finds no value, and the other values are unchanged
+    -- after a removal, no value has the number, and the other values are unchanged
     pub removed_gone : (places : List (Option X)) (number : ℕ)
         → at_number kind (without_number kind places number) number ≡ None
     pub removed_others : (places : List (Option X)) (number other : ℕ) → other ≢ number
         → at_number kind (without_number kind places number) other ≡ at_number kind places other
-    -- removing a number that finds no value changes nothing
+    -- removing a number without a value changes nothing
     pub removed_absent : (places : List (Option X)) (number : ℕ)
         → at_number kind places number ≡ None → without_number kind places number ≡ places
     -- a changed value that keeps its kind is found by its number, and the other values are

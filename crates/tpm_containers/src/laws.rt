@@ -7,8 +7,8 @@ ghost use Rattle.tpm_containers.specs.SortedMap.{kept_entries, without_key};
 
 /// Entries with ascending keys form a map. The laws say which values are found after a key was
 /// inserted, removed or changed. They also say that the keys still ascend, how many there are, and
-/// which is the lowest key from a given key on. This function is only a proof: it has no effect at
-/// run time.
+/// which key is the lowest at or above any given key. This function is only a proof: it has no
+/// effect at run time.
 #[inline(always)]
 #[tactic(auto, using(crate::proofs::SortedMapLaws::is_map))]
 pub fn sorted_map_laws<T>()
@@ -16,10 +16,10 @@ pub fn sorted_map_laws<T>()
 {}
 
 /// How a change of the map affects the value found by each key. If a key is removed, or only some
-/// values are kept, each value is unchanged or removed. If replacing a value does not change what a
-/// function `shown` returns for it, it does not change what `shown` returns for the value of any
-/// key. If all values change, each key finds its changed value. This function is only a proof: it
-/// has no effect at run time.
+/// values are kept, each value is unchanged or removed. If a function `shown` returns the same for
+/// a value and its replacement, replacing the value does not change what `shown` returns for any
+/// key's value. If all values change, each key finds its changed value. This function is only a
+/// proof: it has no effect at run time.
 #[inline(always)]
 #[tactic(auto, using(crate::proofs::FoundKeys::removed_or_same, crate::proofs::FoundKeys::kept_or_gone, crate::proofs::FoundKeys::changed_shows, crate::proofs::FoundKeys::all_changed_found))]
 pub fn found_laws<T, V>()

@@ -9,8 +9,7 @@ ghost use Rattle.tpm_containers.specs.Slots.{AreAll, free};
 
 use crate::slots::Slots;
 
-/// A value that only numbers of its kind can find. The kind is the most significant byte of a
-/// number.
+/// A value that has a kind: the most significant byte of the value's number.
 pub trait Kinded: Drop {
     ghost kind: { Self → ℕ };
 
@@ -48,7 +47,7 @@ pub fn number_of(kind: u32, place: usize) -> u32
     kind * PLACE_NUMBERS + place as u32
 }
 
-/// The value that this number finds, or None.
+/// The value with this number, or None.
 #[tactic(auto, unfolding(crate::specs::Numbered::at_number))]
 pub fn get<T: Kinded, const N: usize, P: Slots<T, N>>(places: &P, number: u32) -> Option<&T>
     ensures value { option_copied result ≡ at_number T.kind (P.places places.now) number }
@@ -63,7 +62,7 @@ pub fn get<T: Kinded, const N: usize, P: Slots<T, N>>(places: &P, number: u32) -
     }
 }
 
-/// A mutable reference to the value that this number finds, or None.
+/// A mutable reference to the value with this number, or None.
 #[tactic(auto, unfolding(crate::specs::Numbered::at_number))]
 pub fn get_mut<T: Kinded, const N: usize, P: Slots<T, N>>(
     places: &mut P,
@@ -79,7 +78,7 @@ pub fn get_mut<T: Kinded, const N: usize, P: Slots<T, N>>(
     places.get_mut(place_of(number))
 }
 
-/// Removes the value that this number finds. Returns whether there was one.
+/// Removes the value with this number. Returns whether there was one.
 #[tactic(auto, unfolding(crate::specs::Numbered::without_number))]
 pub fn remove<T: Kinded, const N: usize, P: Slots<T, N>>(places: &mut P, number: u32) -> bool
     ensures there { result ≡ is_some (at_number T.kind (P.places places.old) number) }
@@ -116,7 +115,7 @@ pub fn numbered_laws<T: Kinded>()
 {}
 
 /// After a removal, the value found by each number is unchanged or removed. If all slots are free,
-/// no number finds a value. This function is only a proof: it has no effect at run time.
+/// a search finds no value. This function is only a proof: it has no effect at run time.
 #[inline(always)]
 #[tactic(auto, using(crate::proofs::FoundNumbers::removed_or_same, crate::proofs::FoundNumbers::free_found))]
 pub fn found_laws<T: Kinded>()

@@ -28,8 +28,8 @@ masked_more key bytes pad i within so_far =
     map_over_more (λ (x : ℕ). bit_xor x pad) key bytes i byte within so_far
     (sym (get_or_default_zero bytes i byte (omega arith)))
 
--- A list starts with a block, which is truncated only if nothing follows it. Then the first bytes
--- of the list, up to the size of the whole block, are the block as it was written.
+-- Suppose that a list starts with a block, truncated only if nothing follows it. Then the first
+-- bytes of the list, up to the size of the whole block, are the block as it was written.
 take-cut_block : (block rest : List ℕ) (room : ℕ) → (room < length block → rest ≡ [])
     → take (length block) (take room block ++ rest) ≡ take room block
 take-cut_block block rest room none =

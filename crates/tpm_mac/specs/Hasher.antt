@@ -19,7 +19,7 @@ StateHolds (Sha256 hasher) alg.Sha256 message = Holds256 hasher message
 unfoldable pub Holds : Hasher → HashAlg → List ℕ → Type 0
 Holds hasher algorithm message = StateHolds hasher.state algorithm message
 
--- `new` is the hasher `old` after this text was fed to it.
+-- `new` is the hasher `old` after these bytes were fed to it.
 abbrev pub Takes : (old : Hasher) → List ℕ → (new : Hasher) → Type 0
 Takes old text new = (algorithm : HashAlg) (message : List ℕ)
     → Holds old algorithm message → Holds new algorithm (message ++ text)

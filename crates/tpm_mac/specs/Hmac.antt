@@ -1,4 +1,4 @@
--- HMAC (FIPS 198-1) over whole texts. Keys, texts and digests are lists of bytes.
+-- HMAC (FIPS 198-1) over whole messages. Keys, messages and digests are lists of bytes.
 use Rattle.std.specs.Prelude.{ℕ, ◌-◌, bit_xor, if◌then◌else◌, nat_lt}
 use Rattle.std.specs.Prelude.{List, ◌++◌, length, map, replicate}
 use Rattle.tpm_mac.specs.Digest.{hash_of}
@@ -15,8 +15,8 @@ padded_key alg key =
 abbrev pub masked_key : ℕ → List ℕ → List ℕ
 masked_key pad key = map (λ byte. bit_xor byte pad) key
 
--- the HMAC of a text with a key of any length: H((K0 xor opad) ++ H((K0 xor ipad) ++ text)) (FIPS
--- 198-1, 4, steps 4 to 9; ipad and opad: 2.3)
+-- the HMAC of the message `text` with a key of any length: H((K0 xor opad) ++ H((K0 xor ipad) ++
+-- text)) (FIPS 198-1, 4, steps 4 to 9; ipad and opad: 2.3)
 unfoldable pub hmac_of : HashAlg → (key text : List ℕ) → List ℕ
 hmac_of alg key text =
     let block_key = padded_key alg key in

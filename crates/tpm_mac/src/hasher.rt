@@ -11,7 +11,7 @@ use arrayvec::ArrayVec;
 use sha1::Sha1;
 use sha2::{Digest as _, Sha256};
 
-/// A hash in progress. Its state is that of the hash crate, which copies only the bytes of an
+/// A hash in progress. It wraps the hash crate's state, which buffers only the bytes of an
 /// incomplete block.
 #[derive(Drop)]
 pub struct Hasher {
@@ -25,7 +25,7 @@ enum State {
 }
 
 impl Hasher {
-    /// A hash that was fed nothing yet.
+    /// A hash that has not been fed anything yet.
     #[tactic(auto, unfolding(crate::specs::Hasher::Holds))]
     pub fn new(alg: HashAlg) -> Hasher
         ensures { Holds result alg [] }

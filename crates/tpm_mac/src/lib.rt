@@ -4,8 +4,8 @@
 //!
 //! The crate uses the hash crates `sha1` and `sha2`, and its definitions refer to their definitions
 //! of the hashes (FIPS 180-4). It uses `arrayvec` for a digest of either size. The result of each
-//! function equals its definition for the whole text, no matter how the text is divided into parts.
-//! No function allocates memory or fails.
+//! function equals its definition for the whole message, no matter how the message is divided into
+//! parts. No function allocates memory or fails.
 
 #![tactic(auto)]
 

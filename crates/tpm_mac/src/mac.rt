@@ -1,4 +1,4 @@
-//! Computes the HMAC (FIPS 198-1) of a text that is fed piece by piece, or passed in parts.
+//! Computes the HMAC (FIPS 198-1) of a message that is fed piece by piece, or passed in parts.
 
 ghost use Rattle.std.specs.Prelude.{◌≡◌, ◌-◌, ◌≤◌, [], ◌++◌, length, List, replicate, ℕ};
 ghost use Rattle.tpm_mac.specs.Digest.{digest_size, joined_text};
@@ -22,8 +22,8 @@ const OUTER_PAD: u8 = 0x5c;
 /// A key that is one block long, which FIPS 198-1 calls K0.
 type BlockKey = [u8; BLOCK_SIZE];
 
-/// An HMAC in progress. The text is fed to the inner hash, and at the end the inner digest is fed
-/// to the outer hash. Both hashes are fed their masked keys at the start. Therefore, copying a
+/// An HMAC in progress. The message is fed to the inner hash, and at the end the inner digest is
+/// fed to the outer hash. Both hashes are fed their masked keys at the start. Therefore, copying a
 /// `Mac` saves hashing both blocks of the key.
 #[derive(Drop)]
 pub struct Mac {
@@ -32,7 +32,7 @@ pub struct Mac {
 }
 
 impl Mac {
-    /// An HMAC with a key of any length. It was fed no text yet.
+    /// An HMAC with a key of any length, before any of the message is fed.
     pub fn new(alg: HashAlg, key: &[u8]) -> Mac
         ensures { MacHolds result alg key.now [] }
     {
@@ -41,8 +41,8 @@ impl Mac {
         mac
     }
 
-    /// A `Mac` whose two hashes were fed nothing, not even a key. `take_key` feeds the key later,
-    /// in place, because returning a `Mac` would copy it.
+    /// A `Mac` whose two hashes have not been fed anything, not even a key. `take_key` feeds the
+    /// key later, in place, because returning a `Mac` would copy it.
     #[inline(always)]
     #[tactic(auto, unfolding(crate::specs::Mac::IsUnkeyed))]
     pub(crate) fn unkeyed(alg: HashAlg) -> Mac
@@ -77,7 +77,7 @@ impl Mac {
         }
     }
 
-    /// Feeds more bytes of the text to the `Mac`.
+    /// Feeds more bytes of the message to the `Mac`.
     #[tactic(auto, unfolding(crate::specs::Mac::MacHolds))]
     pub fn update(&mut self, bytes: &[u8])
         ensures { MacTakes self.old bytes.now self.new }
@@ -94,7 +94,7 @@ impl Mac {
         }
     }
 
-    /// Returns the HMAC of the text.
+    /// Returns the HMAC of the message.
     #[inline(always)]
     #[tactic(auto, unfolding(crate::specs::Mac::MacHolds, crate::specs::Hmac::hmac_of))]
     pub fn finish(self) -> Digest

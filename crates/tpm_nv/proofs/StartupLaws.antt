@@ -1,5 +1,5 @@
--- A startup changes the heads one by one. These lemmas say which heads and indices result after
--- each step.
+-- A startup changes the heads (NV indices without their data) one by one. These lemmas say which
+-- heads and indices result after each step.
 use Rattle.std.proofs.Common.{◌≡◌, ◌≢◌, ℕ, zero, suc, ◌+◌, ◌<◌, ◌≤◌, Bool, true, false, cond, List, [], ◌∷◌, ◌++◌, length, take, drop, get_or, Some, refl, sym, ap, subst, ◌∙◌, arith}
 use Rattle.std.specs.Prelude.{◌&&◌, map}
 use Rattle.std.proofs.lemmas.Bool.{cond_both, cond-true, cond-false, eq-eqb, ne_eqb}
@@ -19,7 +19,7 @@ use Rattle.tpm_nv.proofs.KeptLaws.{is_head_with}
 abbrev started_entry : ℕ × Head → ℕ × Head
 started_entry e = (e.0, started_head e.1)
 
--- the heads, of which the startup has changed the first `count`
+-- the heads after the startup has changed the first `count` of them
 abbrev pub started_up_to : ℕ → Entries Head → Entries Head
 started_up_to count es = map started_entry (take count es) ++ drop count es
 

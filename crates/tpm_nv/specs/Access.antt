@@ -43,7 +43,7 @@ undefined = record {}
 abbrev pub index_has : NvIndex → NvAttribute → Bool
 index_has index attribute = has index.public.attributes attribute
 
--- an index after one more attribute was set
+-- an index with one more attribute set
 abbrev pub marked : NvIndex → NvAttribute → NvIndex
 marked index attribute =
     record index {
@@ -68,8 +68,8 @@ number_or number index =
 
 -- ---- writing
 
--- the check that a command for indices of this type may write an index: the index is not locked
--- against writing, and it is of this type
+-- checks whether a command for indices of this type may write an index: the index must not be
+-- locked against writing, and must be of this type
 abbrev pub writable : NvType → NvIndex → Result (Unit {0}) WriteFault
 writable type index = do
   unlocked ← refused_if (index_has index attribute.WriteLocked) write_fault.Locked
@@ -131,8 +131,9 @@ extended contents handle bytes = do
 
 -- ---- reading
 
--- the check that an index may be read: it is not locked against reading, and WRITTEN is set. A
--- command makes this check after it has parsed its parameters and before it checks their values
+-- checks whether an index may be read: it must not be locked against reading, and WRITTEN must be
+-- set. A command makes this check after it has parsed its parameters and before it checks their
+-- values
 abbrev pub readable : NvIndex → Result (Unit {0}) ReadFault
 readable index = do
   unlocked ← refused_if (index_has index attribute.ReadLocked) read_fault.Locked

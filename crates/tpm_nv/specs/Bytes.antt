@@ -5,26 +5,26 @@ use Rattle.std.specs.Prelude.{ℕ, ◌+◌, ◌-◌, List, ◌++◌, length, tak
 abbrev pub piece_of : (start size : ℕ) → List ℕ → List ℕ
 piece_of start size bytes = take size (drop start bytes)
 
--- the bytes after those at an offset were overwritten with a piece
+-- the bytes with `piece` written over them at an offset
 abbrev pub put_over : (start : ℕ) → (piece bytes : List ℕ) → List ℕ
 put_over start piece bytes = take start bytes ++ (piece ++ drop (start + length piece) bytes)
 
--- the bytes after the piece at this offset was filled with `byte`, unless the piece is already
+-- the bytes with the piece at this offset filled with `byte`, or unchanged if the piece is already
 -- written
 abbrev pub filled : (is_written : Bool) → (start size byte : ℕ) → List ℕ → List ℕ
 filled is_written start size byte bytes =
     if is_written then bytes else put_over start (replicate size byte) bytes
 
--- the bytes after zeros were inserted at an offset
+-- the bytes with zeros inserted at an offset
 abbrev pub opened : (start size : ℕ) → List ℕ → List ℕ
 opened start size bytes = take start bytes ++ (replicate size 0 ++ drop start bytes)
 
--- the bytes after `size` of them were removed at an offset
+-- the bytes with `size` of them removed at an offset
 abbrev pub closed_up : (start size : ℕ) → List ℕ → List ℕ
 closed_up start size bytes = take start bytes ++ drop (start + size) bytes
 
--- the bytes after `size` of them were moved from the end to an offset (`moved_from_end`), or from
--- an offset to the end (`moved_to_end`)
+-- the bytes with `size` of them moved from the end to an offset (`moved_from_end`), or from an
+-- offset to the end (`moved_to_end`)
 unfoldable pub moved_from_end : (start size : ℕ) → List ℕ → List ℕ
 moved_from_end start size bytes =
     let behind : List ℕ = drop start bytes in
@@ -34,7 +34,7 @@ abbrev pub moved_to_end : (start size : ℕ) → List ℕ → List ℕ
 moved_to_end start size bytes =
     take start bytes ++ (drop (start + size) bytes ++ piece_of start size bytes)
 
--- the bytes after `size` of them were copied to a lower offset
+-- the bytes with `size` of them copied to a lower offset
 abbrev pub moved_down : (start size place : ℕ) → List ℕ → List ℕ
 moved_down start size place bytes =
     take place bytes ++ (piece_of start size bytes ++ drop (place + size) bytes)

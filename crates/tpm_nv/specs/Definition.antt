@@ -1,7 +1,7 @@
 -- The checks of a new NV index, and the effect of its definition. TPM 2.0 Library, Part 3, section
 -- 31.3 (TPM2_NV_DefineSpace), and Part 2, section 13.4 (TPMA_NV). The order of the checks and two
--- limits are choices of this implementation: the data is limited to `nv_data_limit`, and attributes
--- that it does not support are refused.
+-- limits are choices of this implementation: the data is limited to `nv_data_limit`, and
+-- unsupported attributes are refused.
 use Rattle.tpm_types.specs.Algorithm.{is_policy_size}
 use Rattle.tpm_types.specs.Limits.{nv_data_limit}
 use Rattle.std.specs.Prelude.{◌≡◌, ℕ, ◌==◌, ◌&&◌, nat_lt, nat_le, not, Bool, true, false}
@@ -122,12 +122,12 @@ Restores can old index (Err NoMemory) new =
     × (can ≡ true)
     × (new ≡ old)
 
--- An index can be defined with this public area: WRITTEN is clear, and its type allows its size.
+-- An index can be defined with this public area: WRITTEN is clear, and the type allows the size.
 abbrev pub IsDefinable : NvPublic → Type 0
 IsDefinable public = (has public.attributes attribute.Written ≡ false) × (has_type_size public ≡ true)
 
--- An index was defined, or nothing changed. If nothing changed, its public area has WRITTEN set,
--- its type does not allow its size, or it could not be added with its handle.
+-- An index was defined, or nothing changed because the index's public area has WRITTEN set, its
+-- type does not allow its size, or it could not be added with its handle.
 abbrev pub Defines : Bool → NvContents → NvIndex → Result (Unit {0}) DefineFault → NvContents
     → Type 0
 Defines can old index (Ok done) new = IsDefinable index.public × Restores can old index (Ok done) new

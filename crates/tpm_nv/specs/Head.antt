@@ -1,6 +1,6 @@
--- How NV indices are stored in memory, which the standard leaves open: the heads are keyed by
--- handle, and the data of all indices is in one area, in order of handle. Each index occupies as
--- many bytes as its head says, even before it is written.
+-- How NV indices are stored in memory, which the standard leaves open: the heads, which are indices
+-- without their data, are keyed by handle, and the data of all indices is in one area, in order of
+-- handle. Each index occupies as many bytes as its head says, even before it is written.
 use Rattle.tpm_types.specs.Limits.{nv_index_limit, nv_space_limit}
 use Rattle.std.specs.Prelude.{◌≡◌, ℕ, ◌+◌, ◌≤◌, nat_le, Bool, true, List, [], ◌∷◌, ◌++◌, length, take, drop, Some, if◌then◌else◌, map}
 use Rattle.tpm_containers.specs.SortedMap.{Ascends, Entries}

@@ -22,7 +22,7 @@ piece_at_place place = record {
   is_written = has place.attributes attribute.Written;
 }
 
--- The code found the head of the index with this handle, and the offset of its bytes.
+-- The code found the head of the index with this handle, and the offset of the index's bytes.
 abbrev pub IsFound : NvContents → Handle → Found → Type 0
 IsFound contents handle found =
     (old : List ℕ) × IsIndexOf contents handle found.head.now old

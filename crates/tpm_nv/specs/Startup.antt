@@ -11,8 +11,8 @@ abbrev pub kept_written : NvAttributes → NvAttributes
 kept_written a =
     if has a attribute.ClearStClear then without_attribute a attribute.Written else a
 
--- the attributes after READLOCKED was cleared, and WRITELOCKED too unless WRITEDEFINE and WRITTEN
--- are both set
+-- the attributes with READLOCKED cleared; WRITELOCKED is cleared too, unless WRITEDEFINE and
+-- WRITTEN are both set
 abbrev pub unlocked : NvAttributes → NvAttributes
 unlocked a =
     let to_read : NvAttributes = without_attribute a attribute.ReadLocked in
@@ -22,7 +22,7 @@ unlocked a =
 abbrev pub started_attributes : NvAttributes → NvAttributes
 started_attributes a = unlocked (kept_written a)
 
--- an index after a startup with CLEAR. If WRITTEN is then clear, it has no data
+-- an index after a startup with CLEAR. If WRITTEN is then clear, the index has no data
 abbrev pub started_index : NvIndex → NvIndex
 started_index index = record {
   public = record index.public { attributes = started_attributes index.public.attributes };

@@ -15,7 +15,7 @@ use tpm_containers::{KeyFault, SortedMap};
 use tpm_types::{AuthValue, NV_INDEX_LIMIT};
 use tpm_types_nv::NvAttributes;
 
-/// The offset in the common area at which the bytes of the index with this key begin, or would
+/// The offset in the shared data area at which the bytes of the index with this key begin, or would
 /// begin if there were one.
 pub(crate) fn start_of(heads: &[(u32, Head)], key: u32) -> usize
     requires { total heads.now ≤ nv_space_limit }
@@ -31,8 +31,8 @@ pub(crate) fn start_of(heads: &[(u32, Head)], key: u32) -> usize
     start
 }
 
-/// Finds the head with this key, and the offset of the index's bytes in the common area, in one
-/// pass.
+/// Finds the head with this key, and the offset of the index's bytes in the shared data area, in
+/// one pass.
 pub(crate) fn found_at(heads: &[(u32, Head)], key: u32) -> Option<Found<'_>>
     requires ascends { Ascends heads.now }
     requires small { total heads.now ≤ nv_space_limit }

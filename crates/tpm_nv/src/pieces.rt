@@ -1,4 +1,4 @@
-//! Changes the bytes of one index in the common area.
+//! Changes the bytes of one index in the shared data area.
 
 ghost use Rattle.tpm_types.specs.Limits.{nv_space_limit};
 ghost use Rattle.std.specs.Prelude.{◌≡◌, ◌≤◌, ◌+◌, ◌-◌, ◌++◌, drop, length, replicate, take};
@@ -8,7 +8,7 @@ ghost use Rattle.tpm_nv.specs.Bytes.{filled, piece_of, put_over};
 use crate::area::Area;
 use tpm_bytes::NoMemory;
 
-/// The piece of an index: the part of the common area that contains its bytes.
+/// The piece of an index: the part of the shared data area that contains its bytes.
 #[derive(Clone, Copy)]
 pub(crate) struct Piece {
     pub(crate) start: usize,

@@ -7,7 +7,7 @@ use crate::head::Head;
 use crate::pieces::Piece;
 use tpm_types_nv::{NvAttribute, NvAttributes};
 
-/// An index that was found: its head, and the offset of its bytes in the common area.
+/// An index that was found: its head, and the offset of its bytes in the shared data area.
 #[derive(Clone, Copy)]
 pub(crate) struct Found<'a> {
     pub(crate) head: &'a Head,

@@ -77,7 +77,7 @@ impl<H: SortedMap<Head, NV_INDEX_LIMIT>, R: Area> StoredIndices<H, R> {
         self.heads.get(handle.number)
     }
 
-    /// The head of an index, and the offset of its bytes in the common area.
+    /// The head of an index, and the offset of its bytes in the shared data area.
     fn find(&self, handle: Handle) -> Option<Found<'_>>
         ensures absent { IfNone result (index_at self.now handle ≡ None) }
         ensures there { IfSome result (λ found. (old : List ℕ)

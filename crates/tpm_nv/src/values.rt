@@ -27,8 +27,8 @@ pub(crate) fn is_part(of: NvAttributes, count: usize, size: usize) -> bool
     of.has(NvAttribute::WriteAll) && count != size
 }
 
-/// Whether there is room for an index of this size next to `count` indices with `bytes` bytes of
-/// data.
+/// Whether there is room for an index of this size in addition to `count` indices with `bytes`
+/// bytes of data.
 pub(crate) fn is_room(count: usize, bytes: usize, size: usize) -> bool
     requires few { bytes ≤ nv_space_limit }
     requires small { size < 65536 }

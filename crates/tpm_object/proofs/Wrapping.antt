@@ -49,8 +49,8 @@ integrity_small parent name protected =
       length-hmac_of parent.public.name_alg (integrity_key parent) (protected ++ name),
     )
 
--- If a text consists of authenticated bytes and their integrity value, reading it returns these
--- bytes.
+-- If the input consists of an integrity value and the bytes that it protects, reading it returns
+-- these bytes.
 protected_again : (parent : Object) (name protected : List ℕ)
     → protected_in parent name (authenticated_text parent name protected) ≡ Ok protected
 unfolding protected_in
@@ -62,8 +62,8 @@ protected_again parent name protected =
       (bytes_eq-Decides value value).1 refl,
     ) refl
 
--- If reading a text returns protected bytes, the text consists of their integrity value and these
--- bytes.
+-- If reading the input returns protected bytes, the input consists of their integrity value and
+-- these bytes.
 protected_found : (parent : Object) (name text protected : List ℕ)
     → AreBytes text → protected_in parent name text ≡ Ok protected
     → text ≡ authenticated_text parent name protected
@@ -134,7 +134,7 @@ decrypted_found parent name protected iv encrypted plain area fits read whole un
     sym undone ∙ ap (cfb_encrypt_of (storage_key parent name) iv) spelled in
     (iv, whole, t.0.parts ∙ ap (λ (l : List ℕ). sized_text iv ++ l) again)
 
--- A text longer than 202 bytes, the largest size of an area in a sized buffer, is refused.
+-- Input longer than 202 bytes, the largest size of an area in a sized buffer, is refused.
 long_refused : (plain : List ℕ) → 202 < length plain → area_in plain ≡ Err integrity_fault
 long_refused plain long = by (area_in plain) refl
   where
@@ -224,7 +224,7 @@ unwrapped_only parent public text area is =
     wrapped_undone parent public (object_name public) is.iv text area is.spelled is.whole is.sized refl
     (sym is.typed)
 
--- A private area that can be unwrapped with a public area was wrapped for it.
+-- A private area that can be unwrapped with a public area was wrapped for that public area.
 pub unwrapped_found : (parent : Object) (public : Public) (name text protected : List ℕ) (area : Sensitive)
     → name ≡ object_name public → AreBytes text → protected_in parent name text ≡ Ok protected
     → IsSensitive area × IsProtected parent name protected area

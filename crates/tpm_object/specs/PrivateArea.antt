@@ -70,8 +70,8 @@ abbrev pub IsProtected : (parent : Object) → (name protected : List ℕ) → S
 IsProtected parent name protected area =
     (iv : List ℕ) × (length iv ≡ 16) × (protected ≡ protected_text parent name iv area)
 
--- This text is this sensitive area as the parent wraps it, with some IV, for a public area of the
--- same type.
+-- These bytes are a private area that the parent made from this sensitive area, with some IV, for a
+-- public area of the same type.
 pub record IsWrapped (parent : Object) (public : Public) (text : List ℕ) (area : Sensitive)
     : Type 0 where
   pub typed : area.object_type ≡ object_type public

@@ -20,8 +20,8 @@ abbrev pub text_below : BankValues → BankSelection → ℕ → List ℕ
 text_below all bank n =
     concat (map (pcr_value all bank.hash) (filter (is_selected bank.select) (numbers_below n)))
 
--- If number n is chosen, its list is appended to the concatenated lists of the numbers chosen
--- before it; otherwise nothing is appended.
+-- If number n is chosen, the list `f n` is appended to the concatenated lists of the numbers chosen
+-- before n; otherwise nothing is appended.
 joined_cond : (f : ℕ → List ℕ) (front : List ℕ) (n : ℕ) (b : Bool)
     → concat (map f (front ++ cond b (n ∷ []) [])) ≡ concat (map f front) ++ cond b (f n) []
 joined_cond f front n true =

@@ -1,4 +1,4 @@
--- A read returns values of PCRs, and a selection of exactly the PCRs that have these values.
+-- A read of PCRs returns values, and a selection of exactly the PCRs whose values it returns.
 use Rattle.tpm_bytes.specs.Numbers.{numbers_below}
 use Rattle.std.proofs.Common.{◌≡◌, ℕ, zero, suc, ◌-◌, ◌^◌, ◌<◌, ◌≤◌, ◌==◌, Bool, true, false, cond, List, [], ◌∷◌, ◌++◌, length, max, take, map, filter, refl, ap, sym, subst, ◌∙◌, arith, add-one, append-nil}
 use Rattle.std.proofs.lemmas.List.{take-map, length-map}

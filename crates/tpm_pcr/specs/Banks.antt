@@ -49,7 +49,7 @@ abbrev pub HaveValues : BankValues → PcrValues → Type 0
 HaveValues banks values =
     (bank : HashAlg) (pcr : ℕ) → pcr < 24 → pcr_value banks bank pcr ≡ values bank pcr
 
--- ---- the answer of TPM2_PCR_Read
+-- ---- the response of TPM2_PCR_Read
 
 -- the PCRs that a bank's selection names, in ascending order, and their values
 unfoldable pub selected_pcrs : BankSelection → List ℕ
@@ -62,7 +62,7 @@ selected_values banks bank = map (pcr_value banks bank.hash) (selected_pcrs bank
 abbrev pub select_with : List ℕ → ℕ
 select_with pcrs = fold with_pcr 0 pcrs
 
--- the values of the PCRs in a selection, in its order, up to this number of values
+-- the values of the PCRs in a selection, in the selection's order, up to this number of values
 unfoldable pub read_values : BankValues → ℕ → List BankSelection → List (List ℕ)
 read_values banks room selection = take room (flat_map (selected_values banks) selection)
 

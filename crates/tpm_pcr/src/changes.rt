@@ -22,7 +22,7 @@ use tpm_types::{DigestValue, DigestValues, Locality, PcrIndex};
 pub enum ChangeFault {
     /// The PCR does not allow this change from this locality.
     Locality,
-    /// The update counter would pass 2^64 - 1.
+    /// The update counter would exceed 2^64 - 1.
     Failure,
 }
 

@@ -1,5 +1,5 @@
--- If an assertion passes its checks, the policy after it is `policy_with`, which is defined without
--- checks.
+-- If an assertion passes its checks, the new policy is the result of `policy_with`, which is
+-- defined without checks.
 use Rattle.std.proofs.Common.{rules, ◌≡◌, Bool, Result, Ok, Err, IfOk, refl, subst}
 use Rattle.tpm_bytes.specs.Reading.{◌>>=◌}
 use Rattle.tpm_mac.specs.declared.algorithm.HashAlg.{HashAlg}

@@ -157,13 +157,13 @@ rest_of bytes = take (length bytes - 1) (drop 1 bytes)
 rest_is : (x : ℕ) (xs : List ℕ) → rest_of (x ∷ xs) ≡ xs
 rest_is x xs = let size : length (x ∷ xs) - 1 ≡ length xs = omega arith in rw (size) (take-length xs)
 
--- If two texts have the same size, they still have the same size without their first bytes.
+-- If two byte strings have the same size, they still have the same size without their first bytes.
 pub rest-length : (bytes others : List ℕ) → length bytes ≡ length others
     → length (rest_of bytes) ≡ length (rest_of others)
 rest-length bytes others same = simp (length-take, length-drop, same) refl
 
--- For two texts that are not empty, the first bytes decide which is less; if they are equal, the
--- remaining bytes do.
+-- For two byte strings that are not empty, the first bytes decide which is less; if they are equal,
+-- the remaining bytes do.
 pub unsigned_less : (bytes others : List ℕ) → 1 ≤ length bytes → length bytes ≡ length others
     → AreBytes bytes → AreBytes others
     → nat_lt (unsigned_number bytes) (unsigned_number others)

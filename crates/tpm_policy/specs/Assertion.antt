@@ -40,8 +40,8 @@ pub record PcrParts : Type 0 where
   pub digest : List ℕ
   pub update_count : ℕ
 
--- the data of TPM2_PolicySecret: the Name of the entity of authHandle, the nonce in the command,
--- the session's nonceTPM, cpHashA, policyRef, and expiration
+-- the data of TPM2_PolicySecret: the Name of the entity that authHandle names, the nonce in the
+-- command, the session's nonceTPM, cpHashA, policyRef, and expiration
 pub record SecretParts : Type 0 where
   pub name : List ℕ
   pub nonce : List ℕ
@@ -161,8 +161,8 @@ or_asserted hash trial digests policy = do
   Ok (record policy { digest = or_digest hash digests })
 
 -- TPM2_PolicyAuthValue (section 23.17), and TPM2_PolicyPassword (section 23.18), which extends the
--- digest in the same way. The first demands that the HMAC key include the entity's authorization
--- value; the second demands that the value be sent as a password
+-- digest in the same way. The first requires that the HMAC key include the entity's authorization
+-- value; the second requires that the value be sent as a password
 abbrev demanding : HashAlg → Demand → Policy → Policy
 demanding hash wanted policy = record (extended hash served.PolicyAuthValue [] policy) { demand = wanted }
 

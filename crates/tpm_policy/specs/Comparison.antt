@@ -1,6 +1,6 @@
--- The comparison of the bytes of an NV index with an operand. TPM 2.0 Library, Part 3, section
--- 23.9 (TPM2_PolicyNV), and Part 2, section 6.8 (TPM_EO). If the bytes and the operand differ in
--- size, every comparison fails. Two empty texts are equal, and satisfy BITSET and BITCLEAR.
+-- The comparison of the bytes of an NV index with an operand. TPM 2.0 Library, Part 3, section 23.9
+-- (TPM2_PolicyNV), and Part 2, section 6.8 (TPM_EO). If the bytes and the operand differ in size,
+-- every comparison fails. Two empty byte strings are equal, and satisfy BITSET and BITCLEAR.
 use Rattle.std.specs.Prelude.{ℕ, ◌-ℤ◌, ◌^◌, ◌==◌, ◌&&◌, not, nat_le, nat_lt, int_le, int_lt, bit_and, if◌then◌else◌, Bool, false, List, [], ◌∷◌, length, ℤ, pos}
 use Rattle.std.specs.Cmp.Lexicographic.{pointwise}
 use Rattle.std.specs.Int.Digits.{number_from_digits}

@@ -10,8 +10,8 @@ use Rattle.tpm_policy.specs.declared.state.Demand.TheVariants as demand
 -- the state of a policy session: the digest; the values that assertions may have recorded (the
 -- update counter of PCRs at the last TPM2_PolicyPCR, the code and the cpHash of the only allowed
 -- command, and whether the index must have been written); the localities that are allowed, bit n
--- for locality n; and the demand in addition to the digest. Timeouts, name hashes and physical
--- presence are not supported
+-- for locality n; and what the policy requires in addition to the digest. Timeouts, name hashes and
+-- physical presence are not supported
 pub record Policy : Type 0 where
   pub digest : List ℕ
   pub update_count : Option ℕ

@@ -26,10 +26,10 @@ pub record EntityParts : Type 0 where
   pub hash : HashAlg
   pub digest : List ℕ
 
--- the input of the checks: the number of the authorization entry, the session's type and hash,
--- whether the entity can be authorized by a policy, the update counter of the PCRs, the command
--- code, the role of the authorization, the cpHash, whether the entity has been written if it is an
--- NV index, the command's locality, and the entity's policy, if it has one
+-- the input of the checks: the number of the authorization entry, the session's type and hash
+-- algorithm, whether the entity can be authorized by a policy, the update counter of the PCRs, the
+-- command code, the role of the authorization, the cpHash, whether the entity has been written if
+-- it is an NV index, the command's locality, and the entity's policy, if it has one
 pub record UseParts : Type 0 where
   pub entry : ℕ
   pub kind : SessionType
@@ -67,7 +67,7 @@ abbrev pub lacks_command : Role → Option ℕ → Bool
 lacks_command role.User command = false
 lacks_command role.Admin command = is_none command
 
--- whether a session's hash and policy digest are an entity's nameAlg and authPolicy
+-- whether a session's hash algorithm and policy digest are an entity's nameAlg and authPolicy
 abbrev pub is_policy_of : HashAlg → List ℕ → Option EntityParts → Bool
 is_policy_of hash digest None = false
 is_policy_of hash digest (Some entity) =

@@ -126,7 +126,7 @@ impl PolicyState {
         Ok(())
     }
 
-    /// TPM2_PolicyCpHash: returns SIZE if the hash is not as long as a digest of the session's
+    /// TPM2_PolicyCpHash: returns SIZE if the cpHash is not as long as a digest of the session's
     /// algorithm, and CPHASH if a different cpHash is recorded.
     #[tactic(auto, unfolding(crate::specs::Assertion::cp_hash_asserted))]
     pub fn cp_hash(&mut self, hash: HashAlg, cp_hash: &[u8]) -> Result<(), ActionFault>

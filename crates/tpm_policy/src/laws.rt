@@ -8,9 +8,9 @@ ghost use Rattle.tpm_policy.specs.Assertion.{Assertion, asserted};
 ghost use Rattle.tpm_policy.specs.Made.{policy_with};
 ghost use Rattle.tpm_policy.specs.State.{Policy};
 
-/// If an assertion passes its checks, the new policy is `policy_with`, which is defined without
-/// checks. The new policy digest is as long as a digest of the session's hash algorithm. A proof
-/// only: it has no effect at run time.
+/// If an assertion passes its checks, the new policy is the result of `policy_with`, which is
+/// defined without checks. The new policy digest is as long as a digest of the session's hash
+/// algorithm. A proof only: it has no effect at run time.
 #[inline(always)]
 #[tactic(auto, using(crate::proofs::Made::policy_made, crate::proofs::Sizes::made_sized))]
 pub fn assertion_laws()

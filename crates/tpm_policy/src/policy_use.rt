@@ -1,4 +1,4 @@
-//! Whether a policy session authorizes a use of an entity, and what its policy demands. The first
+//! Whether a policy session authorizes a use of an entity, and what its policy requires. The first
 //! condition that fails determines the response code.
 
 ghost use Rattle.std.specs.Prelude.{◌≡◌, ◌==◌, option_map};
@@ -78,7 +78,8 @@ impl PolicyState {
         (self.localities >> locality.number()) & 1 == 0
     }
 
-    /// Whether the session's hash and policy digest are the entity's nameAlg and authPolicy.
+    /// Whether the session's hash algorithm and policy digest are the entity's nameAlg and
+    /// authPolicy.
     fn is_policy_of(&self, hash: HashAlg, entity: Option<EntityPolicy>) -> bool
         ensures { result
             ≡ is_policy_of hash self.now.digest (option_map entity_parts entity.entry) }
@@ -92,13 +93,13 @@ impl PolicyState {
         }
     }
 
-    /// Checks whether the policy authorizes this use, and returns the policy's demand. The first
-    /// condition that fails determines the error: ATTRIBUTES for a trial session; AUTH_UNAVAILABLE
-    /// if the entity cannot be authorized by a policy; PCR_CHANGED if the update counter has
-    /// changed; POLICY_CC for another command; POLICY_FAIL if the role requires a command code and
-    /// none is recorded, for another cpHash, or if the entity does not have the recorded written
-    /// state; LOCALITY for a forbidden locality; POLICY_FAIL if the policy is not that of the
-    /// entity.
+    /// Checks whether the policy authorizes this use, and returns what the policy requires. The
+    /// first condition that fails determines the error: ATTRIBUTES for a trial session;
+    /// AUTH_UNAVAILABLE if the entity cannot be authorized by a policy; PCR_CHANGED if the update
+    /// counter has changed; POLICY_CC for another command; POLICY_FAIL if the role requires a
+    /// command code and none is recorded, for another cpHash, or if the entity does not have the
+    /// recorded written state; LOCALITY for a forbidden locality; POLICY_FAIL if the policy is not
+    /// that of the entity.
     #[tactic(auto, unfolding(crate::specs::Use::use_passes))]
     pub fn check_use(&self, asked: &Use) -> Result<Demand, Rc>
         ensures { result ≡ use_passes self.now (parts_of asked.now) }

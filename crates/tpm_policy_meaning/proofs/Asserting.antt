@@ -59,7 +59,7 @@ arguments_same parts operand offset operation small less is =
     let inner = same_backs operand (to_be_bytes w16 offset) parts.operand (to_be_bytes w16 parts.offset) refl outer.0 in
     (sym inner.0, number_same_2 parts.offset offset small less (sym inner.1), operation_same parts.operation operation (sym outer.1))
 
--- the command code at the start of a text
+-- the command code at the start of the bytes
 abbrev code_in : List ℕ → ℕ
 code_in text = from_be_bytes w32 (take 4 text)
 
@@ -105,7 +105,8 @@ module _ (hash : HashAlg) (Broken : Type 0) (One Other : List ℕ → Type 0) (b
 
 -- ---- TPM2_PolicyOR
 
--- The assertion is a TPM2_PolicyOR, and its concatenated digests equal these digests, concatenated.
+-- The assertion is a TPM2_PolicyOR. Its digests, concatenated, equal the concatenation of these
+-- digests.
 abbrev pub IsOrOf : (digests : List (List ℕ)) → Assertion → Type 0
 IsOrOf digests one =
     (given : List (List ℕ)) × (one ≡ assertion.Or given)

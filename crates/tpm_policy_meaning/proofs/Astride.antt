@@ -19,8 +19,8 @@ same_first x y xs ys is = (cc, cc)
 has_first : (x : ℕ) (xs : List ℕ) → x ∷ xs ≡ [] → ⊥
 has_first x xs is = absurd cc
 
--- One text is split in two ways, as `front ++ back` and as `short ++ rest`, and `front` starts with
--- `short`.
+-- One byte string is split in two ways, as `front ++ back` and as `short ++ rest`, and `front`
+-- starts with `short`.
 abbrev GoesOn : (front back short rest : List ℕ) → Type 0
 GoesOn front back short rest = (more : List ℕ) × (front ≡ short ++ more) × (more ++ back ≡ rest)
 
@@ -35,7 +35,7 @@ two_ways (x ∷ a) b (y ∷ c) d is =
     let halves = same_first x y (a ++ b) (c ++ d) is in
     one_more x y a b c d halves.0 (two_ways a b c d halves.1)
 
--- If a text occurs within another text of the same size, the two are equal.
+-- If a byte string occurs within another one of the same size, the two are equal.
 is_whole : (whole front text rest : List ℕ) → whole ≡ front ++ (text ++ rest) → length whole ≡ length text → text ≡ whole
 is_whole whole [] text [] is size = sym (is ∙ append-nil text)
 is_whole whole [] text (x ∷ rest) is size = absurd (omega (arith, ap length is, length-append text (x ∷ rest), size))
@@ -56,8 +56,8 @@ behind_first text first digests none astride = record {
   is_none = none;
 }
 
--- If a text starts within the first digest of a list and ends after it, and is not in the list, it
--- spans two neighbours of the list. The text and the digests have the same size.
+-- If a byte string starts within the first digest of a list and ends after it, and is not in the
+-- list, it spans two neighbours of the list. The byte string and the digests have the same size.
 next_begins : (text first front : List ℕ) (x y : ℕ) (end beginning : List ℕ) (digests : List (List ℕ)) (back : List ℕ) → (IsAmong text (first ∷ digests) → ⊥) → HaveSize (length text) digests → first ≡ front ++ x ∷ end → text ≡ (x ∷ end) ++ y ∷ beginning → joined digests ≡ (y ∷ beginning) ++ back → IsAstride text (first ∷ digests)
 next_begins text first front x y end beginning [] back none sizes is spelled stands = absurd (has_first y (beginning ++ back) (sym stands))
 next_begins text first front x y end beginning (next ∷ digests) back none sizes is spelled stands = by (two_ways next (joined digests) (y ∷ beginning) back stands)

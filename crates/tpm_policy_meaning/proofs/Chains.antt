@@ -12,10 +12,10 @@ use Rattle.tpm_mac.specs.declared.algorithm.HashAlg.{HashAlg}
 use Rattle.tpm_policy_meaning.specs.Asserted.{IsAmong}
 use Rattle.tpm_policy_meaning.specs.PolicyDigest.{digest_after, with_reference, zeros}
 
--- ---- lists of texts
+-- ---- lists of byte strings
 
--- If two equal texts are split at the same offset, their first parts are equal, and so are their
--- second parts.
+-- If two equal byte strings are split at the same offset, their first parts are equal, and so are
+-- their second parts.
 pub same_fronts : (a b c d : List ℕ) → length a ≡ length c → a ++ b ≡ c ++ d → (a ≡ c) × (b ≡ d)
 same_fronts a b c d size is = (
   sym (take_at a b (length a) refl) ∙ ap (take (length a)) is ∙ take_at c d (length a) (sym size),
@@ -39,7 +39,7 @@ pub among_either : {X Elsewhere : Type 0} (x : X) (front back : List X) → IsAm
 among_either x front back (inl among) there = among_front x front back among
 among_either x front back (inr elsewhere) there = among_back x front back (there elsewhere)
 
--- Two texts are either equal or different. A text is either in a list or not.
+-- Two byte strings are either equal or different. A byte string is either in a list or not.
 pub is_same_or_not : (t u : List ℕ) → (t ≡ u) ⊎ (t ≢ u)
 is_same_or_not t u = by (bytes_eq t u) refl
   where
@@ -68,7 +68,7 @@ unless_broken (inr broken) next = inr broken
 
 -- ---- chains of steps
 
--- the digest of a chain of steps, the latest first; and the texts that are hashed for these steps
+-- the digest of a chain of steps (latest first); and the inputs that are hashed for these steps
 abbrev pub chain : HashAlg → List (List ℕ) → List ℕ
 chain hash [] = zeros hash
 chain hash (step ∷ earlier) = hash_of hash (chain hash earlier ++ step)
@@ -81,14 +81,14 @@ pub length-chain : (hash : HashAlg) (steps : List (List ℕ)) → length (chain 
 length-chain hash [] = length-replicate (digest_size hash) 0
 length-chain hash (step ∷ earlier) = length-hash_of hash _
 
--- The hash is broken in two cases: a text in `One` and a different text in `Other` have the same
--- hash; or the hash of a text in `One` or `Other` is all zeros.
+-- The hash is broken in two cases: an input in `One` and a different input in `Other` have the same
+-- hash; or the hash of an input in `One` or `Other` is all zeros.
 pub record Breaking (hash : HashAlg) (Broken : Type 0) (One Other : List ℕ → Type 0) : Type 0 where
   pub collision : (t u : List ℕ) → One t → Other u → t ≢ u → hash_of hash t ≡ hash_of hash u → Broken
   pub of_zeros : (t : List ℕ) → One t ⊎ Other t → hash_of hash t ≡ zeros hash → Broken
 
 module _ (hash : HashAlg) (Broken : Type 0) (One Other : List ℕ → Type 0) (breaking : Breaking hash Broken One Other) where
-  -- If two texts have the same hash, either they are equal or the hash is broken.
+  -- If two inputs have the same hash, either they are equal or the hash is broken.
   pub same_hashed : (t u : List ℕ) → One t → Other u → hash_of hash t ≡ hash_of hash u → (t ≡ u) ⊎ Broken
   same_hashed t u one other is = by (is_same_or_not t u)
     where
@@ -173,7 +173,7 @@ aligned (x ∷ xs) (y ∷ ys) fx fy is =
     ∙ ap (λ (t : List ℕ). (y.0, t) ∷ xs) latest.1
     ∙ ap (λ (said : List Said). y ∷ said) (aligned xs ys fx.1 fy.1 latest.2)
 
--- ---- the texts of an assertion are the texts of its steps
+-- ---- the hash inputs of an assertion are the hash inputs of its steps
 
 module _ (hash : HashAlg) where
   pub digest_of_steps : (r : Option (List ℕ)) (t digest : List ℕ) (steps apart more : List (List ℕ)) → digest ≡ chain hash steps → digest_after hash (with_reference hash r (digest ++ t) ++ apart ++ more) ≡ chain hash (steps_of r t ++ steps)

@@ -15,7 +15,7 @@ use Rattle.tpm_policy_meaning.proofs.Astride.{HaveSize, joined, stands_astride}
 use Rattle.tpm_policy_meaning.proofs.Chains.{Breaking, Said, aligned, all_steps, among_back, among_front, is_among_or_not, length-chain, same_chain, unless_broken}
 use Rattle.tpm_policy_meaning.proofs.Spelled.{policy_chain, policy_chain_texts, policy_fits, policy_said, said_before, said_of, session_chain, session_chain_texts, session_fits, session_said}
 
--- The digest occurs in the concatenation of digests.
+-- The digest occurs in `whole`, a concatenation of digests.
 abbrev StandsIn : (digest whole : List ℕ) → Type 0
 StandsIn digest whole = (front : List ℕ) × (back : List ℕ) × (whole ≡ front ++ digest ++ back)
 
@@ -39,7 +39,7 @@ same_latest x y xs ys is = (cc, cc)
 none_said : (x : Said) (xs : List Said) → x ∷ xs ≡ [] → ⊥
 none_said x xs is = absurd cc
 
--- If a session's assertion asserts the same as an assertion of a written policy, it is not a
+-- If a session's assertion asserts the same as an assertion of a policy expression, it is not a
 -- TPM2_PolicyOR. Therefore it discards no earlier assertion.
 earlier_said : (one : Assertion) (written : PolicyAssertion) (said : List Said) → Says one written → said_before one said ≡ said
 earlier_said (assertion.Or digests) written said asserts = absurd asserts

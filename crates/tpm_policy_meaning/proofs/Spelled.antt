@@ -1,5 +1,5 @@
 -- The assertions of a policy or of a session form a chain of steps. This chain has the same digest
--- and the same hashed texts as the policy or the session.
+-- and the same hash inputs as the policy or the session.
 use Rattle.std.proofs.Common.{◌≡◌, ℕ, List, [], ◌∷◌, ◌++◌, append_assoc, Option, Some, None, refl, ap, ◌∙◌, inl, inr}
 use Rattle.std.specs.Int.{w32, to_be_bytes}
 use Rattle.std.specs.List.{flat_map}
@@ -76,7 +76,7 @@ session_fits hash [] = tt
 session_fits hash (latest ∷ earlier) =
     (asserted_fits hash latest, before_fits latest (session_said hash earlier) (session_fits hash earlier))
 
--- The session's digest after an assertion is the hash of the latest text that is hashed for it.
+-- The session's digest after an assertion is the hash of the latest input that is hashed for it.
 module _ (hash : HashAlg) where
   grouped : (digest : List ℕ) (code : CommandCode) (about : List ℕ) → hash_of hash (digest ++ to_be_bytes w32 (code_number code) ++ about) ≡ hash_of hash (digest ++ (to_be_bytes w32 (code_number code) ++ about))
   grouped digest code about = ap (hash_of hash) (append_assoc digest (to_be_bytes w32 (code_number code)) about)

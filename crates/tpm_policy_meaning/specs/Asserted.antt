@@ -1,5 +1,5 @@
--- The assertions of a session, and the texts from which its digest is computed. TPM 2.0 Library,
--- Part 1, section 19.7, and Part 3, section 23.
+-- The assertions of a session, and the hash inputs from which its digest is computed. TPM 2.0
+-- Library, Part 1, section 19.7, and Part 3, section 23.
 use Rattle.std.specs.Prelude.{◌≡◌, ◌⊎◌, ◌<◌, ◌^◌, ℕ, Bool, false, List, [], ◌∷◌, ◌++◌, length, Ok}
 use Rattle.tpm_mac.specs.Digest.{digest_size}
 use Rattle.tpm_mac.specs.declared.algorithm.HashAlg.{HashAlg}
@@ -25,19 +25,19 @@ abbrev pub IsAmong : {X : Type 0} → X → List X → Type 0
 IsAmong x [] = ⊥
 IsAmong x (y ∷ ys) = (x ≡ y) ⊎ IsAmong x ys
 
--- the policy of a session after these assertions, the latest first
+-- the policy of a session after these assertions (latest first)
 abbrev pub evaluated : HashAlg → (trial : Bool) → List Assertion → Policy
 evaluated hash trial [] = starting hash
 evaluated hash trial (latest ∷ earlier) =
     policy_with hash trial latest (evaluated hash trial earlier)
 
--- the digest of a policy session after these assertions, the latest first
+-- the digest of a policy session after these assertions (latest first)
 abbrev pub session_digest : HashAlg → List Assertion → List ℕ
 session_digest hash assertions = (evaluated hash false assertions).digest
 
--- ---- assertions of a session and of a written policy
+-- ---- assertions of a session and of a policy expression
 
--- An assertion of a session asserts the same as an assertion of a written policy.
+-- An assertion of a session asserts the same as an assertion of a policy expression.
 -- TPM2_PolicyAuthValue and TPM2_PolicyPassword count as the same, since they extend the digest in
 -- the same way. After either, a caller must prove that it knows the authorization value
 -- (`DemandsValue`); the session's demand decides how.
@@ -59,7 +59,7 @@ Says (assertion.Nv parts) (PolicyNv name operand offset operation) =
     × (parts.operation ≡ operation)
 Says _ _ = ⊥
 
--- One of these assertions asserts the same as this assertion of a written policy.
+-- One of these assertions asserts the same as this assertion of a policy expression.
 abbrev pub IsAsserted : List Assertion → PolicyAssertion → Type 0
 IsAsserted assertions written =
     (one : Assertion) × IsAmong one assertions × Says one written
@@ -67,7 +67,7 @@ IsAsserted assertions written =
 -- ---- properties of assertions that a session accepted
 
 -- The values of an assertion have the right sizes: a PCR digest is as long as a digest of the
--- session's hash, a command code fits in 32 bits, and an offset in 16.
+-- session's hash algorithm, a command code fits in 32 bits, and an offset in 16.
 abbrev pub HasWidths : HashAlg → Assertion → Type 0
 HasWidths hash (assertion.Pcr parts) = length parts.digest ≡ digest_size hash
 HasWidths hash (assertion.CommandCode number) = number < 2 ^ 32
@@ -81,14 +81,14 @@ FindsDigest hash (assertion.Or digests) earlier =
     IsAmong (session_digest hash earlier) digests
 FindsDigest hash _ earlier = Unit {0}
 
--- The values of each of these assertions, the latest first, have the right sizes. The list of
--- each TPM2_PolicyOR contains the session's digest after the earlier assertions.
+-- The values of each of these assertions (latest first) have the right sizes. The list of each
+-- TPM2_PolicyOR contains the session's digest after the earlier assertions.
 abbrev pub AreAccepted : HashAlg → List Assertion → Type 0
 AreAccepted hash [] = Unit {0}
 AreAccepted hash (latest ∷ earlier) =
     HasWidths hash latest × FindsDigest hash latest earlier × AreAccepted hash earlier
 
--- ---- the texts that a session hashes
+-- ---- the inputs that a session hashes
 
 -- what an assertion contributes to the digest
 abbrev pub update_by : HashAlg → Assertion → PolicyUpdate
@@ -113,7 +113,7 @@ abbrev pub digest_before : HashAlg → Assertion → (earlier : List Assertion) 
 digest_before hash (assertion.Or digests) earlier = zeros hash
 digest_before hash _ earlier = session_digest hash earlier
 
--- the texts that a session hashed, and the session's digests, both with the latest first
+-- the inputs that a session hashed, and the session's digests (both latest first)
 abbrev pub session_texts : HashAlg → List Assertion → List (List ℕ)
 session_texts hash [] = []
 session_texts hash (latest ∷ earlier) =
@@ -127,21 +127,21 @@ session_digests hash (latest ∷ earlier) =
 
 -- ---- laws of the digest of a session
 
--- A policy session's digest is the hash of the latest text that it hashed, or zeros if there is
+-- A policy session's digest is the hash of the latest input that it hashed, or zeros if there is
 -- none.
 abbrev pub SessionHashesTexts : Type 0
 SessionHashesTexts =
     (hash : HashAlg) (assertions : List Assertion)
     → session_digest hash assertions ≡ digest_after hash (session_texts hash assertions)
 
--- If a policy session accepts a TPM2_PolicyOR, its digest at that time is in the list.
+-- If a policy session accepts a TPM2_PolicyOR, the session's digest at that time is in the list.
 abbrev pub AcceptedFindDigest : Type 0
 AcceptedFindDigest =
     (hash : HashAlg) (latest : Assertion) (earlier : List Assertion) (made : Policy)
     → asserted hash false latest (evaluated hash false earlier) ≡ Ok made
     → FindsDigest hash latest earlier
 
--- If TPM2_PolicyAuthValue or TPM2_PolicyPassword was asserted, the session demands the
+-- If TPM2_PolicyAuthValue or TPM2_PolicyPassword was asserted, the session requires the
 -- authorization value, in an HMAC key or as a password.
 abbrev pub DemandsValue : Type 0
 DemandsValue =

@@ -1,11 +1,11 @@
--- Written policies. TPM 2.0 Library, Part 1, section 19.7 (enhanced authorization), and Part 3,
+-- Policy expressions. TPM 2.0 Library, Part 1, section 19.7 (enhanced authorization), and Part 3,
 -- section 23. A policy consists of assertions; each is made by the command with the same name.
 -- TPM2_PolicyOR offers a choice between several policies.
 use Rattle.std.specs.Prelude.{ℕ, Bool, List}
 use Rattle.tpm_types.specs.declared.operation.Operation.{Operation}
 use Rattle.tpm_types.specs.declared.pcr_selection.BankSelection.{BankSelection}
 
--- One assertion, and what it demands of a use of the entity. PolicyPcr: the values of the selected
+-- One assertion, and what it requires of a use of the entity. PolicyPcr: the values of the selected
 -- PCRs have this digest. PolicyAuthValue: the HMAC key includes the entity's authorization value.
 -- PolicyPassword: the entity's authorization value is sent as a password. PolicyCommandCode: the
 -- command has this code. PolicyLocality: the command comes from one of these localities, bit n for
@@ -24,8 +24,8 @@ pub data PolicyAssertion : Type 0 where
   PolicySecret : (name reference : List ℕ) → PolicyAssertion
   PolicyNv : (name operand : List ℕ) → (offset : ℕ) → (operation : Operation) → PolicyAssertion
 
--- A policy: the empty policy, which demands nothing; a policy followed by an assertion; or a choice
--- between several policies.
+-- A policy: the empty policy, which requires nothing; a policy followed by an assertion; or a
+-- choice between several policies.
 mutual
   pub data PolicyExpression : Type 0 where
     Nothing : PolicyExpression

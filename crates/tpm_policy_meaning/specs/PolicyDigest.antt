@@ -1,6 +1,6 @@
 -- The digest of a policy, as it is used for an authPolicy. TPM 2.0 Library, Part 3, section 23.2.3
--- (policy digest update function), and the section of each assertion. The digest is the end of a
--- chain of texts, each of which starts with the hash of the text before it.
+-- (policy digest update function), and the section of each assertion. The digest is the last hash
+-- in a chain of inputs, each of which starts with the hash of the input before it.
 use Rattle.std.specs.Prelude.{ℕ, List, [], ◌∷◌, ◌++◌, replicate, Option, Some, None}
 use Rattle.std.specs.Int.{w16, w32, to_be_bytes}
 use Rattle.std.specs.List.{flat_map}
@@ -21,7 +21,7 @@ use Rattle.tpm_policy_meaning.specs.Expression.{PolicyExpression, Nothing, Then,
 use Rattle.tpm_policy_meaning.specs.Expression.{PolicyBranches, NoBranch, Branch}
 
 -- what an assertion contributes to the digest: its command code, its data, its policyRef (if any),
--- and each text whose hash is part of the data (`apart`)
+-- and each input whose hash is part of the data (`apart`)
 pub record PolicyUpdate : Type 0 where
   pub code : CommandCode
   pub about : List ℕ
@@ -69,19 +69,19 @@ update_of hash (PolicySecret name reference) = secret_update name reference
 update_of hash (PolicyNv name operand offset operation) =
     nv_update hash name (nv_arguments_text operand offset operation)
 
--- ---- the texts that are hashed for a policy
+-- ---- the inputs that are hashed for a policy
 
--- the text of an update: the command code and the assertion's data
+-- the encoding of an update: the command code and the assertion's data
 abbrev pub update_text : PolicyUpdate → List ℕ
 update_text update = to_be_bytes w32 (code_number update.code) ++ update.about
 
--- the text of an assertion; if the assertion has a policyRef, also a second text: the hash of the
--- first, then policyRef
+-- the hash input of an assertion; if the assertion has a policyRef, also a second input: the hash
+-- of the first, then policyRef
 abbrev pub with_reference : HashAlg → Option (List ℕ) → (text : List ℕ) → List (List ℕ)
 with_reference hash None text = text ∷ []
 with_reference hash (Some reference) text = (hash_of hash text ++ reference) ∷ text ∷ []
 
--- the texts that are hashed when an assertion extends this digest, the latest first
+-- the inputs that are hashed when an assertion extends this digest (latest first)
 abbrev pub texts_after : HashAlg → (digest : List ℕ) → PolicyUpdate → List (List ℕ)
 texts_after hash digest update =
     with_reference hash update.reference (digest ++ update_text update) ++ update.apart
@@ -90,13 +90,13 @@ texts_after hash digest update =
 abbrev pub zeros : HashAlg → List ℕ
 zeros hash = replicate (digest_size hash) 0
 
--- the digest after these texts were hashed, the latest first: the hash of the latest text, or zeros
+-- the digest after these inputs were hashed (latest first): the hash of the latest input, or zeros
 -- if there is none
 abbrev pub digest_after : HashAlg → (texts : List (List ℕ)) → List ℕ
 digest_after hash [] = zeros hash
 digest_after hash (text ∷ earlier) = hash_of hash text
 
--- the texts that are hashed for a policy and for its branches, the latest first; the text of
+-- the inputs that are hashed for a policy and for its branches (latest first); the input of
 -- TPM2_PolicyOR starts from zeros again
 abbrev mutual
   pub policy_texts : HashAlg → PolicyExpression → List (List ℕ)

@@ -13,8 +13,8 @@ use Rattle.tpm_policy_meaning.specs.Expression.{PolicyExpression, Nothing, Then,
 use Rattle.tpm_policy_meaning.specs.Meaning.{IsPolicyExpression}
 use Rattle.tpm_policy_meaning.specs.PolicyDigest.{branch_digests, policy_digest}
 
--- the assertion that a trial session makes for an assertion of a written policy; `pcrs_now` is the
--- current digest of the device's PCRs
+-- the assertion that a trial session makes for an assertion of a policy expression; `pcrs_now` is
+-- the current digest of the device's PCRs
 abbrev pub assertion_of : (pcrs_now : List ℕ) → PolicyAssertion → Assertion
 assertion_of pcrs_now (PolicyPcr selection digest) = assertion.Pcr (record {
   given = digest;
@@ -44,8 +44,8 @@ assertion_of pcrs_now (PolicyNv name operand offset operation) = assertion.Nv (r
   compared = Ok [];
 })
 
--- the assertions that a trial session makes for a policy, the latest first; a trial session
--- accepts TPM2_PolicyOR without the assertions of any branch
+-- the assertions that a trial session makes for a policy (latest first); a trial session accepts
+-- TPM2_PolicyOR without the assertions of any branch
 abbrev pub assertions_of : HashAlg → (pcrs_now : List ℕ) → PolicyExpression → List Assertion
 assertions_of hash pcrs_now Nothing = []
 assertions_of hash pcrs_now (Then before written) =

@@ -14,8 +14,8 @@ ghost use Rattle.tpm_policy_meaning.specs.Trial.{TrialComputes};
 
 /// If a policy session's digest equals that of a policy, one of two things holds. Either the
 /// session made the assertions that the policy requires, on one branch at each TPM2_PolicyOR; or
-/// the hash is broken in one of three ways. The texts that break it can be computed from the policy
-/// and the session's assertions.
+/// the hash is broken in one of three ways. The inputs that break it can be computed from the
+/// policy and the session's assertions.
 #[inline(always)]
 pub fn meaning_laws()
     ensures { DigestMeans }
@@ -28,10 +28,10 @@ pub fn trial_laws()
     ensures { TrialComputes }
 {}
 
-/// Laws of a session's digest. If a policy session accepts a TPM2_PolicyOR, its digest at that time
-/// is in the list. A session's digest is the hash of the latest text that it hashed, or zeros if
-/// there is none. If TPM2_PolicyAuthValue or TPM2_PolicyPassword was asserted, the session demands
-/// the authorization value, in an HMAC key or as a password.
+/// Laws of a session's digest. If a policy session accepts a TPM2_PolicyOR, the session's digest at
+/// that time is in the list. A session's digest is the hash of the latest input that it hashed, or
+/// zeros if there is none. If TPM2_PolicyAuthValue or TPM2_PolicyPassword was asserted, the session
+/// requires the authorization value, in an HMAC key or as a password.
 #[inline(always)]
 pub fn session_laws()
     ensures find { AcceptedFindDigest }

@@ -1,4 +1,4 @@
--- The hash and the binding of a new session determine the size of its key.
+-- The hash algorithm and the binding of a new session determine the size of its key.
 use Rattle.std.proofs.Common.{◌≡◌, ℕ, refl, List, [], ◌++◌, length, take, Option, Some, None, append-nil, arith}
 use Rattle.std.proofs.lemmas.List.{length-take}
 use Rattle.tpm_mac.specs.Digest.{digest_size}

@@ -18,7 +18,7 @@ unfoldable pub cipher_bytes : Session → (auth_value newer older : List ℕ) �
 cipher_bytes session auth_value newer older =
     kdfa_of session.hash (session.key ++ auth_value) cipher_label newer older 32
 
--- the cipher key of a parameter is the first 16 of these bytes; the IV is the rest
+-- the cipher key: the first 16 bytes of `cipher_bytes`; the remaining bytes are the IV
 abbrev pub cipher_key : List ℕ → List ℕ
 cipher_key bytes = take 16 bytes
 

@@ -3,24 +3,24 @@
 use Rattle.std.specs.Prelude.{◌≡◌, ℕ, ◌+◌, ◌≤◌, ◌&&◌, nat_le, Bool, true, false, List, ◌++◌, length, take, drop, if◌then◌else◌, Option, Some, None}
 use Rattle.std.specs.Int.{w16, from_be_bytes}
 
--- the value of the size field at the start of a text
+-- the value of the size field at the start of the bytes
 abbrev pub first_size : List ℕ → ℕ
 first_size text = from_be_bytes w16 (take 2 text)
 
--- whether a text starts with a complete sized buffer
+-- whether the bytes start with a complete sized buffer
 abbrev pub has_first_buffer : List ℕ → Bool
 has_first_buffer text = nat_le 2 (length text) && nat_le (2 + first_size text) (length text)
 
--- a text with `f` applied to the contents of the sized buffer at its start; unchanged if the text
--- does not start with a complete buffer
+-- the bytes with `f` applied to the contents of the sized buffer at their start; unchanged if they
+-- do not start with a complete buffer
 unfoldable pub with_first_buffer : (List ℕ → List ℕ) → List ℕ → List ℕ
 with_first_buffer f text =
     if has_first_buffer text
     then take 2 text ++ f (take (first_size text) (drop 2 text)) ++ drop (2 + first_size text) text
     else text
 
--- The call returned the size of the sized buffer at the start of a text, or None if the text does
--- not start with a complete buffer.
+-- The call returned the size of the sized buffer at the start of the bytes, or None if they do not
+-- start with a complete buffer.
 abbrev pub FindsFirst : List ℕ → Option ℕ → Type 0
 FindsFirst text (Some size) =
     (has_first_buffer text ≡ true) × (size ≡ first_size text) × (2 + size ≤ length text)

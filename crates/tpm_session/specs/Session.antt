@@ -9,8 +9,9 @@ use Rattle.tpm_types.specs.declared.symmetric.SymmetricDefinition.{SymmetricDefi
 use Rattle.tpm_session.specs.Key.{is_nonce_size, key_size}
 use Rattle.tpm_session.specs.declared.session.Binding.{Binding}
 
--- a session: its type, hash and symmetric definition; the last nonce that the device sent; the key;
--- the entity to which it is bound; and its policy state, which never changes in an HMAC session
+-- a session: its type, hash algorithm and symmetric definition; the last nonce that the device
+-- sent; the key; the entity to which the session is bound; and its policy state, which never
+-- changes in an HMAC session
 pub record Session : Type 0 where
   pub kind : SessionType
   pub hash : HashAlg
@@ -28,21 +29,21 @@ with_nonce session nonce = record session { nonce_tpm = nonce }
 abbrev pub with_policy : Session → Policy → Session
 with_policy session policy = record session { policy = policy }
 
--- whether nonceTPM, the key and the policy digest have sizes that a session with this hash and
--- binding allows. nonceTPM is as long as the caller's first nonce (section 19.6.3). The key is as
--- long as a digest, or empty if the session is not bound (section 19.6.8). The policy digest is as
--- long as a digest (section 19.7)
+-- whether nonceTPM, the key and the policy digest have sizes that a session with this hash
+-- algorithm and binding allows. nonceTPM is as long as the caller's first nonce (section 19.6.3).
+-- The key is as long as a digest, or empty if the session is not bound (section 19.6.8). The policy
+-- digest is as long as a digest (section 19.7)
 abbrev pub are_hash_sizes : HashAlg → Option Binding → (nonce_tpm key digest : List ℕ) → Bool
 are_hash_sizes hash binding nonce_tpm key digest =
     is_nonce_size hash (length nonce_tpm)
     && length key == key_size hash binding
     && length digest == digest_size hash
 
--- whether the session's hash allows the sizes of its nonceTPM, key and policy digest
+-- whether the session's hash algorithm allows the sizes of its nonceTPM, key and policy digest
 abbrev pub has_hash_sizes : Session → Bool
 has_hash_sizes s = are_hash_sizes s.hash s.binding s.nonce_tpm s.key s.policy.digest
 
--- the session if its hash allows the sizes of its parts, otherwise None
+-- the session if its hash algorithm allows the sizes of its parts, otherwise None
 abbrev pub if_hash_sized : Session → Option Session
 if_hash_sized session = if has_hash_sizes session then Some session else None
 
@@ -52,8 +53,8 @@ pub record IsBinding (binding : Binding) : Type 0 where
   pub name : length binding.name ≤ 34
   pub auth_value : IsAuthValue binding.auth_value
 
--- True for every session: its hash allows the sizes of nonceTPM, the key and the policy digest,
--- and each is at most 32 bytes long.
+-- True for every session: its hash algorithm allows the sizes of nonceTPM, the key and the policy
+-- digest, and each is at most 32 bytes long.
 pub record IsSession (session : Session) : Type 0 where
   pub sizes : has_hash_sizes session ≡ true
   pub nonce_tpm : length session.nonce_tpm ≤ 32

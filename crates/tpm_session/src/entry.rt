@@ -76,7 +76,7 @@ pub fn entry_text<'a>(
     }
 }
 
-/// Appends three texts. The sink must have enough free space for them.
+/// Appends three slices. The sink must have enough free space for them.
 fn append_three<const N: usize>(sink: &mut Sink<N>, first: &[u8], second: &[u8], third: &[u8])
     requires { length sink.old + (length first.now + (length second.now + length third.now)) ≤ N }
     ensures { sink.new ≡ sink.old ++ (first.now ++ (second.now ++ third.now)) }
@@ -87,7 +87,7 @@ fn append_three<const N: usize>(sink: &mut Sink<N>, first: &[u8], second: &[u8],
 }
 
 impl<'a> EntryText<'a> {
-    /// Whether the text fits in a buffer of this size.
+    /// Whether the data fits in a buffer of this size.
     fn fits(&self, room: usize) -> bool
         ensures { IsTrue result ↔ (length self.now ≤ room) }
     {
@@ -97,7 +97,7 @@ impl<'a> EntryText<'a> {
         parts + encrypt as u128 + 1 <= room as u128
     }
 
-    /// Appends the text; returns an error and writes nothing if it does not fit.
+    /// Appends the data. If it does not fit, writes nothing and returns an error.
     pub fn write<const N: usize>(&self, sink: &mut Sink<N>) -> Result<(), Full>
         ensures { Puts N self.now sink.old result sink.new }
     {
@@ -109,7 +109,7 @@ impl<'a> EntryText<'a> {
         Ok(())
     }
 
-    /// The HMAC of the text, computed with this key.
+    /// The HMAC of the data, computed with this key.
     fn mac(&self, alg: HashAlg, key: ArrayVec<u8, 64>, keyed: &mut KeyedMac) -> Digest
         ensures value { result.items ≡ hmac_of alg key.items self.now }
         ensures size { length result.items ≡ digest_size alg }

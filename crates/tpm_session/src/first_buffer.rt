@@ -2,7 +2,7 @@
 
 ghost use Rattle.tpm_session.specs.FirstBuffer.{FindsFirst};
 
-/// The size of the sized buffer at the start of a text, if the buffer is complete.
+/// The size of the sized buffer at the start of `text`, if the buffer is complete.
 pub fn first_size(text: &[u8]) -> Option<usize>
     ensures { FindsFirst text.now result }
 {

@@ -1,4 +1,5 @@
--- A read returns the attributes in a 32-bit field exactly when the text starts with their encoding.
+-- A read returns the attributes in a 32-bit field exactly when the input starts with their
+-- encoding.
 use Rattle.std.proofs.Common.{ℕ, ◌^◌, List, Ok, refl, subst}
 use Rattle.std.specs.Prelude.{◌==◌, not, bit_and}
 use Rattle.std.specs.Int.{w32, to_be_bytes}

@@ -1,4 +1,4 @@
--- A read returns a list of digests exactly when the text starts with its encoding.
+-- A read returns a list of digests exactly when the input starts with its encoding.
 use Rattle.std.proofs.Common.{◌≡◌, ℕ, ltb, ◌||◌, List, ◌++◌, Ok, arith}
 use Rattle.std.proofs.lemmas.Bool.{ltb-false, le-ltb, or_parts, or_from}
 use Rattle.tpm_bytes.specs.Writing.{sized_text}

@@ -1,5 +1,5 @@
--- If a read returns a structure exactly when the text starts with its encoding, the same is true of
--- a sized buffer that contains only the structure.
+-- If a read returns a structure exactly when the input starts with its encoding, the same is true
+-- of a sized buffer that contains only the structure.
 use Rattle.std.proofs.Common.{◌≡◌, ℕ, ◌^◌, ◌<◌, List, [], ◌∷◌, ◌++◌, length, Result, Ok, Err, refl, sym, ap, subst, ◌∙◌, append-nil, arith}
 use Rattle.std.specs.Prelude.{◌==◌, not}
 use Rattle.std.specs.Int.{w16, to_be_bytes}
@@ -23,7 +23,7 @@ none_left : (left : List ℕ) → length left ≡ 0 → left ≡ []
 none_left [] none = refl
 none_left (byte ∷ left) none = absurd (omega arith)
 
--- if each number in a text is below 256, so is each number in the sized buffer at its start
+-- if each number in the input is below 256, so is each number in the sized buffer at its start
 content_fits : (bytes content rest : List ℕ) → AreBytes bytes → Takes bytes (sized_text content) rest → AreBytes content
 content_fits bytes content rest fits t =
     let size = to_be_bytes w16 (length content) in

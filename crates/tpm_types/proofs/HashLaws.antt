@@ -1,4 +1,4 @@
--- A read returns a hash algorithm exactly when the text starts with its encoding.
+-- A read returns a hash algorithm exactly when the input starts with its encoding.
 use Rattle.std.proofs.Common.{◌≡◌, ℕ, List, ◌++◌, Ok}
 use Rattle.std.specs.Int.{w16, to_be_bytes}
 use Rattle.tpm_bytes.proofs.Fields.{AreBytes, Takes}

@@ -1,4 +1,4 @@
--- A read returns a PCR selection exactly when the text starts with its encoding.
+-- A read returns a PCR selection exactly when the input starts with its encoding.
 use Rattle.std.proofs.Common.{◌≡◌, ℕ, zero, suc, ◌/◌, ◌%◌, ◌^◌, ◌<◌, Bool, true, false, ltb, List, [], ◌∷◌, ◌++◌, length, take, Ok, refl, sym, ap, subst, ◌∙◌, append_assoc, arith}
 use Rattle.std.specs.Prelude.{◌==◌, not}
 use Rattle.std.specs.Int.{w8, w16, w32, to_be_bytes, from_le_bytes, to_le_bytes}

@@ -1,4 +1,4 @@
--- If a read returns each field of a structure exactly when the text starts with the field's
+-- If a read returns each field of a structure exactly when the input starts with the field's
 -- encoding, the same holds for the structure.
 use Rattle.std.proofs.Common.{◌≡◌, ℕ, ◌+◌, List, [], ◌++◌, length, drop, Result, Ok, refl, sym, ap, subst, ◌∙◌, append_assoc, append-nil}
 use Rattle.std.proofs.lemmas.List.{take_at, drop_at, get_or-drop}
@@ -6,13 +6,13 @@ use Rattle.tpm_bytes.specs.Reading.{◌>>=◌}
 use Rattle.tpm_bytes.proofs.Fields.{AreBytes, AreBytes-take, Takes, Takes-then, bind_ok, ok_is}
 use Rattle.tpm_bytes.proofs.Spelling.{IsAgain, IsTaken}
 
--- A read returns a value exactly when the value is valid and the text starts with its encoding.
+-- A read returns a value exactly when the value is valid and the input starts with its encoding.
 pub record Spelled {A E : Type 0} (text : A → List ℕ) (Is : A → Type 0) (at : List ℕ → Result (A × List ℕ) E) : Type 0 where
   pub taken : IsTaken text Is at
   pub again : IsAgain text Is at
 
 -- After the first fields were read, reading the other fields returns a value exactly when the value
--- contains those first fields and the text starts with the encoding of the other fields.
+-- contains those first fields and the input starts with the encoding of the other fields.
 pub record Behind {B C E : Type 0} (seen : B → C) (text : B → List ℕ) (Is : B → Type 0) (at : C → List ℕ → Result (B × List ℕ) E) : Type 0 where
   pub taken : (before : C) (bytes : List ℕ) (x : B × List ℕ) → AreBytes bytes → at before bytes ≡ Ok x → Takes bytes (text x.0) x.1 × Is x.0 × (seen x.0 ≡ before)
   pub again : (x : B) (rest : List ℕ) → Is x → at (seen x) (text x ++ rest) ≡ Ok (x, rest)
@@ -87,7 +87,7 @@ rest_fits front rest fits = subst AreBytes (drop_at front rest (length front) re
     later : AreBytes (drop (length front) (front ++ rest))
     later i = rw get_or-drop (fits (length front + i))
 
--- if the bytes are a text followed by a rest, then reading the text leaves the rest
+-- if the bytes are `text` followed by `rest`, then reading `text` leaves `rest`
 pub takes : (bytes text rest : List ℕ) → AreBytes bytes → bytes ≡ text ++ rest → Takes bytes text rest
 takes bytes text rest fits parts = record { parts = parts; rest_fits = rest_fits text rest (subst AreBytes parts fits) }
 

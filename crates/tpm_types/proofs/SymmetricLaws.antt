@@ -1,4 +1,4 @@
--- A read returns a symmetric definition exactly when the text starts with its encoding.
+-- A read returns a symmetric definition exactly when the input starts with its encoding.
 use Rattle.std.proofs.Common.{◌≡◌, ℕ, ◌^◌, Bool, true, false, cond, List, ◌++◌, Result, Ok, Err, refl, sym, ap, subst, ◌∙◌, append_assoc, arith, inl, inr}
 use Rattle.std.specs.Prelude.{◌==◌, ◌⊎◌, not}
 use Rattle.std.specs.Int.{w16, to_be_bytes}

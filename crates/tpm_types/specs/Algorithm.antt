@@ -24,7 +24,7 @@ is_policy_size name_alg size = size == 0 || size == digest_size name_alg
 abbrev pub hash_named : ℕ → Option HashAlg
 hash_named number = if number == 0x0004 then Some Sha1 else (if number == 0x000b then Some Sha256 else None)
 
--- the hash algorithm at the start of a text, and the rest of the text
+-- the hash algorithm at the start of the bytes, and the remaining bytes
 unfoldable pub hash_at : List ℕ → Result (HashAlg × List ℕ) Rc
 hash_at text = do
   number ← or_fault (number_at w16 text) (plain code.Insufficient)
@@ -43,7 +43,7 @@ abbrev pub hash_or_null_named : ℕ → Option (Option HashAlg)
 hash_or_null_named number =
     if number == 0x0010 then Some None else option_map Some (hash_named number)
 
--- the hash algorithm at the start of a text (None for NULL), and the rest of the text
+-- the hash algorithm at the start of the bytes (None for NULL), and the remaining bytes
 unfoldable pub hash_or_null_at : List ℕ → Result (Option HashAlg × List ℕ) Rc
 hash_or_null_at text = do
   number ← or_fault (number_at w16 text) (plain code.Insufficient)

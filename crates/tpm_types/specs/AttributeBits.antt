@@ -12,7 +12,7 @@ pub record AreAttributeBits (reserved bits : ℕ) : Type 0 where
   pub fits : bits < 2 ^ 32
   pub named : bit_and bits reserved ≡ 0
 
--- the bits of the attributes at the start of a text, and the rest of the text
+-- the bits of the attributes at the start of the bytes, and the remaining bytes
 unfoldable pub attribute_bits_at : (reserved : ℕ) → List ℕ → Result (ℕ × List ℕ) Rc
 attribute_bits_at reserved text = do
   bits ← or_fault (number_at w32 text) (plain code.Insufficient)

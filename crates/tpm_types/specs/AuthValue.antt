@@ -19,7 +19,7 @@ trimmed bytes = reverse (without_first_zeros (reverse bytes))
 abbrev pub IsAuthValue : List ℕ → Type 0
 IsAuthValue value = (length value ≤ 32) × (trimmed value ≡ value)
 
--- the authorization value at the start of a text, and the rest of the text. The value is the
+-- the authorization value at the start of the bytes, and the remaining bytes. The value is the
 -- content of a sized buffer of at most 32 bytes, without trailing zeros
 unfoldable pub auth_value_at : List ℕ → Result (List ℕ × List ℕ) Rc
 auth_value_at text = do

@@ -18,8 +18,8 @@ abbrev pub or_sized_rc : {X : Type 0} → Result X SizedFault → Result X Rc
 or_sized_rc (Ok x) = Ok x
 or_sized_rc (Err fault) = Err (sized_rc fault)
 
--- the content of the sized buffer at the start of a text, at most `limit` bytes, and the rest of
--- the text
+-- the content of the sized buffer at the start of the bytes, at most `limit` bytes, and the
+-- remaining bytes
 unfoldable pub buffer_at : ℕ → List ℕ → Result (List ℕ × List ℕ) Rc
 buffer_at limit text = or_sized_rc (sized_at limit text)
 

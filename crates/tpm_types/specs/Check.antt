@@ -1,4 +1,4 @@
--- The check numbers that a row reports. The number 0 in a row means that no check refused, or that
+-- The check numbers that a row reports. The number 0 in a row means that no check failed, or that
 -- the event is a power cycle.
 use Rattle.std.specs.Prelude.{ℕ, ◌+◌}
 use Rattle.tpm_types.specs.ActionCheck.{action_number}

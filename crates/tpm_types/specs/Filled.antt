@@ -18,9 +18,9 @@ abbrev pub or_size : {X : Type 0} → Result X Rc → Result X Rc
 or_size (Ok x) = Ok x
 or_size (Err fault) = Err (record fault { code = within_buffer fault.code })
 
--- the structure that fills the sized buffer at the start of a text, and the rest of the text. Fails
--- with INSUFFICIENT if the buffer is truncated, or with SIZE if the buffer is shorter or longer
--- than the structure
+-- the structure that fills the sized buffer at the start of the bytes, and the remaining bytes.
+-- Fails with INSUFFICIENT if the buffer is truncated, or with SIZE if the buffer is shorter or
+-- longer than the structure
 unfoldable pub filled_by : {X : Type 0}
     → (List ℕ → Result (X × List ℕ) Rc)
     → List ℕ → Result (X × List ℕ) Rc

@@ -33,7 +33,7 @@ all_operations =
 abbrev pub operation_named : ℕ → Option Operation
 operation_named number = find (λ operation. number == operation_number operation) all_operations
 
--- the operation at the start of a text, and the rest of the text
+-- the operation at the start of the bytes, and the remaining bytes
 unfoldable pub operation_at : List ℕ → Result (Operation × List ℕ) Rc
 operation_at text = do
   number ← or_fault (number_at w16 text) (plain code.Insufficient)

@@ -9,7 +9,7 @@ use Rattle.tpm_types.specs.declared.rc.ResponseCode.TheVariants as code
 use Rattle.tpm_types.specs.Handle.{is_persistent, numbered}
 use Rattle.tpm_types.specs.Rc.{plain}
 
--- the handle of a persistent object at the start of a text, and the rest of the text. The object
+-- the handle of a persistent object at the start of the bytes, and the remaining bytes. The object
 -- need not exist
 unfoldable pub persistent_handle_at : List ℕ → Result (Handle × List ℕ) Rc
 persistent_handle_at text = do

@@ -34,7 +34,7 @@ is_trial Hmac = false
 is_trial Policy = false
 is_trial Trial = true
 
--- the session type at the start of a text, and the rest of the text
+-- the session type at the start of the bytes, and the remaining bytes
 unfoldable pub session_type_at : List ℕ → Result (SessionType × List ℕ) Rc
 session_type_at text = do
   number ← or_fault (number_at w8 text) (plain code.Insufficient)

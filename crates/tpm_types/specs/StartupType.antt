@@ -14,7 +14,7 @@ abbrev pub startup_type_named : ℕ → Option StartupType
 startup_type_named number =
     if number == 0 then Some Clear else (if number == 1 then Some State else None)
 
--- the startup type at the start of a text, and the rest of the text
+-- the startup type at the start of the bytes, and the remaining bytes
 unfoldable pub startup_type_at : List ℕ → Result (StartupType × List ℕ) Rc
 startup_type_at text = do
   number ← or_fault (number_at w16 text) (plain code.Insufficient)

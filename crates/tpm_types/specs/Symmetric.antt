@@ -17,7 +17,7 @@ is_null Aes128Cfb = false
 is_null (Xor hash) = false
 
 -- the encoding of a symmetric definition: NULL alone; AES, its key size in bits, and its mode; or
--- XOR and the hash that generates its masks
+-- XOR and the hash algorithm that generates its masks
 unfoldable pub symmetric_text : SymmetricDefinition → List ℕ
 symmetric_text Null = to_be_bytes w16 0x0010
 symmetric_text Aes128Cfb =
@@ -40,8 +40,8 @@ xor_at text = do
   hash ← hash_at text
   Ok (Xor hash.0, hash.1)
 
--- the symmetric definition with this algorithm number, and the rest of the text. The other fields
--- of the definition are at the start of the text
+-- the symmetric definition with this algorithm number, whose other fields are at the start of the
+-- bytes, and the remaining bytes
 abbrev pub behind_at : ℕ → List ℕ → Result (SymmetricDefinition × List ℕ) Rc
 behind_at number text =
     if number == 0x0010 then Ok (Null, text)
@@ -49,14 +49,14 @@ behind_at number text =
     else (if number == 0x000a then xor_at text
     else Err (plain code.Symmetric)))
 
--- the symmetric definition at the start of a text, and the rest of the text
+-- the symmetric definition at the start of the bytes, and the remaining bytes
 unfoldable pub symmetric_at : List ℕ → Result (SymmetricDefinition × List ℕ) Rc
 symmetric_at text = do
   algorithm ← or_fault (number_at w16 text) (plain code.Insufficient)
   behind_at algorithm.0 algorithm.1
 
--- the cipher at the start of a text, and the rest of the text. The only cipher for storage keys and
--- SYMCIPHER keys is AES
+-- the cipher at the start of the bytes, and the remaining bytes. The only cipher for storage keys
+-- and SYMCIPHER keys is AES
 unfoldable pub cipher_at : List ℕ → Result (SymmetricDefinition × List ℕ) Rc
 cipher_at text = do
   algorithm ← or_fault (number_at w16 text) (plain code.Insufficient)

@@ -10,7 +10,7 @@ use Rattle.tpm_types.specs.Rc.{plain}
 abbrev pub yes_no_named : ℕ → Option Bool
 yes_no_named byte = if byte == 0 then Some false else (if byte == 1 then Some true else None)
 
--- the yes-or-no value at the start of a text, and the rest of the text
+-- the yes-or-no value at the start of the bytes, and the remaining bytes
 unfoldable pub yes_no_at : List ℕ → Result (Bool × List ℕ) Rc
 yes_no_at text = do
   byte ← or_fault (number_at w8 text) (plain code.Insufficient)

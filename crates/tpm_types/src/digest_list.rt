@@ -18,7 +18,7 @@ pub const FEWEST_DIGESTS: u32 = 2;
 /// The largest number of digests in a list that can be read.
 pub const DIGEST_LIST_LIMIT: u32 = 8;
 
-/// A digest of a list, borrowed from the input.
+/// A digest in a list, borrowed from the input.
 #[derive(Drop)]
 struct ListedDigest<'a> {
     bytes: &'a [u8],
@@ -62,10 +62,10 @@ impl DigestList {
         // The result is the decoded digests, or the first fault.
         ensures exact { Reads (λ list. digests_of list.digests.items) (digest_list_at text.old)
             text.old result text.new }
-        // If decoding succeeds, the text starts with the encoding of the returned value.
+        // If decoding succeeds, the input starts with the encoding of the returned value.
         ensures found { IfOk result (λ list. IsDigestList (digests_of list.digests.items)
             × (text.old ≡ digest_list_text (digests_of list.digests.items) ++ text.new)) }
-        // The encoding of a value decodes to that value, whatever follows it.
+        // The encoding of a value decodes to that value, whatever bytes follow.
         ensures only { (digests : List (List ℕ)) (rest : List ℕ) → IsDigestList digests
             → text.old ≡ digest_list_text digests ++ rest
             → Reads (λ list. digests_of list.digests.items) (Ok (digests, rest))

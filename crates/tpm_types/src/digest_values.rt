@@ -136,10 +136,10 @@ impl DigestValues {
         // The result is the decoded digests, or the first fault.
         ensures exact { Reads (λ digests. digests.values.items) (digest_values_at text.old)
             text.old result text.new }
-        // If decoding succeeds, the text starts with the encoding of the returned value.
+        // If decoding succeeds, the input starts with the encoding of the returned value.
         ensures found { IfOk result (λ digests. IsDigestValues digests.values.items
             × (text.old ≡ digest_values_text digests.values.items ++ text.new)) }
-        // The encoding of a value decodes to that value, whatever follows it.
+        // The encoding of a value decodes to that value, whatever bytes follow.
         ensures only { (values : List DigestValue) (rest : List ℕ) → IsDigestValues values
             → text.old ≡ digest_values_text values ++ rest
             → Reads (λ digests. digests.values.items) (Ok (values, rest)) text.old result text.new }

@@ -117,10 +117,10 @@ impl PcrSelection {
         // The result is the decoded value, or the first fault.
         ensures exact { Reads (λ selection. selection.banks.items) (selection_at text.old)
             text.old result text.new }
-        // If decoding succeeds, the text starts with the encoding of the returned value.
+        // If decoding succeeds, the input starts with the encoding of the returned value.
         ensures found { IfOk result (λ selection. IsSelection selection.banks.items
             × (text.old ≡ selection_text selection.banks.items ++ text.new)) }
-        // The encoding of a value decodes to that value, whatever follows it.
+        // The encoding of a value decodes to that value, whatever bytes follow.
         ensures only { (banks : List BankSelection) (rest : List ℕ) → IsSelection banks
             → text.old ≡ selection_text banks ++ rest
             → Reads (λ selection. selection.banks.items) (Ok (banks, rest))

@@ -17,7 +17,7 @@ pub enum SymmetricDefinition {
     Null,
     /// Parameters are encrypted by AES with a 128-bit key, in cipher feedback mode.
     Aes128Cfb,
-    /// Parameters are encrypted by XOR with masks that this hash generates.
+    /// Parameters are encrypted by XOR with masks that this hash algorithm generates.
     Xor(HashAlg),
 }
 
@@ -27,15 +27,15 @@ impl SymmetricDefinition {
 
     /// Reads a symmetric definition. Fails with INSUFFICIENT if it is truncated; with SYMMETRIC if
     /// the algorithm is not NULL, AES or XOR; with VALUE if the key is not 128 bits long; with MODE
-    /// if the mode is not CFB; and with HASH if the hash is not supported.
+    /// if the mode is not CFB; and with HASH if the hash algorithm is not supported.
     pub fn read(text: &mut Cursor) -> Result<SymmetricDefinition, Rc>
         // The result is the decoded definition, or the first fault.
         ensures exact { Reads (λ definition. definition) (symmetric_at text.old) text.old
             result text.new }
-        // If decoding succeeds, the text starts with the encoding of the returned value.
+        // If decoding succeeds, the input starts with the encoding of the returned value.
         ensures found { IfOk result (λ definition.
             text.old ≡ symmetric_text definition ++ text.new) }
-        // The encoding of a value decodes to that value, whatever follows it.
+        // The encoding of a value decodes to that value, whatever bytes follow.
         ensures only { (definition : SymmetricDefinition) (rest : List ℕ)
             → text.old ≡ symmetric_text definition ++ rest
             → Reads (λ definition. definition) (Ok (definition, rest)) text.old result text.new }

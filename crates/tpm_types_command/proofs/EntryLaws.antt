@@ -1,4 +1,4 @@
--- A read returns an authorization entry or area exactly when the text starts with its encoding.
+-- A read returns an authorization entry or area exactly when the input starts with its encoding.
 use Rattle.std.proofs.Common.{◌≡◌, ℕ, zero, suc, ◌+◌, ◌^◌, ◌<◌, ◌≤◌, false, ltb, List, [], ◌∷◌, ◌++◌, length, Ok, refl, sym, ap, subst, ◌∙◌, append_assoc, arith}
 use Rattle.std.specs.List.{AllByRecursion}
 use Rattle.std.specs.Int.{w8, w32, to_be_bytes}
@@ -17,7 +17,7 @@ use Rattle.tpm_types_command.specs.AuthArea.{area_at, area_text, entries_in, ent
 
 -- ---- an entry
 
--- A read returns a sized buffer of any length exactly when the text starts with its encoding.
+-- A read returns a sized buffer of any length exactly when the input starts with its encoding.
 sized_spelled : Spelled sized_text (λ bytes. length bytes < 2 ^ 16) (λ text. or_fault (sized_at 0xffff text) (plain code.Authsize))
 sized_spelled = record {
   taken = λ bytes x fits e. let t = sized_takes 0xffff (plain code.Authsize) bytes x fits e in (t.0, t.1);

@@ -1,4 +1,4 @@
--- A read returns the header of a command exactly when the text starts with its encoding.
+-- A read returns the header of a command exactly when the input starts with its encoding.
 use Rattle.tpm_types.specs.Limits.{buffer_limit}
 use Rattle.std.proofs.Common.{◌≡◌, ℕ, ◌+◌, ◌^◌, ◌≤◌, Bool, true, false, ltb, List, ◌++◌, length, take, drop, Option, Some, Result, Ok, refl, sym, ap, subst, ◌∙◌, arith}
 use Rattle.std.specs.Prelude.{◌==◌, ◌||◌, not, ok_or}
@@ -24,14 +24,14 @@ neither : (a b : Bool) → (a || b) ≡ false → (a ≡ false) × (b ≡ false)
 neither true b e = absurd cc
 neither false b e = (refl, e)
 
--- If a text is long enough for a number, it starts with the encoding of the number that its first
--- bytes decode to.
+-- If the input is long enough for a number, it starts with the encoding of the number that its
+-- first bytes decode to.
 field_takes : (w : Width) (limit : ℕ) (wide : IsWide w limit) (bytes : List ℕ) → AreBytes bytes → byte_len w ≤ length bytes → Takes bytes (to_be_bytes w (from_be_bytes w (take (byte_len w) bytes))) (drop (byte_len w) bytes)
 field_takes w limit wide bytes fits long =
     let there : ltb (length bytes) (byte_len w) ≡ false = le-ltb _ _ long in
     (number_takes w limit wide bytes (from_be_bytes w (take (byte_len w) bytes)) (drop (byte_len w) bytes) fits (rw there refl)).0
 
--- a text of at least ten bytes starts with the three fields of a header
+-- an input of at least ten bytes starts with the three fields of a header
 fields_take : (bytes : List ℕ) → AreBytes bytes → 10 ≤ length bytes → Takes bytes (to_be_bytes w16 (tag_field bytes) ++ to_be_bytes w32 (size_field bytes) ++ to_be_bytes w32 (code_field bytes)) (drop 10 bytes)
 fields_take bytes fits long =
     let t0 : Takes bytes (to_be_bytes w16 (tag_field bytes)) (drop 2 bytes) = field_takes w16 (2 ^ 16) wide16 bytes fits (omega arith) in

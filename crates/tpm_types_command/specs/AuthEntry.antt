@@ -44,7 +44,7 @@ pub record IsEntry (e : Entry) : Type 0 where
 abbrev pub HasSizes : Entry → Type 0
 HasSizes e = (length e.nonce < 2 ^ 16) × (length e.hmac < 2 ^ 16)
 
--- the entry at the start of a text, and the rest of the text. Fails with AUTHSIZE if any part of
+-- the entry at the start of the bytes, and the remaining bytes. Fails with AUTHSIZE if any part of
 -- the entry is truncated
 unfoldable pub entry_at : List ℕ → Result (Entry × List ℕ) Rc
 entry_at text = do

@@ -84,8 +84,8 @@ pub record IsCommand (c : Whole) : Type 0 where
 
 -- ---- reading a command, up to the first fault
 
--- this many handles at the start of a text, and the rest of the text. The handles are numbered from
--- `number`. A fault contains the number of the truncated handle
+-- this many handles at the start of the bytes, and the remaining bytes. The handles are numbered
+-- from `number`. A fault contains the number of the truncated handle
 abbrev pub handles_at : ℕ → ℕ → List ℕ → Result (List Handle × List ℕ) Rc
 handles_at number zero text = Ok ([], text)
 handles_at number (suc count) text = do
@@ -102,7 +102,7 @@ abbrev pub header_or_rc : {A : Type 0} → Result A HeaderFault → Result A Rc
 header_or_rc (Ok x) = Ok x
 header_or_rc (Err fault) = Err (header_fault_rc fault)
 
--- the command that this whole text encodes. All bytes after its header, handles and authorization
+-- the command that all these bytes encode. All bytes after its header, handles and authorization
 -- area are its parameters. Therefore no bytes are left
 unfoldable pub command_at : List ℕ → Result (Whole × List ℕ) Rc
 command_at text = do

@@ -26,10 +26,10 @@ impl<'a> AuthEntry<'a> {
     pub fn read(text: &mut Cursor<'a>) -> Result<AuthEntry<'a>, Rc>
         // The result is the decoded value, or the fault.
         ensures exact { Reads entry_of (entry_at text.old) text.old result text.new }
-        // If decoding succeeds, the text starts with the encoding of the returned value.
+        // If decoding succeeds, the input starts with the encoding of the returned value.
         ensures found { IfOk result (λ entry. IsEntry (entry_of entry)
             × (text.old ≡ auth_entry_text (entry_of entry) ++ text.new)) }
-        // The encoding of a value decodes to that value, whatever follows it.
+        // The encoding of a value decodes to that value, whatever bytes follow.
         ensures only { (entry : Entry) (rest : List ℕ) → IsEntry entry
             → text.old ≡ auth_entry_text entry ++ rest
             → Reads entry_of (Ok (entry, rest)) text.old result text.new }

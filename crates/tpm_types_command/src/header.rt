@@ -52,7 +52,7 @@ impl HeaderFault {
 impl Header {
     ghost use Rattle.tpm_types_command.specs.Header.{header_at};
 
-    /// Reads the header of a command. The text must contain exactly the whole command.
+    /// Reads the header of a command. The input must be exactly the whole command.
     #[tactic(auto, unfolding(crate::specs::Header::header_at))]
     pub fn read(text: &mut Cursor) -> Result<Header, HeaderFault>
         ensures { Reads (λ header. header) (header_at text.old) text.old result text.new }

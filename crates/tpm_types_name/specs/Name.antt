@@ -11,8 +11,8 @@ use Rattle.tpm_types.specs.Algorithm.{hash_number}
 abbrev pub handle_name : Handle → List ℕ
 handle_name handle = to_be_bytes w32 handle.number
 
--- the Name of an entity whose public area is encoded as this text: a hash algorithm, followed by
--- the digest of the text
+-- the Name of an entity whose public area has this encoding: a hash algorithm, followed by the
+-- digest of the encoding
 abbrev pub hashed_name : HashAlg → List ℕ → List ℕ
 hashed_name alg text = to_be_bytes w16 (hash_number alg) ++ hash_of alg text
 

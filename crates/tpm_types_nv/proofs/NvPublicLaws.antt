@@ -1,4 +1,4 @@
--- A read returns the public area of an NV index exactly when the text starts with its encoding.
+-- A read returns the public area of an NV index exactly when the input starts with its encoding.
 use Rattle.std.proofs.Common.{◌≡◌, ℕ, ◌^◌, ◌<◌, Bool, true, false, List, [], ◌++◌, length, Ok, refl, subst, append_assoc, append-nil, arith, length-append}
 use Rattle.std.specs.Prelude.{not}
 use Rattle.std.specs.Int.{w16, w32, to_be_bytes}

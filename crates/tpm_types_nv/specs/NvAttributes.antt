@@ -98,7 +98,7 @@ nv_attributes_text attributes = to_be_bytes w32 attributes.bits
 abbrev pub IsNvAttributes : NvAttributes → Type 0
 IsNvAttributes attributes = AreAttributeBits reserved_bits attributes.bits
 
--- the attributes of an index at the start of a text, and the rest of the text
+-- the attributes of an index at the start of the bytes, and the remaining bytes
 unfoldable pub nv_attributes_at : List ℕ → Result (NvAttributes × List ℕ) Rc
 nv_attributes_at text = do
   bits ← attribute_bits_at reserved_bits text

@@ -18,7 +18,7 @@ use Rattle.tpm_types.specs.Rc.{plain}
 abbrev pub nv_index_text : Handle → List ℕ
 nv_index_text handle = to_be_bytes w32 handle.number
 
--- the handle of an index at the start of a text, and the rest of the text
+-- the handle of an index at the start of the bytes, and the remaining bytes
 unfoldable pub nv_index_at : List ℕ → Result (Handle × List ℕ) Rc
 nv_index_at text = do
   number ← or_fault (number_at w32 text) (plain code.Insufficient)
@@ -44,7 +44,7 @@ pub record IsNvPublic (p : NvPublic) : Type 0 where
   pub auth_policy : length p.auth_policy ≤ 32
   pub data_size : p.data_size < 2 ^ 16
 
--- the public area at the start of a text, and the rest of the text
+-- the public area at the start of the bytes, and the remaining bytes
 unfoldable pub nv_public_at : List ℕ → Result (NvPublic × List ℕ) Rc
 nv_public_at text = do
   nv_index ← nv_index_at text

@@ -32,10 +32,10 @@ impl NvPublic {
     pub fn read(text: &mut Cursor) -> Result<NvPublic, Rc>
         // The result is the decoded value, or the first fault.
         ensures exact { Reads (λ public. public) (nv_public_at text.old) text.old result text.new }
-        // If decoding succeeds, the text starts with the encoding of the returned value.
+        // If decoding succeeds, the input starts with the encoding of the returned value.
         ensures found { IfOk result (λ public. IsNvPublic public
             × (text.old ≡ nv_public_text public ++ text.new)) }
-        // The encoding of a value decodes to that value, whatever follows it.
+        // The encoding of a value decodes to that value, whatever bytes follow.
         ensures only { (public : NvPublic) (rest : List ℕ) → IsNvPublic public
             → text.old ≡ nv_public_text public ++ rest
             → Reads (λ public. public) (Ok (public, rest)) text.old result text.new }
@@ -43,8 +43,8 @@ impl NvPublic {
         NvPublic::read_fields(text)
     }
 
-    /// Reads a public area that fills a sized buffer (TPM2B_NV_PUBLIC). Fails like
-    /// [`tpm_types::read_filled`].
+    /// Reads a public area that fills a sized buffer (TPM2B_NV_PUBLIC). Fails as
+    /// [`tpm_types::read_filled`] does.
     pub fn read_sized(text: &mut Cursor) -> Result<NvPublic, Rc>
         ensures exact { Reads (λ public. public) (filled_by nv_public_at text.old) text.old
             result text.new }

@@ -1,4 +1,4 @@
--- A read returns creation data exactly when the text starts with their encoding.
+-- A read returns creation data exactly when the input starts with their encoding.
 use Rattle.std.proofs.Common.{ℕ, ◌^◌, ◌<◌, List, ◌++◌, length, Option, refl, arith, length-append}
 use Rattle.std.specs.Int.{w8, w16, to_be_bytes}
 use Rattle.tpm_bytes.specs.Writing.{sized_text}

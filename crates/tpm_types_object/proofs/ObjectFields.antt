@@ -1,5 +1,5 @@
 -- The type and the attributes of an object: a read returns one of these fields exactly when the
--- text starts with its encoding.
+-- input starts with its encoding.
 use Rattle.std.proofs.Common.{◌≡◌, ℕ, ◌^◌, ◌<◌, Some, None, refl, arith}
 use Rattle.tpm_types.specs.declared.rc.ResponseCode.TheVariants as code
 use Rattle.tpm_types.proofs.Named.{link, named_spelled, none}
@@ -21,11 +21,11 @@ pub object_type_number-small : (type : ObjectType) → object_type_number type <
 object_type_number-small object.KeyedHash = omega arith
 object_type_number-small object.SymCipher = omega arith
 
--- A read returns an object type exactly when the text starts with its encoding.
+-- A read returns an object type exactly when the input starts with its encoding.
 pub object_type_spelled : Spelled object_type_text (λ type. Unit {0}) object_type_at
 unfolding object_type_at
 object_type_spelled = named_spelled object_type_number object_type_named code.Type object_type_named-is object_type_named-again object_type_number-small
 
--- A read returns an object's attributes exactly when the text starts with their encoding.
+-- A read returns an object's attributes exactly when the input starts with their encoding.
 pub attributes_spelled : Spelled attributes_text IsAttributes attributes_at
 attributes_spelled = attribute_bits_spelled reserved_bits

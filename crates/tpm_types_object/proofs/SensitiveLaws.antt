@@ -1,4 +1,4 @@
--- A read returns a sensitive area exactly when the text starts with its encoding. The same is true
+-- A read returns a sensitive area exactly when the input starts with its encoding. The same is true
 -- of the values that a caller provides for a new sensitive area.
 use Rattle.std.proofs.Common.{ℕ, ◌^◌, ◌<◌, List, ◌++◌, length, refl, arith, length-append}
 use Rattle.tpm_bytes.specs.Writing.{sized_text}

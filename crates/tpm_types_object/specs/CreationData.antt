@@ -29,7 +29,7 @@ pub record IsCreationData (c : CreationData) : Type 0 where
   pub parent_qualified_name : length c.parent_qualified_name ≤ 34
   pub outside_info : length c.outside_info ≤ 34
 
--- the creation data at the start of a text, and the rest of the text
+-- the creation data at the start of the bytes, and the remaining bytes
 unfoldable pub creation_data_at : List ℕ → Result (CreationData × List ℕ) Rc
 creation_data_at text = do
   pcr_select ← selection_at text

@@ -52,6 +52,6 @@ attributes_text attributes = to_be_bytes w32 attributes
 abbrev pub IsAttributes : ℕ → Type 0
 IsAttributes attributes = AreAttributeBits reserved_bits attributes
 
--- the attributes of an object at the start of a text, and the rest of the text
+-- the attributes of an object at the start of the bytes, and the remaining bytes
 abbrev pub attributes_at : List ℕ → Result (ℕ × List ℕ) Rc
 attributes_at text = attribute_bits_at reserved_bits text

@@ -38,7 +38,7 @@ object_type_named number =
 abbrev pub object_type_text : ObjectType → List ℕ
 object_type_text type = to_be_bytes w16 (object_type_number type)
 
--- the object type at the start of a text, and the rest of the text
+-- the object type at the start of the bytes, and the remaining bytes
 unfoldable pub object_type_at : List ℕ → Result (ObjectType × List ℕ) Rc
 object_type_at text = do
   number ← or_fault (number_at w16 text) (plain code.Insufficient)
@@ -57,20 +57,20 @@ hmac_at text = do
   hash ← hash_at text
   Ok (Hmac hash.0, hash.1)
 
--- the scheme of a KEYEDHASH object, given its scheme number, and the rest of the text. The other
--- fields of the scheme are at the start of the text
+-- the scheme of a KEYEDHASH object with this scheme number, whose other fields are at the start of
+-- the bytes, and the remaining bytes
 abbrev pub behind_scheme_at : ℕ → List ℕ → Result (KeyedHashScheme × List ℕ) Rc
 behind_scheme_at number text =
     if number == 0x0010 then Ok (Null, text)
     else (if number == 0x0005 then hmac_at text else Err (plain code.Scheme))
 
--- the scheme of a KEYEDHASH object at the start of a text, and the rest of the text
+-- the scheme of a KEYEDHASH object at the start of the bytes, and the remaining bytes
 unfoldable pub scheme_at : List ℕ → Result (KeyedHashScheme × List ℕ) Rc
 scheme_at text = do
   scheme ← or_fault (number_at w16 text) (plain code.Insufficient)
   behind_scheme_at scheme.0 scheme.1
 
--- the parameters of a SYMCIPHER object at the start of a text, and the rest of the text. The
+-- the parameters of a SYMCIPHER object at the start of the bytes, and the remaining bytes. The
 -- parameters are a cipher
 unfoldable pub sym_cipher_at : List ℕ → Result (PublicParameters × List ℕ) Rc
 sym_cipher_at text = do
@@ -82,7 +82,7 @@ keyed_hash_at text = do
   scheme ← scheme_at text
   Ok (parameters_of.KeyedHash scheme.0, scheme.1)
 
--- the parameters of an object of this type at the start of a text, and the rest of the text
+-- the parameters of an object of this type at the start of the bytes, and the remaining bytes
 abbrev pub parameters_at : ObjectType → List ℕ → Result (PublicParameters × List ℕ) Rc
 parameters_at object.KeyedHash text = keyed_hash_at text
 parameters_at object.SymCipher text = sym_cipher_at text
@@ -117,7 +117,7 @@ pub record IsPublic (p : Public) : Type 0 where
   pub auth_policy : length p.auth_policy ≤ 32
   pub unique : length p.unique ≤ 32
 
--- the public area at the start of a text, and the rest of the text
+-- the public area at the start of the bytes, and the remaining bytes
 unfoldable pub public_at : List ℕ → Result (Public × List ℕ) Rc
 public_at text = do
   type ← object_type_at text

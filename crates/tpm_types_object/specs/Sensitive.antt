@@ -21,7 +21,7 @@ pub record IsSensitive (s : Sensitive) : Type 0 where
   pub seed_value : length s.seed_value ≤ 32
   pub sensitive : length s.sensitive ≤ sensitive_limit
 
--- the sensitive area at the start of a text, and the rest of the text
+-- the sensitive area at the start of the bytes, and the remaining bytes
 unfoldable pub sensitive_at : List ℕ → Result (Sensitive × List ℕ) Rc
 sensitive_at text = do
   type ← object_type_at text

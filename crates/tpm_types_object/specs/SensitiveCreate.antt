@@ -9,7 +9,7 @@ use Rattle.tpm_types_object.specs.declared.sensitive_create.SensitiveCreate.{Sen
 use Rattle.tpm_types.specs.Buffer.{buffer_at}
 
 -- the values that a caller provides, regardless of where they are in memory. The field `data` is
--- quoted because this word is a keyword
+-- quoted because its name is a keyword
 pub record SensitiveValues : Type 0 where
   pub user_auth : List ℕ
   pub «data» : List ℕ
@@ -27,7 +27,7 @@ pub record IsSensitiveCreate (s : SensitiveValues) : Type 0 where
   pub user_auth : length s.user_auth ≤ 32
   pub «data» : length s.«data» ≤ sensitive_limit
 
--- the values for a new sensitive area at the start of a text, and the rest of the text
+-- the values for a new sensitive area at the start of the bytes, and the remaining bytes
 unfoldable pub sensitive_create_at : List ℕ → Result (SensitiveValues × List ℕ) Rc
 sensitive_create_at text = do
   user_auth ← buffer_at 32 text

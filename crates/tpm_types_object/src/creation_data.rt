@@ -39,10 +39,10 @@ impl CreationData {
         // The result is the decoded value, or the first fault.
         ensures exact { Reads (λ creation. creation) (creation_data_at text.old)
             text.old result text.new }
-        // If decoding succeeds, the text starts with the encoding of the returned value.
+        // If decoding succeeds, the input starts with the encoding of the returned value.
         ensures found { IfOk result (λ creation. IsCreationData creation
             × (text.old ≡ creation_data_text creation ++ text.new)) }
-        // The encoding of a value decodes to that value, whatever follows it.
+        // The encoding of a value decodes to that value, whatever bytes follow.
         ensures only { (creation : CreationData) (rest : List ℕ) → IsCreationData creation
             → text.old ≡ creation_data_text creation ++ rest
             → Reads (λ creation. creation) (Ok (creation, rest)) text.old result text.new }
@@ -50,7 +50,7 @@ impl CreationData {
         CreationData::read_fields(text)
     }
 
-    /// Reads creation data that fill a sized buffer (TPM2B). Fails like [`read_filled`].
+    /// Reads creation data that fill a sized buffer (TPM2B). Fails as [`read_filled`] does.
     pub fn read_sized(text: &mut Cursor) -> Result<CreationData, Rc>
         ensures exact { Reads (λ creation. creation) (filled_by creation_data_at text.old) text.old
             result text.new }

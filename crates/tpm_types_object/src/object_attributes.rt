@@ -68,7 +68,7 @@ impl ObjectAttributes {
         ObjectAttributes { bits: 0 }
     }
 
-    /// The number that the attributes' bits form.
+    /// The attributes as a 32-bit number.
     pub fn bits(self) -> u32
         ensures value { result ≡ self }
         ensures is_attributes { IsAttributes self }

@@ -216,10 +216,10 @@ impl Public {
     pub fn read(text: &mut Cursor) -> Result<Public, Rc>
         // The result is the decoded value, or the first fault.
         ensures exact { Reads (λ public. public) (public_at text.old) text.old result text.new }
-        // If decoding succeeds, the text starts with the encoding of the returned value.
+        // If decoding succeeds, the input starts with the encoding of the returned value.
         ensures found { IfOk result (λ public. IsPublic public
             × (text.old ≡ public_text public ++ text.new)) }
-        // The encoding of a value decodes to that value, whatever follows it.
+        // The encoding of a value decodes to that value, whatever bytes follow.
         ensures only { (public : Public) (rest : List ℕ) → IsPublic public
             → text.old ≡ public_text public ++ rest
             → Reads (λ public. public) (Ok (public, rest)) text.old result text.new }
@@ -227,7 +227,7 @@ impl Public {
         Public::read_fields(text)
     }
 
-    /// Reads a public area that fills a sized buffer (TPM2B). Fails like [`read_filled`].
+    /// Reads a public area that fills a sized buffer (TPM2B). Fails as [`read_filled`] does.
     pub fn read_sized(text: &mut Cursor) -> Result<Public, Rc>
         ensures exact { Reads (λ public. public) (filled_by public_at text.old) text.old
             result text.new }

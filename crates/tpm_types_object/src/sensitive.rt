@@ -32,10 +32,10 @@ impl Sensitive {
     pub fn read(text: &mut Cursor) -> Result<Sensitive, Rc>
         // The result is the decoded value, or the first fault.
         ensures exact { Reads (λ area. area) (sensitive_at text.old) text.old result text.new }
-        // If decoding succeeds, the text starts with the encoding of the returned value.
+        // If decoding succeeds, the input starts with the encoding of the returned value.
         ensures found { IfOk result (λ area. IsSensitive area
             × (text.old ≡ sensitive_text area ++ text.new)) }
-        // The encoding of a value decodes to that value, whatever follows it.
+        // The encoding of a value decodes to that value, whatever bytes follow.
         ensures only { (area : Sensitive) (rest : List ℕ) → IsSensitive area
             → text.old ≡ sensitive_text area ++ rest
             → Reads (λ area. area) (Ok (area, rest)) text.old result text.new }
@@ -43,7 +43,7 @@ impl Sensitive {
         Sensitive::read_fields(text)
     }
 
-    /// Reads a sensitive area that fills a sized buffer (TPM2B). Fails like [`read_filled`].
+    /// Reads a sensitive area that fills a sized buffer (TPM2B). Fails as [`read_filled`] does.
     pub fn read_sized(text: &mut Cursor) -> Result<Sensitive, Rc>
         ensures exact { Reads (λ area. area) (filled_by sensitive_at text.old) text.old
             result text.new }

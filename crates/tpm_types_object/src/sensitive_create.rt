@@ -31,10 +31,10 @@ impl<'a> SensitiveCreate<'a> {
         ensures exact { Reads sensitive_values_of (sensitive_create_at text.old) text.old
             result text.new }
         ensures fits { IfOk result (λ given. IsSensitiveCreate (sensitive_values_of given)) }
-        // If decoding succeeds, the text starts with the encoding of the returned value.
+        // If decoding succeeds, the input starts with the encoding of the returned value.
         ensures found { IfOk result (λ given.
             text.old ≡ sensitive_create_text (sensitive_values_of given) ++ text.new) }
-        // The encoding of a value decodes to that value, whatever follows it.
+        // The encoding of a value decodes to that value, whatever bytes follow.
         ensures only { (given : SensitiveValues) (rest : List ℕ) → IsSensitiveCreate given
             → text.old ≡ sensitive_create_text given ++ rest
             → Reads sensitive_values_of (Ok (given, rest)) text.old result text.new }
@@ -42,7 +42,7 @@ impl<'a> SensitiveCreate<'a> {
         SensitiveCreate::read_fields(text)
     }
 
-    /// Reads values that fill a sized buffer (TPM2B). Fails like [`read_filled`].
+    /// Reads values that fill a sized buffer (TPM2B). Fails as [`read_filled`] does.
     pub fn read_sized(text: &mut Cursor<'a>) -> Result<SensitiveCreate<'a>, Rc>
         ensures exact { Reads sensitive_values_of (filled_by sensitive_create_at text.old) text.old
             result text.new }

@@ -16,13 +16,13 @@ use tpm_bytes::Cursor;
 use tpm_types::{Handle, Rc, ResponseCode};
 
 impl<'a> Command<'a> {
-    /// Reads a command, which must fill the rest of the text and fit in a command buffer. Fails
+    /// Reads a command, which must fill the rest of the input and fit in a command buffer. Fails
     /// with the first fault of its header, with INSUFFICIENT for the first truncated handle, or
     /// with AUTHSIZE for any fault in its authorization area.
     pub fn read(text: &mut Cursor<'a>) -> Result<Command<'a>, Rc>
         // The result is the decoded command, or the first fault.
         ensures exact { Reads whole_of (command_at text.old) text.old result text.new }
-        // If decoding succeeds, the text is exactly the encoding of the returned command.
+        // If decoding succeeds, the input is exactly the encoding of the returned command.
         ensures found { IfOk result (λ command. IsCommand (whole_of command)
             × (text.old ≡ command_text (whole_of command)) × (text.new ≡ [])) }
         // The encoding of a command decodes to that command.
