@@ -1,4 +1,4 @@
--- Executing an entry again has the same effect as the command had.
+-- Executing the entry of a command has the same effect as the command had.
 use Rattle.std.proofs.Common.{◌≡◌, ◌≤◌, ◌-◌, ◌&&◌, ℕ, Bool, true, false, List, [], ◌∷◌, ◌++◌, length, replicate, take, Option, Some, None, Result, Ok, Err, refl, sym, ap, ◌∙◌, get_or, arith, if◌then◌else◌}
 use Rattle.std.specs.Int.{w32, to_be_bytes}
 use Rattle.std.proofs.lemmas.Bool.{false≢true}
@@ -32,8 +32,8 @@ use Rattle.tpm_kept_journal.specs.State.{DeviceState}
 
 -- ---- without the completing layer
 
--- The check that the step reports does not affect the number of bytes drawn: a refused command
--- draws none.
+-- The number of bytes drawn does not depend on the check that refused the command, because a
+-- refused command draws none.
 drawn_told : (r : Record) (random : List ℕ) (a : Result Accepted RefusedCommand)
     → drawn_by_command random a (stepped_of r random a).row.check ≡ drawn_by_command random a 0
 drawn_told r random (Ok a) = refl
