@@ -81,7 +81,7 @@ impl Place {
         }
     }
 
-    /// Returns this fault of the place, without a system error.
+    /// Returns this fault of the file or folder, without a system error.
     pub fn that(self, said: Said) -> KeptFault
         ensures { result ≡ record { place = self; said = said; error = None } }
     {
