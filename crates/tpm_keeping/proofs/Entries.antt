@@ -157,7 +157,7 @@ whole_in_entered j s cs count entered =
     let front = is_front j s cs count in
     entered_first j (whole_in j s cs count) front.more (subst (Entered j) front.is entered)
 
--- Truncation keeps each command whose entry ends before the cut.
+-- Truncation to `count` bytes keeps each command whose entry ends within these bytes.
 pub keeps_sure : (j : Journal) (s : Spot) (surely rest : List (List ℕ)) (count : ℕ) → length (entries j s surely) ≤ count
     → whole_in j s (surely ++ rest) count ≡ surely ++ whole_in j (trail j s surely) rest (count - length (entries j s surely))
 keeps_sure j s [] rest count le = let same : count ≡ count - 0 = omega arith in ap (whole_in j s rest) same

@@ -68,7 +68,8 @@ pub struct KeptFault {
 }
 
 impl Place {
-    /// Returns the part of the place's path that follows the folder's path.
+    /// Returns the part of the file's or folder's path that follows the path of the device's
+    /// folder.
     pub fn file(self) -> &'static str
         ensures { result.now ≡ place_file self }
     {

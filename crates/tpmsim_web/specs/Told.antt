@@ -49,7 +49,7 @@ abbrev pub restore_number : RestoreFault → ℕ
 restore_number (restore.Text fault) = state_number fault
 restore_number restore.NoMemory = no_memory
 
--- `done` if all bytes were executed, and otherwise the number of the error
+-- `done` if all entries were executed, and otherwise the number of the error
 abbrev pub follow_number : Option FollowFault → ℕ
 follow_number None = done
 follow_number (Some follow.Damaged) = 11

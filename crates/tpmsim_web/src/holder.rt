@@ -63,7 +63,7 @@ impl Holder {
         }
     }
 
-    /// Returns a holder of this device, which stays where it is.
+    /// Returns a holder of this device, which is not moved.
     pub fn of(device: Box<Device, Lent>) -> Holder
         ensures { result.device ≡ Some device.value }
     {

@@ -60,7 +60,7 @@ pub fn restore_number(fault: RestoreFault) -> u8
     }
 }
 
-/// Returns DONE if all bytes were executed, and otherwise the number of the error.
+/// Returns DONE if all entries were executed, and otherwise the number of the error.
 pub fn follow_number(fault: Option<FollowFault>) -> u8
     ensures { result ≡ follow_number fault }
 {

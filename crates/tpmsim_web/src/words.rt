@@ -78,8 +78,8 @@ pub extern "C" fn command_number(name: &[u8]) -> u32
     }
 }
 
-/// Writes the form of the words for the command with this code to the start of a buffer, if it
-/// fits. Returns its size, whether it was written or not; 0 if there is no such command.
+/// Writes the syntax of the command with this code, in words, to the start of a buffer, if it fits.
+/// Returns its size, whether it was written or not; 0 if there is no such command.
 #[unsafe(no_mangle)]
 pub extern "C" fn command_form(number: u32, form: &mut [u8; 256]) -> usize
     ensures { MatchOption (code_named number) ((result ≡ 0) × (form.new ≡ form.old))
