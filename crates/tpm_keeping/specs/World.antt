@@ -138,8 +138,8 @@ with_holder s holders p k = record { shared = s; holders = λ q. cond (q == p) k
 abbrev pub written : (text : List ℕ) → (at : ℕ) → (bytes : List ℕ) → List ℕ
 written text at bytes = take at text ++ (bytes ++ drop (at + length bytes) text)
 
--- the command that gets an entry in the journal or in a new one (`adds`), or the command without an
--- entry after which a new journal begins (`leads`), if the job has one
+-- the job's command, if it gets an entry in the old or the new journal (`adds`), or if it has no
+-- entry and a new journal begins after it (`leads`)
 abbrev pub adds : Journal → Job → List ℕ → List (List ℕ)
 adds j Execute c = cond (j.is_entered c) (c ∷ []) []
 adds j job c = []

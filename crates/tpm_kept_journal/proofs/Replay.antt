@@ -90,8 +90,8 @@ module _ (c : Completion) (old : Record) (buffer : List ℕ) (locality elapsed :
   pub few_drawn : (passed c old (event random)).drawn ≤ length random
   few_drawn = omega (arith, passed_drawn, drawn_few)
 
-  -- If a command draws no random bytes, its effect is the same with other random bytes of the same
-  -- number.
+  -- If a command draws no random bytes, its effect is the same with any other random bytes, if
+  -- there are as many of them.
   pub passed_anyhow : (other : List ℕ) → drawn ≡ 0 → length other ≡ length random → passed c old (event other) ≡ passed c old (event random)
   passed_anyhow other none as_long =
       passed_alike other (as_long, ap (λ (n : ℕ). take n other) none ∙ ap (λ (n : ℕ). take n random) (sym none))

@@ -1,4 +1,4 @@
--- Decoding the encoding of a device's state gives this state again.
+-- Decoding an encoded state of a device gives this state again.
 use Rattle.std.proofs.Common.{◌≡◌, ◌<◌, ◌^◌, ℕ, List, Option, Some, None, Result, Ok, Err, refl, ap, ◌∙◌, drop_at, take_at}
 use Rattle.std.specs.Int.{w64, from_be_bytes, to_be_bytes}
 use Rattle.tpm_image_text.proofs.FieldSpelling.{wide64}

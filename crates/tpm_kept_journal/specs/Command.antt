@@ -1,4 +1,5 @@
--- A command to a kept device, encoded as bytes that contain everything on which its effect depends.
+-- A command to a kept device, and its encoding, which contains everything on which the command's
+-- effect depends.
 use Rattle.std.specs.Prelude.{◌≡◌, ℕ, ◌≤◌, ◌==◌, nat_le, not, Bool, true, false, List, length, if◌then◌else◌, Result, Ok, Err}
 use Rattle.std.specs.Int.{w8, w32, w64}
 use Rattle.tpm_bytes.specs.Reading.{◌>>=◌, AreBytes, refused_if}

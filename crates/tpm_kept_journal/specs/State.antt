@@ -1,4 +1,4 @@
--- The state of a kept device, encoded as bytes: the time of its journal, and the state text of the
+-- The state of a kept device, and its encoding: the time of its journal, and the state text of the
 -- device and its completing layer.
 use Rattle.std.specs.Prelude.{ℕ, ◌<◌, ◌^◌, List, ◌++◌, drop, take, Option, Some, None, Result, Ok, Err}
 use Rattle.std.specs.Int.{w64, from_be_bytes, to_be_bytes}

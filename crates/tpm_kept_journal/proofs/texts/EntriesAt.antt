@@ -1,4 +1,4 @@
--- `entries_at` returns the entries with which the bytes begin, and stops where no further entry
+-- `entries_at` returns the entries with which its argument begins, and stops where no further entry
 -- begins.
 use Rattle.std.proofs.Common.{◌≡◌, ℕ, zero, suc, ◌≤◌, List, [], ◌∷◌, ◌++◌, length, drop, Option, Some, None, refl, ap, sym, ◌∙◌, append_assoc, arith, length-append}
 use Rattle.std.specs.List.{AllByRecursion}

@@ -66,8 +66,7 @@ read_are_bytes digits (Err fault) is = bytes_nil
 pub spelled_are_bytes : (digits : List ℕ) → AreBytes (spelled digits)
 spelled_are_bytes digits = read_are_bytes digits (decode_of digits) refl
 
--- If the hex digits of these bytes are at an offset, `hex_at` at this offset returns
--- these bytes.
+-- If an offset has the hex digits of these bytes, `hex_at` returns these bytes for that offset.
 pub hex_is_at : (place count : ℕ) (text bytes : List ℕ) → AreBytes bytes → count ≡ length bytes
     → take (2 * length bytes) (drop place text) ≡ encode_lower bytes → hex_at place count text ≡ bytes
 hex_is_at place count text bytes are many at =

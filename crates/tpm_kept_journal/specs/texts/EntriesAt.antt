@@ -1,4 +1,4 @@
--- The entries at the start of the bytes, one after another.
+-- The entries at the start of a list of bytes, one after another.
 use Rattle.std.specs.Prelude.{ℕ, zero, suc, List, [], ◌∷◌, drop, length, Option, Some, None}
 use Rattle.tpm_journal_text.specs.Entry.{PlainEntry, entry_text, sum_after}
 use Rattle.tpm_journal_text.specs.Journal.{entries_text}

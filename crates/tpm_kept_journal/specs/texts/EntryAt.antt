@@ -1,4 +1,4 @@
--- The entry at the start of the bytes.
+-- The entry at the start of a list of bytes.
 use Rattle.std.specs.Prelude.{ℕ, ◌+◌, ◌*◌, ◌^◌, ◌==◌, ◌&&◌, nat_le, nat_lt, Bool}
 use Rattle.std.specs.Prelude.{List, drop, length, max, slice_index, take, Option}
 use Rattle.std.specs.Int.{w32, w64, from_be_bytes}

@@ -1,4 +1,4 @@
--- The head at the start of the bytes.
+-- The head at the start of a list of bytes.
 use Rattle.std.specs.Prelude.{ℕ, ◌^◌, ◌&&◌, nat_le, nat_lt, Bool, cond, List, drop, length, take, Option}
 use Rattle.std.specs.Int.{w32, w64, from_be_bytes}
 use Rattle.tpm_journal_text.specs.Head.{content_limit, head_text, head_word}

@@ -1,4 +1,4 @@
--- Whether the bytes begin with an entry, are torn, or are damaged.
+-- Whether a list of bytes begins with an entry, is torn, or is damaged.
 use Rattle.std.specs.Prelude.{◌≡◌, ℕ, ◌++◌, Bool, true, false, List, drop, length, Option, Some, None}
 use Rattle.tpm_journal_text.specs.Entry.{IsEntry, PlainEntry, entry_text, plain_entry}
 use Rattle.tpm_journal_text.specs.Journal.{IsDamaged, IsTorn}
