@@ -15,7 +15,7 @@ use Rattle.tpm_keeping.specs.declared.holder.Job.TheVariants.{Execute, Renew, Sh
 use Rattle.tpm_keeping.specs.declared.holder.End.TheVariants as ending
 use Rattle.tpm_keeping.specs.declared.holder.Phase.TheVariants.{Reading, Putting, Settling, Leaving}
 
--- ---- reading the file leads to its state
+-- ---- the state after reading the file
 
 pub record IsCaughtUp (j : Journal) (s : Shared) (k : Holder) : Type 0 where
   pub taken : ℕ
