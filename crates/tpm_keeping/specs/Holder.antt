@@ -84,8 +84,9 @@ newborn force limit = record {
   response = [];
 }
 
--- the holder without the call in progress, if any, and without what it knows. The call was
--- interrupted, or was made by the parent of a fork
+-- the holder after a call in progress was dropped: the call was interrupted, or was made by the
+-- parent of a fork. The holder then knows nothing. If no call is in progress, the holder is
+-- unchanged
 abbrev pub rests_in : Phase → Holder → Holder
 rests_in (Ended e) k = k
 rests_in phase k = newborn k.force k.limit

@@ -124,7 +124,7 @@ pub data Event : Type 0 where
   Dies : (p : ℕ) → (effect : Effect) → Event
   Forks : (p child : ℕ) → Event
   Drops : Event
-  -- The host crashes. The file is left with one of its contents, followed by this litter. The
+  -- The host crashes. This file is left with one of its contents, followed by this litter. The
   -- content is truncated at the byte `far`, but not before the end of the bytes on the disk.
   Crashes : (file content far : ℕ) → (litter : List ℕ) → Event
 
