@@ -1,4 +1,4 @@
--- A completed call sends its response, and keeps the promise of its holder's word of force.
+-- A completed call sends its response and promises what its holder's `force` setting requires.
 use Rattle.std.proofs.Common.{◌≡◌, ◌⊎◌, ℕ, ◌<◌, ◌≤◌, Bool, true, false, cond, List, [], ◌∷◌, ◌++◌, length, refl, sym, ap, ◌∙◌, subst, arith, inl, inr, length-append}
 use Rattle.std.specs.List.{AllByRecursion}
 use Rattle.std.proofs.lemmas.List.{append-nil}
@@ -16,7 +16,8 @@ use Rattle.tpm_keeping.specs.declared.holder.End.{End}
 use Rattle.tpm_keeping.specs.declared.holder.End.TheVariants as ending
 use Rattle.tpm_keeping.specs.declared.holder.Phase.TheVariants.{Leaving}
 
--- After a call, either the whole history is promised (no crash removes it), or no more than before.
+-- After a call, either the whole history is promised (no crash removes it), or the number of
+-- promised commands has not changed.
 promise_is : (j : Journal) (force : Force) (job : Job) (c : List ℕ) (s : Shared)
     → ((promises j force job c ≡ true) × (promise j force job c s ≡ length s.history)) ⊎ (promise j force job c s ≡ s.promised)
 promise_is j Always job c s = inl (refl, refl)

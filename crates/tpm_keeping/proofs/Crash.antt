@@ -105,7 +105,7 @@ left_text j f c count litter laws lives entered ok t le =
       torn = cut.torn;
     }
 
--- a crash leaves at least the commands whose entries are on the disk
+-- the commands that a crash leaves include all whose entries are on the disk
 left_sure : (j : Journal) (head : List ℕ) (start : Spot) (surely rest : List (List ℕ)) (c : Content) (count : ℕ) → c.commands ≡ surely ++ rest
     → length (whole j head start surely) ≤ count → length surely ≤ length (whole_in j start c.commands (count - length head))
 left_sure j head start surely rest c count has le =

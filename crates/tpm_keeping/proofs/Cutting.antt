@@ -1,4 +1,4 @@
--- A cut begins a new journal, in the state to which a prefix of the damaged journal decodes.
+-- A cut begins a new journal, in the state after a prefix of the damaged journal.
 use Rattle.std.proofs.Common.{◌≡◌, ℕ, ◌+◌, ◌<◌, ◌||◌, Bool, true, false, cond, List, [], ◌∷◌, ◌++◌, length, take, Some, None, Option, refl, sym, subst, arith}
 use Rattle.tpm_keeping.specs.Journal.{Journal, IsJournal, Spot}
 use Rattle.tpm_keeping.specs.Holder.{Holder, Told, Done, Stands, Gone, Bytes, acts, begins, caught_up, finishes, found, goes, is_always, is_never, is_read, knows_file, looked, newborn, next_in, next_of, reads_on, salvages, salvages_of}
@@ -13,8 +13,8 @@ use Rattle.tpm_keeping.specs.declared.holder.Phase.TheVariants.{Ended, Locking, 
 abbrev Opens : Holder → Type 0
 Opens k = k.device ≡ None → k.place ≡ 0
 
--- If the holder has to make a new journal, that journal begins in a state to which a prefix of the
--- text decodes.
+-- If the holder has to make a new journal, that journal begins in the state after a prefix of the
+-- bytes.
 abbrev IsCut : Journal → (text : List ℕ) → Holder → Type 0
 IsCut j text k = k.phase ≡ Making → KeepsFront j text k
 

@@ -19,7 +19,7 @@ use Rattle.tpm_keeping.specs.declared.holder.End.TheVariants as ending
 use Rattle.tpm_keeping.specs.declared.holder.Phase.{Phase}
 use Rattle.tpm_keeping.specs.declared.holder.Phase.TheVariants.{Ended, Locking, Looking, Reading, Putting, Forcing, Making, Naming, Settling, Leaving}
 
--- A holder in this phase ends its call in the way `e` after at most `steps` steps.
+-- A holder in this phase ends its call with the result `e` after at most `steps` steps.
 abbrev Heads : Phase → (e : End) → Journal → Shared → Holder → (steps : ℕ) → Type 0
 Heads (Ended x) e j s k n = (x ≡ e) × (s.locked ≡ false)
 Heads Locking e j s k n = (s.locked ≡ false) × (end_of j s.file k.job k.command ≡ e) × (6 + length s.file.now.text ≤ n)
@@ -122,7 +122,7 @@ looks_heads e j s k more n laws still knows is le = by (s.file.number == 0) refl
 
 -- ---- one step of the process
 
--- The process `p` ends its call in the way `e` after at most `steps` steps.
+-- The process `p` ends its call with the result `e` after at most `steps` steps.
 abbrev HeadsIn : (e : End) → Journal → World → (p steps : ℕ) → Type 0
 HeadsIn e j w p n = HeadsFor e j w.shared (w.holders p) n
 
@@ -181,7 +181,7 @@ does_heads Settling e j w p more n laws fine now is h =
 
 -- ---- all steps
 
--- a holder that is zero steps away from its end has ended
+-- a holder with zero steps left has ended its call
 ended : (phase : Phase) (e : End) (j : Journal) (s : Shared) (k : Holder) → Heads phase e j s k 0 → (phase ≡ Ended e) × (s.locked ≡ false)
 ended (Ended x) e j s k h = (ap (λ (y : End). Ended y) h.0, h.1)
 ended Locking e j s k h = absurd (omega (arith, h.2))

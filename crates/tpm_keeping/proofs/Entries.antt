@@ -31,12 +31,12 @@ pub trail_both : (j : Journal) (p : Spot) (cs ds : List (List ℕ)) → trail j 
 trail_both j p [] ds = refl
 trail_both j p (c ∷ cs) ds = trail_both j (stepped j p c) cs ds
 
--- The position after a list of entries has the state that executing their commands leads to.
+-- The state after a list of entries is the result of executing their commands.
 pub trail_state : (j : Journal) (p : Spot) (cs : List (List ℕ)) → (trail j p cs).state ≡ run j p.state cs
 trail_state j p [] = refl
 trail_state j p (c ∷ cs) = trail_state j (stepped j p c) cs
 
--- Executing commands in a valid state leads to a valid state.
+-- The result of executing commands in a valid state is a valid state.
 pub run_lives : (j : Journal) (s : List ℕ) (cs : List (List ℕ)) → IsJournal j → j.is_state s ≡ true → j.is_state (run j s cs) ≡ true
 run_lives j s [] laws lives = lives
 run_lives j s (c ∷ cs) laws lives = run_lives j (j.after s c) cs laws (laws.leads s c lives)
@@ -73,8 +73,8 @@ front_past x y count le =
 front_twice : (n : ℕ) (x : List ℕ) → take n (take n x) ≡ take n x
 front_twice n x = take_all n (take n x) (grind (arith, common_steps))
 
--- The text of some entries is truncated, and litter is appended. What is left consists of complete
--- entries and less than one more entry.
+-- The encoding of some entries is truncated, and litter is appended. What is left consists of
+-- complete entries and less than one more entry.
 pub record IsCut (j : Journal) (s : Spot) (cs : List (List ℕ)) (tail : List ℕ) (count : ℕ) (litter : List ℕ) : Type 0 where
   pub left : List ℕ
   pub is : take count (entries j s cs ++ tail) ++ litter ≡ entries j s (whole_in j s cs count) ++ left
@@ -157,7 +157,7 @@ whole_in_entered j s cs count entered =
     let front = is_front j s cs count in
     entered_first j (whole_in j s cs count) front.more (subst (Entered j) front.is entered)
 
--- Truncation keeps each command whose entry ends before the cut.
+-- Truncation to `count` bytes keeps each command whose entry ends within these bytes.
 pub keeps_sure : (j : Journal) (s : Spot) (surely rest : List (List ℕ)) (count : ℕ) → length (entries j s surely) ≤ count
     → whole_in j s (surely ++ rest) count ≡ surely ++ whole_in j (trail j s surely) rest (count - length (entries j s surely))
 keeps_sure j s [] rest count le = let same : count ≡ count - 0 = omega arith in ap (whole_in j s rest) same

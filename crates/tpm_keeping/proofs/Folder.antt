@@ -73,7 +73,7 @@ each_longer j origin history more (a ∷ answers) h = (
 
 -- ---- a put
 
--- Overwriting a text with itself and further bytes only appends the further bytes.
+-- Overwriting bytes with the same bytes and further ones only appends the further ones.
 again : (same rest : List ℕ) (n : ℕ)
     → take n (same ++ rest) ++ drop (length (take n (same ++ rest))) same ≡ same ++ take (n - length same) rest
 again [] rest n =
@@ -121,7 +121,7 @@ pub record IsPut (j : Journal) (s : Shared) (k : Holder) (n : ℕ) : Type 0 wher
   pub is : (put_on j s.file k n).now.text ≡ whole j s.file.head s.file.start (s.file.now.commands ++ put_more j k n) ++ tail
   pub torn : j.is_torn (trail j s.file.start (s.file.now.commands ++ put_more j k n)) tail ≡ true
 
--- a proper prefix of the entry that a job adds is torn, and so is the empty text
+-- an empty list of bytes is torn, and so is a proper prefix of the entry that a job adds
 less_torn : (j : Journal) (p : Spot) (job : Job) (c : List ℕ) (m : ℕ) → IsJournal j → j.is_state p.state ≡ true
     → (m < length (entries j p (adds j job c))) ⊎ (m ≡ 0) → j.is_torn p (take m (entries j p (adds j job c))) ≡ true
 less_torn j p job c m laws lives (inr none) =
@@ -138,7 +138,7 @@ less_torn j p Show c m laws lives (inl le) = absurd (omega (arith, le))
 less_torn j p Begin c m laws lives (inl le) = absurd (omega (arith, le))
 less_torn j p Cut c m laws lives (inl le) = absurd (omega (arith, le))
 
--- The text after a put: the complete entries, and the written part of the new entry.
+-- The file's bytes after a `Put`: the complete entries, and the written part of the new entry.
 put_text : (j : Journal) (s : Shared) (k : Holder) (n : ℕ) (t : IsText j s.file.head s.file.start s.file.now) → Puts j s.file k.job k
     → (put_on j s.file k n).now.text
     ≡ body j s.file ++ take (n - length k.unsure) (entries j (spot_of j s.file) (adds j k.job k.command))
@@ -199,7 +199,7 @@ is_put j s k n laws lives t puts = by (nat_le (length k.out) n) refl
         some n u r true is less = let le : u ≤ n = grind (arith, nat_tests) in inl (omega (arith, le, less))
         some n u r false is less = let le : n < u = grind (arith, nat_tests) in inr (omega (arith, le))
 
--- If the journal exists, executing its entries leads to the state after the whole history.
+-- If the journal exists, executing its entries gives the state after the whole history.
 pub state_is : (j : Journal) (s : Shared) → Still j s → 0 < s.file.number → state_of j s.file ≡ run j s.origin s.history
 state_is j s still named =
     let h = still.file.headed named in
@@ -223,8 +223,8 @@ pub record Moves (j : Journal) (s t : Shared) : Type 0 where
   pub still : Still j t
   pub grows : Grows j s t
 
--- A holder's position stays right if at least the bytes that it has seen synced are still on the
--- disk.
+-- A holder's position remains correct if at least the bytes that it knows to be synced are still on
+-- the disk.
 forced_at : (j : Journal) (f g : File) (more : List (List ℕ)) (force : Force) (state : Spot) (place : ℕ) (unsure : List ℕ)
     → g.head ≡ f.head → g.start ≡ f.start → g.now.commands ≡ f.now.commands ++ more → min f.forced (length (body j f)) ≤ g.forced
     → IsAt j f.head f.start f.now.commands f.forced force state place unsure

@@ -1,4 +1,4 @@
--- The invariant of the folder and of each holder, which holds at each moment.
+-- The invariant of the folder and of each holder. It holds after every event.
 use Rattle.std.proofs.Common.{◌≡◌, ◌⊎◌, ℕ, ◌+◌, ◌<◌, ◌≤◌, Bool, true, false, cond, List, [], ◌∷◌, ◌++◌, length, take, drop, Some, None, Option}
 use Rattle.std.specs.List.{AllByRecursion}
 use Rattle.tpm_keeping.specs.Journal.{Entered, Journal, Spot, entries, run, started, trail}
@@ -20,7 +20,7 @@ use Rattle.tpm_keeping.specs.declared.holder.Phase.TheVariants.{Ended, Locking, 
 abbrev pub body : Journal → File → List ℕ
 body j f = whole j f.head f.start f.now.commands
 
--- the position after a file's complete entries; and the state at this position
+-- the position after a file's complete entries, and the state at this position
 abbrev pub spot_of : Journal → File → Spot
 spot_of j f = trail j f.start f.now.commands
 
@@ -32,8 +32,8 @@ pub record IsText (j : Journal) (head : List ℕ) (start : Spot) (c : Content) :
   pub is : c.text ≡ whole j head start c.commands ++ tail
   pub torn : j.is_torn (trail j start c.commands) tail ≡ true
 
--- A content that the file has or had: its commands are in the history, and the commands `surely` at
--- its start are certainly on the disk.
+-- What the file contains, or contained earlier: its commands are in the history, and the commands
+-- `surely` at its start are certainly on the disk.
 pub record IsContent (j : Journal) (head : List ℕ) (start : Spot) (number : ℕ) (history before surely : List (List ℕ)) (c : Content) : Type 0 where
   pub rest : List (List ℕ)
   pub has : c.commands ≡ surely ++ rest
@@ -103,8 +103,8 @@ sight s = record {
 }
 
 -- The holder's device has executed some of the commands, from the first one on, up to the offset
--- `place` in the file. If the holder syncs before each response, the bytes that it has seen synced
--- are on the disk.
+-- `place` in the file. If the holder syncs before each response, the bytes that it knows to be
+-- synced are on the disk.
 pub record IsAt (j : Journal) (head : List ℕ) (start : Spot) (cs : List (List ℕ)) (forced : ℕ) (force : Force) (spot : Spot) (place : ℕ) (unsure : List ℕ) : Type 0 where
   pub done : List (List ℕ)
   pub ahead : List (List ℕ)
@@ -115,8 +115,8 @@ pub record IsAt (j : Journal) (head : List ℕ) (start : Spot) (cs : List (List 
   pub reached : place ≡ length (whole j head start done)
   pub sure : is_always force ≡ true → length front ≤ forced
 
--- If the journal is still the file that a holder has read, the device in the holder's memory is
--- that of the file, up to the executed offset.
+-- If the journal is still the file that a holder has read, the device in the holder's memory is the
+-- one that the file's entries produce, up to the executed offset.
 pub record Knows (j : Journal) (f : File) (force : Force) (file : ℕ) (device : Option Spot) (place : ℕ) (unsure : List ℕ) : Type 0 where
   pub at : (s : Spot) → device ≡ Some s → file ≡ f.number
       → IsAt j f.head f.start f.now.commands f.forced force s place unsure
@@ -134,13 +134,14 @@ pub record HasAll (j : Journal) (f : File) (force : Force) (file place : ℕ) (u
   pub reached : place ≡ length (body j f)
   pub sure : is_always force ≡ true → length front ≤ f.forced
 
--- The response is the right one for the job in this state.
+-- This is the correct response to the job in this state.
 abbrev pub Gives : Job → Journal → (state command response : List ℕ) → Type 0
 Gives Execute j state c response = response ≡ j.response state c
 Gives Show j state c response = response ≡ j.head state
 Gives job j state c response = Unit {0}
 
--- The command is the last one of the history. This is its response, which was not sent yet.
+-- The command is the last one of the history, and this is its response, which has not been sent
+-- yet.
 pub record IsLast (j : Journal) (origin : List ℕ) (history : List (List ℕ)) (answers : List Answer) (command response : List ℕ) : Type 0 where
   pub before : List (List ℕ)
   pub is : history ≡ before ++ command ∷ []
@@ -161,15 +162,15 @@ pub record IsReading (j : Journal) (v : Sight) (k : Holder) : Type 0 where
   pub seen : k.seen ≡ k.place + length k.read
   pub read : take (length k.read) (drop k.place v.file.now.text) ≡ k.read
 
--- whether a holder with this word of force promises that no crash loses the result of the job
+-- whether a holder with this `force` setting promises that no crash loses the result of the job
 abbrev pub promises : Journal → Force → Job → (command : List ℕ) → Bool
 promises j Always job c = true
 promises j Power Execute c = cond (j.is_entered c) false true
 promises j Power Renew c = true
 promises j force job c = false
 
--- The holder has to write the bytes that it has not seen synced, and then the entry of its command,
--- if the command has one.
+-- The holder has to write the bytes that it does not know to be synced, and then the entry of its
+-- command, if the command has one.
 pub record Puts (j : Journal) (f : File) (job : Job) (k : Holder) : Type 0 where
   pub all : HasAll j f k.force k.file k.place k.unsure
   pub quiet : promises j Power job k.command ≡ false
@@ -187,7 +188,7 @@ pub record Stays (j : Journal) (origin : List ℕ) (f : File) (history : List (L
 abbrev pub StaysOf : Journal → Sight → Holder → Type 0
 StaysOf j v k = Stays j v.origin v.file v.history v.answers k.force k.file k.device k.place k.unsure k.job k.command k.response
 
--- the text of a journal that begins in a state, followed by the entries of commands
+-- the encoding of a journal that begins in a state, followed by the entries of commands
 abbrev pub begun : Journal → List ℕ → List (List ℕ) → List ℕ
 begun j state cs = whole j (j.head state) (started j state) cs
 
@@ -221,7 +222,7 @@ pub record IsDone (j : Journal) (v : Sight) (k : Holder) : Type 0 where
   pub forced : promises j k.force k.job k.command ≡ true → IsForced j v.file
   pub settled : is_never k.force ≡ false → v.older ≡ []
 
--- What holds for a holder in each phase.
+-- The invariant of a holder in each phase.
 abbrev pub In : Phase → Journal → Sight → Holder → Type 0
 In (Ended e) j v k = KnowsOf j v k
 In Locking j v k = KnowsOf j v k

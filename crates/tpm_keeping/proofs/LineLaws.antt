@@ -70,7 +70,7 @@ cut_unended (suc (suc b) ∷ tail) (suc k) litter torn is = cut_unended tail k l
 some_is : (a b : List ℕ × List ℕ) → Some a ≡ Some b → a ≡ b
 some_is a b is = cc
 
--- if a byte is put before the text of a line, the result begins with this byte
+-- if a byte is put before a line's content, the result begins with this byte
 with_first_is : (b : ℕ) (o : Option (List ℕ × List ℕ)) (s rest : List ℕ) → with_first b o ≡ Some (s, rest)
     → (part : List ℕ) × (s ≡ b ∷ part) × (o ≡ Some (part, rest))
 with_first_is b None s rest is = absurd cc
@@ -78,7 +78,7 @@ with_first_is b (Some found) s rest is =
     let same = some_is (b ∷ found.0, found.1) (s, rest) is in
     (found.0, sym (ap (λ (x : List ℕ × List ℕ). x.0) same), ap (λ (x : List ℕ). Some (found.0, x)) (ap (λ (x : List ℕ × List ℕ). x.1) same))
 
--- a text consists of its first line and the bytes after it
+-- the bytes consist of their first line and the remaining bytes
 first_line : (text s rest : List ℕ) → line_at text ≡ Some (s, rest) → text ≡ line s ++ rest
 first_line [] s rest is = absurd cc
 first_line (zero ∷ text) s rest is = absurd cc
@@ -89,7 +89,7 @@ first_line (suc (suc b) ∷ text) s rest is =
     let part = with_first_is b (line_at text) s rest is in
     ap (λ (x : List ℕ). suc (suc b) ∷ x) (first_line text part.0 rest part.2) ∙ ap (λ (x : List ℕ). line x ++ rest) (sym part.1)
 
--- a head is the line of its state
+-- a head is the line whose content is its state
 head_is : (o : Option (List ℕ × List ℕ)) (p : Spot) → headed_by o ≡ Some p → (o ≡ Some (p.state, [])) × (spot_at 0 p.state ≡ p)
 head_is None p is = absurd cc
 head_is (Some found) p is = by found.1 refl is
@@ -103,8 +103,8 @@ head_is (Some found) p is = by found.1 refl is
 
 -- ---- the salvaged part
 
--- If no line ends in the text, nothing is executed. Otherwise some prefix of the text, executed
--- alone, leads to the same state, and its size is returned.
+-- If no line ends in the bytes, nothing is executed. Otherwise, executing some prefix of the bytes
+-- alone gives the same state, and the size of this prefix is returned.
 walk_front : (text state part : List ℕ) (taken far : ℕ)
     → (walk state part taken far text ≡ (state, taken))
     ⊎ ((count : ℕ) × ((walk state part taken far text).1 ≡ far + count) × (walk state part taken far (take count text) ≡ walk state part taken far text))

@@ -374,7 +374,7 @@ forced_fits j s p k still lock below calm stays none =
 
 -- ---- naming
 
--- The command that led to the new journal is the last one of the history.
+-- The command after which the new journal begins is the last one of the history.
 last_named : (job : Job) (j : Journal) (s : Shared) (c response : List ℕ) → Still j s → 0 < s.file.number → Gives job j (state_of j s.file) c response
     → LastIf job j s.origin ((s.history ++ leads j job c) ++ adds j job c) s.answers c response
 last_named Execute j s c response still named gives = by (j.is_entered c)
@@ -388,7 +388,7 @@ last_named Show j s c response still named gives =
 last_named Begin j s c response still named gives = tt
 last_named Cut j s c response still named gives = tt
 
--- The new file contains the holder's text, and opens as the holder's device.
+-- The new file contains the holder's output, and opens as the holder's device.
 pub record IsNew (j : Journal) (origin : List ℕ) (s : Shared) (k : Holder) : Type 0 where
   pub body : body j (named_from j origin s k).file ≡ k.out
   pub has : k.device ≡ Some (spot_of j (named_from j origin s k).file)

@@ -18,7 +18,8 @@ use Rattle.tpm_keeping.specs.declared.holder.End.TheVariants as ending
 use Rattle.tpm_keeping.specs.declared.holder.Phase.{Phase}
 use Rattle.tpm_keeping.specs.declared.holder.Phase.TheVariants.{Ended, Locking, Looking, Reading, Putting, Forcing, Making, Naming, Settling, Leaving}
 
--- Commands may have been added to the history, and no fewer commands are promised than before.
+-- Commands may have been added to the history, and at least as many commands are promised as
+-- before.
 pub record Longer (s t : Shared) : Type 0 where
   pub more : List (List ℕ)
   pub is : t.history ≡ s.history ++ more

@@ -45,8 +45,8 @@ called true job command k = record {
 called false job command k =
     record { holder = asked (rests k) job command; on_damage = Ends; job = job; command = [] }
 
--- the keeper after a call ended. If the call found damage that has to be cut off, a cut follows;
--- after the cut is done, the call begins again
+-- the keeper after a call ended: if the call found damage that has to be cut off, a cut follows,
+-- and after the cut the call begins again
 abbrev pub goes_on_in : OnDamage → Phase → Caller → Caller
 goes_on_in IsCut (Ended (ending.Failed fault.Damaged)) c =
     record c { holder = asked c.holder Cut []; on_damage = BeginsAgain }
@@ -61,7 +61,7 @@ goes_on c = goes_on_in c.on_damage c.holder.phase c
 abbrev pub next_call : Journal → Caller → Told → Caller
 next_call j c told = goes_on (record c { holder = next_of j c.holder told })
 
--- The holder is unchanged, or a job was requested from it.
+-- The holder is unchanged, or it was asked to do a job.
 abbrev pub IsOrIsAsked : (before after : Holder) → Type 0
 IsOrIsAsked before after =
     (after ≡ before) ⊎ ((job : Job) × (command : List ℕ) × (after ≡ asked before job command))

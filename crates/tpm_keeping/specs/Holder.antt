@@ -25,7 +25,7 @@ pub record Holder : Type 0 where
   pub device : Option Spot
   pub file : ℕ
   pub place : ℕ
-  -- the executed bytes at the end that the holder still has to see synced
+  -- the executed bytes at the end that the holder does not know to be synced
   pub unsure : List ℕ
   -- the size of the file, the offset up to which it was read, and the bytes that were read but not
   -- executed yet
@@ -34,7 +34,7 @@ pub record Holder : Type 0 where
   pub read : List ℕ
   -- whether the folder was synced since the file was opened
   pub settled : Bool
-  -- the text to be written
+  -- the bytes to be written
   pub out : List ℕ
   pub response : List ℕ
 
@@ -84,8 +84,9 @@ newborn force limit = record {
   response = [];
 }
 
--- the holder without the call in progress, if there is one, and without all that it knows: the call
--- was interrupted, or was made by the parent of a fork
+-- the holder after a call in progress was dropped: the call was interrupted, or was made by the
+-- parent of a fork. The holder then knows nothing. If no call is in progress, the holder is
+-- unchanged
 abbrev pub rests_in : Phase → Holder → Holder
 rests_in (Ended e) k = k
 rests_in phase k = newborn k.force k.limit
@@ -101,7 +102,7 @@ asked_in phase k job command = k
 abbrev pub asked : Holder → Job → List ℕ → Holder
 asked k job command = asked_in k.phase k job command
 
--- the holder after it forgot everything; the next time it looks, it opens the device from the file
+-- the holder after it forgot everything; in the next call, it opens the device from the file
 abbrev pub forgets : Phase → Holder → Holder
 forgets p k = record (newborn k.force k.limit) { phase = p }
 
@@ -133,9 +134,9 @@ settles k = cond (k.settled || is_never k.force) (Leaving ending.Done) Settling
 abbrev pub is_grown : Journal → Holder → (p : Spot) → Bool
 is_grown j k p = nat_le k.limit k.place && nat_le (length (j.head p.state)) (k.place / 2)
 
--- the holder after it executed a command that has an entry. It has to write the bytes that it has
--- not seen synced, followed by the entry. If the journal has grown, it has to write a new journal
--- that begins with the entry
+-- the holder after it executed a command that has an entry. It has to write the bytes that it does
+-- not know to be synced, followed by the entry. If the journal has grown, it has to write a new
+-- journal that begins with the entry
 abbrev pub enters : Journal → Holder → (p : Spot) → (grown : Bool) → Holder
 enters j k p true = record k {
   phase = Making;
@@ -164,7 +165,7 @@ renews j k state response = record k {
 abbrev pub leaps : Journal → Holder → (p : Spot) → Holder
 leaps j k p = renews j k (j.after p.state k.command) (j.response p.state k.command)
 
--- the holder after it refused a text that is not a command
+-- the holder after it refused bytes that do not encode a command
 abbrev pub refuses : Holder → (p : Spot) → Holder
 refuses k p = record k {
   phase = Leaving (ending.Failed fault.NoCommand);
@@ -205,7 +206,7 @@ caught_up k taken = record k {
 
 -- the holder if the bytes that it read are damaged. A cut that has read the whole file begins a new
 -- journal in the state after the undamaged beginning, if there is one. Otherwise the call fails,
--- and the file stays as it is
+-- and the file is unchanged
 abbrev pub salvages_of : Journal → Holder → Option (Spot × ℕ) → Holder
 salvages_of j k None = dropped fault.Damaged k
 salvages_of j k (Some salvaged) = renews j (caught_up k salvaged.1) salvaged.0.state []
@@ -250,7 +251,7 @@ looked j k file size =
       size = size;
     }))
 
--- the holder if there is no journal: it begins one if that is its job, or else fails
+-- the holder if there is no journal: it begins one if that is its job; otherwise, it fails
 abbrev pub begins_of : Journal → Holder → Option (List ℕ) → Holder
 begins_of j k None = dropped fault.Unreadable k
 begins_of j k (Some s) = renews j (record k { place = 0 }) s []

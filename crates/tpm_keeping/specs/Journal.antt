@@ -1,6 +1,7 @@
--- A journal, as a keeper sees it. A state is a text that represents a whole device. A command is a
--- text that contains its bytes, locality, time and random bytes. Most commands have an entry. A
--- power cycle and restoring a snapshot have none: a new journal begins in the state after them.
+-- A journal, as a keeper sees it. A state is a list of bytes that represents a whole device. A
+-- command is a list of bytes that encodes the client's bytes, the locality, the time and random
+-- bytes. Most commands have an entry. A power cycle and restoring a snapshot have none: a new
+-- journal begins in the state after them.
 use Rattle.std.specs.Prelude.{◌≡◌, ℕ, ◌+◌, ◌-◌, ◌<◌, Bool, true, cond, List, [], ◌∷◌, ◌++◌, length, nat_le, take, Option, Some}
 use Rattle.std.specs.List.{AllByRecursion}
 
@@ -11,15 +12,15 @@ pub record Spot : Type 0 where
   pub chain : ℕ
 
 pub record Journal : Type 0 where
-  -- whether a text represents a state
+  -- whether the bytes represent a state
   pub is_state : List ℕ → Bool
-  -- whether a text encodes a command, and whether it encodes a command that has an entry
+  -- whether the bytes encode a command, and whether they encode a command that has an entry
   pub is_command : List ℕ → Bool
   pub is_entered : List ℕ → Bool
   -- the state after a command, and its response
   pub after : List ℕ → List ℕ → List ℕ
   pub response : List ℕ → List ℕ → List ℕ
-  -- the state of a new device, from random bytes or from a text; None if these bytes are not valid
+  -- the state of a new device that is created from these bytes; None if they are not valid
   pub begun : List ℕ → Option (List ℕ)
   -- the entry of a command at a position, and the checksum to which the next entry is then chained
   pub entry : Spot → List ℕ → List ℕ
@@ -31,12 +32,12 @@ pub record Journal : Type 0 where
   -- the position after a head; the head may be of a kind that is no longer written
   pub after_head : List ℕ → Option Spot
   -- the position after opening a journal, or after executing the entries that follow a position;
-  -- and the size of the executed text
+  -- and the number of bytes executed
   pub opened : List ℕ → Option (Spot × ℕ)
   pub followed : Spot → List ℕ → Option (Spot × ℕ)
-  -- the position after the undamaged beginning of a damaged text, and the size of that beginning
+  -- the position after the undamaged beginning of a damaged journal, and the size of that beginning
   pub salvaged : List ℕ → Option (Spot × ℕ)
-  -- whether a text can be what is left if an entry at this position was not written completely
+  -- whether the bytes can be what is left if an entry at this position was not written completely
   pub is_torn : Spot → List ℕ → Bool
   -- whether a crash of the host may leave these bytes, such as zeros, after a file's bytes; no
   -- entry looks like them
@@ -78,7 +79,7 @@ Entered j cs = AllByRecursion (λ c. j.is_entered c ≡ true) cs
 
 -- What a keeper requires of a journal.
 pub record IsJournal (j : Journal) : Type 0 where
-  -- a new device has a valid state, and a command leads from a valid state to a valid state
+  -- a new device has a valid state, and so does a device after a command, if it had one before
   pub begins : (seed s : List ℕ) → j.begun seed ≡ Some s → j.is_state s ≡ true
   pub leads : (s c : List ℕ) → j.is_state s ≡ true → j.is_state (j.after s c) ≡ true
   -- the head that is written for a state decodes to the position with this state
@@ -92,15 +93,15 @@ pub record IsJournal (j : Journal) : Type 0 where
   pub follows : (p : Spot) (cs : List (List ℕ)) (tail : List ℕ)
       → j.is_state p.state ≡ true → Entered j cs → j.is_torn (trail j p cs) tail ≡ true
       → j.followed p (entries j p cs ++ tail) ≡ Some (trail j p cs, length (entries j p cs))
-  -- salvaging a text gives the same device as opening some prefix of it
+  -- salvaging a damaged journal gives the same device as opening some prefix of it
   pub salvages : (text : List ℕ) (p : Spot) (size : ℕ) → j.salvaged text ≡ Some (p, size)
       → j.opened (take size text) ≡ Some (p, size)
-  -- the empty text is torn, and so is a proper prefix of an entry
+  -- the empty list is torn, and so is a proper prefix of an entry
   pub nothing : (p : Spot) → j.is_torn p [] ≡ true
   pub front : (p : Spot) (c : List ℕ) (k : ℕ)
       → j.is_state p.state ≡ true → j.is_entered c ≡ true → k < length (j.entry p c)
       → j.is_torn p (take k (j.entry p c)) ≡ true
-  -- a prefix of a torn text, followed by litter, is torn
+  -- if some bytes are torn, so is each prefix of them with litter after it
   pub littered : (p : Spot) (tail : List ℕ) (k : ℕ) (litter : List ℕ)
       → j.is_torn p tail ≡ true → j.is_litter litter ≡ true
       → j.is_torn p (take k tail ++ litter) ≡ true

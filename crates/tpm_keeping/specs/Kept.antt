@@ -1,4 +1,4 @@
--- What holds at each moment for the folder of a kept device.
+-- The properties that the folder of a kept device has at each moment.
 use Rattle.std.specs.Prelude.{◌≡◌, ◌⊎◌, ℕ, Bool, false, true, cond, ◌+◌, ◌<◌, ◌≤◌, ◌==◌, List, [], ◌∷◌, ◌++◌, length, map, take, Option, Some, None}
 use Rattle.std.specs.List.{AllByRecursion}
 use Rattle.tpm_keeping.specs.Journal.{Journal, Spot, run}
@@ -22,7 +22,8 @@ pub record IsTrue (j : Journal) (origin : List ℕ) (history : List (List ℕ)) 
   pub place : a.place ≡ length before + 1
   pub response : a.response ≡ j.response (run j origin before) a.command
 
--- each response that is not gone has a later position than all earlier ones that are not gone
+-- each response that is not gone has a later position in the history than all earlier responses
+-- that are not gone
 abbrev pub Ascend : List Answer → Type 0
 Ascend [] = Unit {0}
 Ascend (a ∷ before) =
@@ -48,8 +49,8 @@ pub record IsKept (j : Journal) (w : Shared) : Type 0 where
   -- after a holder that syncs has completed a call, the device exists
   pub lasts : w.lasting ≡ true → 0 < w.file.number
 
--- No fewer commands are promised than before, and the commands that were promised before are still
--- the beginning of the history.
+-- At least as many commands are promised as before, and the commands that were promised before are
+-- still the beginning of the history.
 abbrev pub KeepsPromises : Shared → Shared → Type 0
 KeepsPromises old new =
     (old.promised ≤ new.promised)
@@ -110,7 +111,7 @@ abbrev pub text_read : Phase → Holder → Told → List ℕ
 text_read Reading k (Bytes bytes) = k.read ++ bytes
 text_read phase k told = []
 
--- A prefix of this text opens in some state, and the holder has to write the head of that state.
+-- A prefix of these bytes opens in some state, and the holder has to write the head of that state.
 pub record KeepsFront (j : Journal) (text : List ℕ) (k : Holder) : Type 0 where
   pub spot : Spot
   pub is : j.opened (take k.place text) ≡ Some (spot, k.place)

@@ -1,8 +1,8 @@
--- A small journal, which shows that the requirements of a keeper can be satisfied. The line of a
--- text consists of the text's bytes, each increased by two, and a 1 at the end. Therefore, a line
--- contains no zero, and is not a line without its last byte. A state consists of all texts that
--- were executed. A command that begins with a zero has no entry, and the empty text is not a
--- command. A text opens if it begins with a line, and salvaging it gives the same device.
+-- A small journal, which shows that the requirements of a keeper can be satisfied. A line consists
+-- of its content, each byte increased by two, and a 1 at the end. Therefore, a line contains no
+-- zero, and is not a line without its last byte. A state consists of all contents that were
+-- executed. A command that begins with a zero has no entry, and the empty list is not a command. A
+-- journal opens if it begins with a line, and salvaging it gives the same device.
 use Rattle.std.specs.Prelude.{ℕ, zero, suc, ◌+◌, Bool, true, false, List, [], ◌∷◌, ◌++◌, length, Option, Some, None}
 use Rattle.tpm_keeping.specs.Journal.{Journal, Spot}
 
@@ -13,7 +13,7 @@ marked (b ∷ text) = suc (suc b) ∷ marked text
 abbrev pub line : List ℕ → List ℕ
 line text = marked text ++ 1 ∷ []
 
--- a line's text and the bytes after the line, with one more byte at the start of the line's text
+-- a line's content and the bytes after the line, with one more byte at the start of the content
 abbrev pub with_first : ℕ → Option (List ℕ × List ℕ) → Option (List ℕ × List ℕ)
 with_first b None = None
 with_first b (Some found) = Some (b ∷ found.0, found.1)

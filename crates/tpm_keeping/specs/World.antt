@@ -1,8 +1,8 @@
 -- The folder of a kept device, as its processes see it, and as a crash of the host may leave it.
 --
 -- The reader is expected to know fsync. A file has the contents that all processes see (`now`).
--- After a crash it may have any text that it had since it was last synced (`past`), truncated at
--- any byte that is not before `forced` and followed by litter such as zeros. All processes see a
+-- After a crash it may have any contents that it had since it was last synced (`past`), truncated
+-- at any byte that is not before `forced` and followed by litter such as zeros. All processes see a
 -- rename at once. Until the folder is synced, a crash may undo the rename: an earlier file
 -- (`older`) has the name again, or no file has it.
 --
@@ -13,7 +13,7 @@
 --
 -- Only one process can have the lock. Processes may read less than they requested, fail during a
 -- write or after it, finish an operation and still report an error, die at any byte, and fork. A
--- fork has the memory of its parent, but not the lock. Each process has its own word of force.
+-- fork has the memory of its parent, but not the lock. Each process has its own `force` setting.
 --
 -- A host whose write fails truncates the file again. If the write left part of an entry, the model
 -- makes another process do this: it takes the lock next and dies after truncating the file (`Dies p
@@ -45,7 +45,7 @@ use Rattle.tpm_keeping.specs.declared.holder.End.TheVariants as ending
 use Rattle.tpm_keeping.specs.declared.holder.Phase.{Phase}
 use Rattle.tpm_keeping.specs.declared.holder.Phase.TheVariants.{Ended, Locking, Putting, Leaving}
 
--- the text of a file, and the commands whose entries are complete in it
+-- the bytes of a file, and the commands whose entries are complete in it
 pub record Content : Type 0 where
   pub text : List ℕ
   pub commands : List (List ℕ)
@@ -70,7 +70,7 @@ pub record File : Type 0 where
 pub record Answer : Type 0 where
   -- the position of the response's command in the history, where the first command has position 1
   pub place : ℕ
-  -- the word of force of the holder that sent the response
+  -- the `force` setting of the holder that sent the response
   pub force : Force
   pub command : List ℕ
   pub response : List ℕ
@@ -115,7 +115,7 @@ pub data Effect : Type 0 where
 
 -- Everything that may happen. `p` is the process that does it.
 pub data Event : Type 0 where
-  -- the process begins, with its own word of force
+  -- the process begins, with its own `force` setting
   Starts : (p : ℕ) → (force : Force) → (limit : ℕ) → Event
   Asks : (p : ℕ) → (job : Job) → (command : List ℕ) → Event
   -- the process does its task; a read returns one byte, and at most `more` further bytes
@@ -124,7 +124,7 @@ pub data Event : Type 0 where
   Dies : (p : ℕ) → (effect : Effect) → Event
   Forks : (p child : ℕ) → Event
   Drops : Event
-  -- The host crashes. One of the contents of this file is left, followed by this litter. The
+  -- The host crashes. This file is left with one of its contents, followed by this litter. The
   -- content is truncated at the byte `far`, but not before the end of the bytes on the disk.
   Crashes : (file content far : ℕ) → (litter : List ℕ) → Event
 
@@ -133,12 +133,13 @@ with_holder s holders p k = record { shared = s; holders = λ q. cond (q == p) k
 
 -- ---- what a process does
 
--- a text after bytes were written at an offset; they replace old bytes, and may extend the text
+-- the bytes after further bytes were written at an offset; these replace old bytes, and may extend
+-- the list
 abbrev pub written : (text : List ℕ) → (at : ℕ) → (bytes : List ℕ) → List ℕ
 written text at bytes = take at text ++ (bytes ++ drop (at + length bytes) text)
 
--- the command that gets an entry in the journal or in a new one (`adds`), or the command without an
--- entry after which a new journal begins (`leads`), if the job has one
+-- the job's command, if it gets an entry in the old or the new journal (`adds`), or if it has no
+-- entry and a new journal begins after it (`leads`)
 abbrev pub adds : Journal → Job → List ℕ → List (List ℕ)
 adds j Execute c = cond (j.is_entered c) (c ∷ []) []
 adds j job c = []
@@ -147,18 +148,18 @@ abbrev pub leads : Journal → Job → List ℕ → List (List ℕ)
 leads j Execute c = cond (j.is_entered c) [] (c ∷ [])
 leads j job c = []
 
--- the commands that a file gains if the first `count` bytes of a holder's text are written: none,
--- unless all of the text is written
+-- the commands that a file gains if the first `count` bytes of a holder's output are written: none,
+-- unless all of the output is written
 abbrev pub put_more : Journal → Holder → (count : ℕ) → List (List ℕ)
 put_more j k count = cond (nat_le (length k.out) count) (adds j k.job k.command) []
 
--- whether the file still lacks dropped bytes after a write; it does not if the whole text was
--- written and starts within the synced bytes
+-- whether dropped bytes are still missing from the file after a write; none are if everything was
+-- written, starting within the synced bytes
 abbrev pub put_dropped : File → Holder → (count : ℕ) → Bool
 put_dropped f k count =
     cond (nat_le (length k.out) count && nat_le (sure k) (min f.forced k.place)) false f.is_dropped
 
--- a text after a `Put`: it is truncated, and the bytes are then written at the requested offset
+-- a file's bytes after a `Put`, which truncates the file and then writes at the requested offset
 abbrev pub put_by : Ask → (text bytes : List ℕ) → List ℕ
 put_by (ask.Put cut at) text bytes = written (take cut text) at bytes
 put_by asked text bytes = text
@@ -195,8 +196,8 @@ forced f = record f {
 abbrev pub lost : Shared → Shared
 lost s = record s { file = record s.file { is_dropped = true } }
 
--- the state of a holder's device; the history begins in this state when the first file gets the
--- journal's name
+-- the state of a holder's device. When the first file gets the journal's name, the history begins
+-- in the state of the holder that wrote the file
 abbrev pub state_in : Option Spot → List ℕ
 state_in None = []
 state_in (Some p) = p.state
@@ -225,7 +226,7 @@ named_from j origin s k =
 abbrev pub named : Journal → Shared → Holder → Shared
 named j s k = named_from j (cond (s.file.number == 0) (state_in k.device) s.origin) s k
 
--- the folder after the host did all or a part of what a holder requested
+-- the folder after the host did a holder's task, completely or in part
 abbrev pub does_asked : Journal → Ask → Shared → Holder → Effect → Shared
 does_asked j (ask.Put cut at) s k (Part count) = put j s k count
 does_asked j (ask.Put cut at) s k All = put j s k (length k.out)
@@ -242,7 +243,7 @@ does_asked j asked s k effect = s
 abbrev pub does : Journal → Phase → Shared → Holder → Effect → Shared
 does j phase s k effect = does_asked j (ask_in phase k) s k effect
 
--- the host's report after it did what a holder requested
+-- the host's report after it did a holder's task
 abbrev pub tells_asked : Ask → Shared → (more : ℕ) → Told
 tells_asked ask.Look s more =
     cond (s.file.number == 0) Gone (Stands s.file.number (length s.file.now.text))
@@ -305,7 +306,7 @@ fails_in j (Leaving e) w p k effect told =
 fails_in j phase w p k effect told =
     with_holder (does j phase w.shared k effect) w.holders p (next_in j phase k told)
 
--- the folder after a process died, which then no longer has the lock
+-- the folder after a process died; if it had the lock, the lock is free
 abbrev pub freed : Shared → ℕ → Shared
 freed s p = record s { locked = cond (s.locker == p) false s.locked }
 

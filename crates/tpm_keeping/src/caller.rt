@@ -85,7 +85,7 @@ impl<D: Device> CuttingKeeper<D> {
         self.keeper.job
     }
 
-    /// Returns the text that the host has to write for a `Put` or a `Make`.
+    /// Returns the bytes that the host has to write for a `Put` or a `Make`.
     pub fn out(&self) -> &[u8]
         ensures { result.now ≡ (caller_of D.spot self.now).holder.out }
     {
@@ -99,7 +99,7 @@ impl<D: Device> CuttingKeeper<D> {
         self.keeper.response()
     }
 
-    /// Takes the host's report and does the next step. On `Err`, an allocation failed, and the
+    /// Accepts the host's report and does the next step. On `Err`, an allocation failed, and the
     /// keeper's call ends.
     pub fn next(&mut self, got: Got<'_>) -> Result<(), Exhausted>
         ensures ok { OnOk result (caller_of D.spot self.new

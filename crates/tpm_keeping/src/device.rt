@@ -16,42 +16,43 @@ pub trait Device: Drop + Sized {
     /// The definition of the device's journal.
     ghost journal: { Journal };
 
-    /// The text that represents the device's state, and the checksum to which its next entry is
+    /// The bytes that represent the device's state, and the checksum to which its next entry is
     /// chained.
     ghost spot: { Self → Spot };
 
     /// The journal satisfies a keeper's requirements.
     ghost keeps: { IsJournal journal };
 
-    /// Creates a device from random bytes or from a text; returns None if `seed` is not valid.
+    /// Creates a device from random bytes or from a saved state. Returns None if `seed` is not
+    /// valid.
     fn begin(alloc: Global, seed: &[u8]) -> Result<Option<Self>, Exhausted>
         ensures { IfOk result (λ begun. MatchOption begun (journal.begun seed.now ≡ None)
             (λ device. journal.begun seed.now ≡ Some (spot device).state)) };
 
-    /// Opens the device of a journal, and returns it with the size of the executed text; None if
-    /// the text is not a journal.
+    /// Opens the device of a journal, and returns it with the number of bytes executed. Returns
+    /// None if the bytes are not a journal.
     fn open(alloc: Global, text: &[u8]) -> Result<Option<(Self, usize)>, Exhausted>
         ensures { IfOk result (λ opened. MatchOption opened (journal.opened text.now ≡ None)
             (λ found. journal.opened text.now ≡ Some (spot found.0, found.1))) };
 
-    /// Executes the entries of a text, and returns the size of the executed text; None if the text
-    /// does not continue the journal.
+    /// Executes entries, and returns the number of bytes executed. Returns None if the entries do
+    /// not continue the journal.
     fn follow(&mut self, text: &[u8]) -> Result<Option<usize>, Exhausted>
         ensures { IfOk result (λ followed. MatchOption followed
             (journal.followed (spot self.old) text.now ≡ None)
             (λ taken. journal.followed (spot self.old) text.now ≡ Some (spot self.new, taken))) };
 
-    /// Returns the device of the undamaged beginning of a damaged journal, and the size of the
-    /// executed text; None if there is no such beginning.
+    /// Returns the device of the undamaged beginning of a damaged journal, and the number of bytes
+    /// executed. Returns None if there is no such beginning.
     fn salvage(alloc: Global, text: &[u8]) -> Result<Option<(Self, usize)>, Exhausted>
         ensures { IfOk result (λ salvaged. MatchOption salvaged (journal.salvaged text.now ≡ None)
             (λ found. journal.salvaged text.now ≡ Some (spot found.0, found.1))) };
 
-    /// Whether a text encodes a command.
+    /// Whether the bytes encode a command.
     fn is_command(command: &[u8]) -> bool
         ensures { result ≡ journal.is_command command.now };
 
-    /// Whether a text encodes a command that has an entry.
+    /// Whether the bytes encode a command that has an entry.
     fn is_entered(command: &[u8]) -> bool
         ensures { result ≡ journal.is_entered command.now };
 
@@ -80,12 +81,12 @@ pub trait Device: Drop + Sized {
         ensures response { OnOk result (response.new.items
             ≡ response.old.items ++ journal.response (spot self.old).state command.now) };
 
-    /// Appends the text with which a journal in the device's state begins.
+    /// Appends the head of a journal that begins in the device's state.
     fn show(&self, out: &mut Vec<u8>) -> Result<(), Exhausted>
         ensures { OnOk result (out.new.items
             ≡ out.old.items ++ journal.head (spot self.now).state) };
 
-    /// Does what `show` does, and continues with the journal that begins with this text.
+    /// Does what `show` does; the device's next entry continues the journal with this head.
     fn renew(&mut self, out: &mut Vec<u8>) -> Result<(), Exhausted>
         ensures spot { OnOk result (spot self.new ≡ started journal (spot self.old).state) }
         ensures head { OnOk result (out.new.items

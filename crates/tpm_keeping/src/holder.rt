@@ -4,7 +4,7 @@ ghost use Rattle.std.specs.Prelude.{◌≡◌};
 ghost use Rattle.tpm_keeping.specs.Holder.{fault_of};
 ghost use Rattle.tpm_keeping.specs.Sentence.{sentence};
 
-/// The word of force of a holder: when the holder syncs its writes to the disk.
+/// A holder's `force` setting, its word of force: when it syncs its writes to the disk.
 #[derive(Clone, Copy, PartialEq, Eq)]
 pub enum Force {
     /// Only when the holder writes a new journal.
@@ -24,9 +24,9 @@ pub enum Job {
     Execute,
     /// Restart the journal in the same state: a checkpoint.
     Renew,
-    /// Return the text of the state: a snapshot.
+    /// Return the encoded state: a snapshot.
     Show,
-    /// Make sure that there is a device: open it, or create one from random bytes or a text.
+    /// Make sure that there is a device: open it, or create one from a seed.
     Begin,
     /// Make sure that there is a device. If the journal is damaged, begin a new journal in the
     /// state after its undamaged beginning. If a device is in memory and its file is damaged, the
@@ -59,7 +59,7 @@ pub enum Fault {
     Absent,
     /// The bytes for a new device are not valid.
     Unreadable,
-    /// The text to execute is not a command.
+    /// The bytes to execute do not encode a command.
     NoCommand,
     /// The journal's file does not contain a journal.
     Damaged,
@@ -103,7 +103,7 @@ pub enum End {
 /// The phase of a holder: what its host has to do next.
 #[derive(Clone, Copy, PartialEq, Eq)]
 pub enum Phase {
-    /// Nothing. The last call ended in this way.
+    /// Nothing. The last call ended with this result.
     Ended(End),
     /// Take the lock.
     Locking,
@@ -111,7 +111,7 @@ pub enum Phase {
     Looking,
     /// Read the bytes after those already read.
     Reading,
-    /// Write the holder's text to the file.
+    /// Write the holder's output to the file.
     Putting,
     /// Sync the file.
     Forcing,
@@ -121,7 +121,7 @@ pub enum Phase {
     Naming,
     /// Sync the folder.
     Settling,
-    /// Release the lock. Then the call ends in this way.
+    /// Release the lock. Then the call ends with this result.
     Leaving(End),
 }
 

@@ -28,14 +28,13 @@ pub enum Ask {
     Look,
     /// Read some bytes of the file, from this offset on.
     Read(u64),
-    /// Truncate the file to `cut` bytes if it is larger, and write the keeper's text at the offset
-    /// `at`, through the same open file that is synced later.
+    /// Truncate the file to `cut` bytes if it is larger. Then write the keeper's output at the
+    /// offset `at`, through the same open file that is synced later.
     Put { cut: u64, at: u64 },
     /// Sync the file to the disk.
     Force,
-    /// Write the keeper's text to a new file, completely, and sync it to the disk. `whole` is the
-    /// number of bytes of the old journal that the device has executed, or 0 if there is no old
-    /// journal.
+    /// Write the keeper's whole output to a new file and sync it to the disk. `whole` is the number
+    /// of bytes of the old journal that the device has executed, or 0 if there is no old journal.
     Make { whole: u64 },
     /// Rename the new file to the journal's name, and report its number.
     Name,
@@ -126,7 +125,7 @@ impl<D: Device> Keeper<D> {
         }
     }
 
-    /// Returns the text that the host has to write for a `Put` or a `Make`.
+    /// Returns the bytes that the host has to write for a `Put` or a `Make`.
     pub fn out(&self) -> &[u8]
         ensures { result.now ≡ self.now.out.items }
     {
@@ -186,7 +185,7 @@ impl<D: Device> Keeper<D> {
         *self = Keeper::new(self.alloc, self.force, self.limit);
     }
 
-    /// Forgets everything; the next time it looks, the keeper opens the device from the file.
+    /// Forgets everything; in the next call, the keeper opens the device from the file.
     fn forget(&mut self, phase: Phase)
         ensures { holder_of D.spot self.new ≡ forgets phase (holder_of D.spot self.old) }
     {
@@ -201,8 +200,8 @@ impl<D: Device> Keeper<D> {
         self.forget(Phase::Leaving(End::Failed(fault)));
     }
 
-    /// Takes the host's report and does the next step. On `Err`, an allocation failed, and the call
-    /// ends.
+    /// Accepts the host's report and does the next step. On `Err`, an allocation failed, and the
+    /// call ends.
     pub fn next(&mut self, got: Got<'_>) -> Result<(), Exhausted>
         ensures ok { OnOk result (holder_of D.spot self.new
             ≡ next_of D.journal (holder_of D.spot self.old) (told_of got.entry)) }

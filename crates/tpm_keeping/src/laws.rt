@@ -20,7 +20,7 @@ ghost use Rattle.tpm_keeping.specs.declared.holder.Phase.TheVariants.{Ended, Lea
 /// Whatever the holders of one device are asked to do, wherever each is killed, whatever fails and
 /// whenever the host crashes: the journal opens as the device that executed the history. Each
 /// response whose command no crash removed is that of this device, and no crash removes what a
-/// holder promised by its word of force.
+/// holder promised because of its `force` setting.
 pub fn kept_through_crashes()
     ensures { (j : Journal) (start : World) (events : List Event)
         → IsJournal j → IsStart j start → IsKept j (happen j events start).shared }
@@ -33,8 +33,8 @@ pub fn calls_advance()
 {}
 
 /// A call ends if its host does all tasks and memory suffices. It succeeds, unless there is no
-/// journal and none can begin, or the text to execute is not a command. It takes at most six steps
-/// and one more for each byte of the file. After it, the lock is free.
+/// journal and none can begin, or the bytes to execute do not encode a command. It takes at most
+/// six steps and one more for each byte of the file. After it, the lock is free.
 pub fn calls_end()
     ensures { (j : Journal) (start : World) (events : List Event) (p : ℕ) (e : End) (job : Job)
         (command : List ℕ) (mores : List ℕ) → IsJournal j → IsStart j start
@@ -61,8 +61,8 @@ pub fn only_what_was_asked()
         → AllByRecursion (λ c. test c ≡ true) (happen j events start).shared.history }
 {}
 
-/// A snapshot's response, just before the holder releases the lock, is the text of the state to
-/// which the history has led.
+/// A snapshot's response, just before the holder releases the lock, is the encoded state after the
+/// whole history.
 pub fn snapshots_are_true()
     ensures { (j : Journal) (start : World) (events : List Event) (p : ℕ)
         → IsJournal j → IsStart j start
@@ -72,8 +72,8 @@ pub fn snapshots_are_true()
         (run j (happen j events start).shared.origin (happen j events start).shared.history) }
 {}
 
-/// A cut replaces a damaged journal with the head of the state to which a prefix of the journal
-/// leads. The size of this prefix is the number of bytes that the keeper then reports as executed.
+/// A cut replaces a damaged journal with the head of the state after a prefix of the journal. The
+/// size of this prefix is the number of bytes that the keeper then reports as executed.
 pub fn cuts_keep_a_front()
     ensures { (j : Journal) (k : Holder) (told : Told) → IsJournal j → k.job ≡ Cut
         → rank k.phase < 3 → (k.device ≡ None → k.place ≡ 0)

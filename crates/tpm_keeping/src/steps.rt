@@ -38,7 +38,7 @@ impl<D: Device> Keeper<D> {
         self.reads_on()
     }
 
-    /// Takes the bytes that were read, and continues.
+    /// Appends the bytes that were read, and continues.
     pub(crate) fn has_read(&mut self, bytes: &[u8]) -> Result<(), Exhausted>
         ensures ok { OnOk result (holder_of D.spot self.new
             ≡ has_read D.journal (holder_of D.spot self.old) bytes.now) }
@@ -133,7 +133,7 @@ impl<D: Device> Keeper<D> {
     }
 
     /// Records that the first `taken` bytes of those read are executed. A holder that syncs before
-    /// each response keeps these bytes, since it has not seen them synced.
+    /// each response remembers them, because it does not know them to be synced.
     fn caught_up(&mut self, taken: usize) -> Result<(), Exhausted>
         ensures ok { OnOk result (holder_of D.spot self.new
             ≡ caught_up (holder_of D.spot self.old) taken) }
@@ -176,7 +176,7 @@ impl<D: Device> Keeper<D> {
         }
     }
 
-    /// Executes the command, or refuses a text that is not a command.
+    /// Executes the command, or refuses bytes that do not encode one.
     fn executes(&mut self, device: D) -> Result<(), Exhausted>
         requires out { self.old.out.items ≡ [] }
         requires response { self.old.response.items ≡ [] }
@@ -212,8 +212,8 @@ impl<D: Device> Keeper<D> {
     }
 
     /// Executes a command that has an entry. The keeper then has to write the bytes that the holder
-    /// has not seen synced, followed by the entry. If the journal has grown, it has to write a new
-    /// journal that begins with the entry.
+    /// does not know to be synced, followed by the entry. If the journal has grown, it has to write
+    /// a new journal that begins with the entry.
     fn enters(&mut self, mut device: D) -> Result<(), Exhausted>
         requires out { self.old.out.items ≡ [] }
         requires response { self.old.response.items ≡ [] }
@@ -268,7 +268,7 @@ impl<D: Device> Keeper<D> {
     }
 
     /// Stores the device; the call adds no entry. A holder that syncs before each response first
-    /// has to write and sync the bytes that it has not seen synced.
+    /// has to write and sync the bytes that it does not know to be synced.
     fn shows(&mut self, device: D) -> Result<(), Exhausted>
         requires out { self.old.out.items ≡ [] }
         ensures ok { OnOk result (holder_of D.spot self.new ≡ shows (holder_of D.spot self.old)
@@ -287,8 +287,7 @@ impl<D: Device> Keeper<D> {
         Ok(())
     }
 
-    /// Begins a journal if that is the job; if it is not, the call fails because there is no
-    /// journal.
+    /// Begins a journal if that is the job. Otherwise, the call fails because there is no journal.
     pub(crate) fn begins(&mut self) -> Result<(), Exhausted>
         ensures ok { OnOk result (holder_of D.spot self.new
             ≡ begins D.journal self.old.job (holder_of D.spot self.old)) }
@@ -306,7 +305,7 @@ impl<D: Device> Keeper<D> {
         done
     }
 
-    /// Creates a device and the text with which its journal begins. On `Err`, there is no device.
+    /// Creates a device and the head of its journal. On `Err`, there is no device.
     fn makes(&mut self) -> Result<(), Exhausted>
         ensures ok { OnOk result (holder_of D.spot self.new ≡ begins_of D.journal
             (holder_of D.spot self.old) (D.journal.begun self.old.command.items)) }
@@ -323,8 +322,8 @@ impl<D: Device> Keeper<D> {
         self.renews(device)
     }
 
-    /// Records that the text is in the file. A holder that syncs before each response keeps the
-    /// text until it is synced.
+    /// Records that the output is in the file. A holder that syncs before each response remembers
+    /// it until it is synced.
     pub(crate) fn has_put(&mut self) -> Result<(), Exhausted>
         ensures ok { OnOk result (holder_of D.spot self.new
             ≡ has_put (holder_of D.spot self.old)) }
@@ -347,7 +346,7 @@ impl<D: Device> Keeper<D> {
         Ok(())
     }
 
-    /// Records that the new file is the journal, and that this holder has seen it synced.
+    /// Records that the new file is the journal, and that this holder has synced it.
     pub(crate) fn has_named(&mut self, file: u64)
         ensures { holder_of D.spot self.new ≡ has_named (holder_of D.spot self.old) file }
     {

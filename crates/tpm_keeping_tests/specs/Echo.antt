@@ -1,7 +1,7 @@
 -- A device without a state, whose response to each command is the command itself. Its journal has
 -- one byte for the head and one byte, 101, for each entry. The journal is damaged if its first
--- entry is another byte. A command that begins with a zero has no entry, and the empty text is not
--- a command.
+-- entry is another byte. A command that begins with a zero has no entry, and empty bytes are not a
+-- command.
 use Rattle.std.specs.Prelude.{ℕ, zero, suc, ◌==◌, Bool, true, false, cond, List, [], ◌∷◌, length, Option, Some, None}
 use Rattle.tpm_keeping.specs.Journal.{Journal, Spot}
 
@@ -31,12 +31,12 @@ opened_at [] = None
 opened_at (b ∷ []) = Some (nothing, 1)
 opened_at (b ∷ c ∷ text) = cond (c == 101) (Some (nothing, suc (suc (length text)))) None
 
--- the position after the entries in a text; an empty text leaves the position unchanged
+-- the position after these entries; without entries, the position is unchanged
 abbrev pub followed_at : Spot → List ℕ → Option (Spot × ℕ)
 followed_at p [] = Some (p, 0)
 followed_at p (b ∷ text) = cond (b == 101) (Some (nothing, suc (length text))) None
 
--- the undamaged beginning of a damaged text is its head
+-- the undamaged beginning of a damaged journal is its head
 abbrev pub salvaged_at : List ℕ → Option (Spot × ℕ)
 salvaged_at [] = None
 salvaged_at (b ∷ text) = Some (nothing, 1)

@@ -1,4 +1,4 @@
-//! Calls of each job, by holders with each word of force. Each letter stands for a task that the
+//! Calls of each job, by holders with each `force` setting. Each letter stands for a task that the
 //! host did: lock, look (K), read, put, force, make, name, settle, unlock.
 
 use crate::echo::Echo;
@@ -13,8 +13,8 @@ const NO_JOURNAL: End = End::Failed(Fault::Absent);
 
 const DAMAGED: End = End::Failed(Fault::Damaged);
 
-/// Checks that a call with this command ends in this way, after exactly these tasks, and leaves
-/// this journal.
+/// Checks that a call with this command ends with this result, after exactly these tasks, and
+/// leaves this journal.
 fn ends<R: Abort>(
     rt: &R,
     folder: &mut Folder,
@@ -121,7 +121,7 @@ fn without_a_journal_only_begin_is_done(rt: HostRuntime) {
 }
 
 // Each holder reads what others added. Only the holder that syncs before each response writes the
-// bytes again that it has not seen synced, which leaves the file unchanged.
+// bytes again that it does not know to be synced, which leaves the file unchanged.
 #[test]
 fn holders_of_each_word_take_turns(rt: HostRuntime) {
     let mut folder = Folder::new(rt.alloc());

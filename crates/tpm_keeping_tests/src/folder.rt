@@ -12,9 +12,9 @@ const STEPS: u32 = 40;
 /// The number of bytes that are read at once.
 const PART: usize = 3;
 
-/// The journal; the new file that has no name yet; the size of the old journal's part that was
-/// executed when the new file was written; and a letter for each task that the host did in the last
-/// call. An exclamation mark means that the keeper ran out of memory.
+/// The journal; the new file that has no name yet; the size of the part of the old journal that had
+/// been executed when the new file was written; and a letter for each task that the host did in the
+/// last call. An exclamation mark means that the keeper ran out of memory.
 #[derive(Drop)]
 pub struct Folder {
     pub number: u64,

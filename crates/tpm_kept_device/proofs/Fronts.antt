@@ -1,4 +1,4 @@
--- The size of the entries at the start of a text.
+-- The size of the entries at the start of a list of bytes.
 use Rattle.std.proofs.Common.{◌≡◌, ◌≤◌, ◌<◌, ◌+◌, ℕ, List, [], ◌∷◌, ◌++◌, ◌⊎◌, inl, inr, length, drop, take, Option, Some, None, ap, sym, ◌∙◌, append-nil, arith, length-append}
 use Rattle.std.proofs.lemmas.List.{drop-drop, length-take-le, take-append-drop}
 use Rattle.tpm_journal_text.specs.Entry.{IsEntry, PlainEntry, entry_text, sum_after}
@@ -19,8 +19,8 @@ use Rattle.tpm_kept_journal.proofs.texts.NextAt.{damage_tells, torn_tells}
 pub none_more : (sum : ℕ) (text : List ℕ) → entry_at sum text ≡ None → entries_size sum text ≡ 0
 none_more sum text none = ap (λ (es : List PlainEntry). length (entries_text sum es)) (entries_again sum [] text tt none)
 
--- If a text begins with an entry, the size of its entries is that of this entry plus that of the
--- entries after it.
+-- If the bytes begin with an entry, the size of their entries is that of this entry plus that of
+-- the entries after it.
 pub one_more : (sum size : ℕ) (text : List ℕ) (e : PlainEntry) → IsEntry e → size ≤ length text → take size text ≡ entry_text sum e
     → entries_size sum text ≡ size + entries_size (sum_after sum e) (drop size text)
 one_more sum size text e is within front =
@@ -39,9 +39,9 @@ pub entry_some : (sum size : ℕ) (text : List ℕ) (e : PlainEntry) → size �
 entry_some sum size text e within front =
     omega (arith, ap length front, length-take-le size text within, entry_text_some sum e)
 
--- ---- reading a text entry by entry
+-- ---- reading the bytes entry by entry
 
--- The first `taken` bytes of a text are entries; the text after them begins with the other entries.
+-- The first `taken` bytes are entries, and the bytes after them begin with the other entries.
 abbrev pub Takes : (sum after taken : ℕ) → (text : List ℕ) → Type 0
 Takes sum after taken text = entries_size sum text ≡ taken + entries_size after (drop taken text)
 
@@ -69,7 +69,7 @@ entry_taken sum after taken text left size next e takes is finds =
     ap (entries_size (sum_after after e)) rest ∙ ap (λ (n : ℕ). entries_size n (drop (taken + size) text)) (sym finds.3) in
     omega (arith, takes, ap (entries_size after) is, more, same)
 
--- ---- reading a text with its head
+-- ---- reading the bytes with their head
 
 pub no_front : (text : List ℕ) → head_at text ≡ None → 0 ≡ whole_size text
 unfolding whole_size

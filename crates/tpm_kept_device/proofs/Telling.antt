@@ -1,4 +1,4 @@
--- When the device follows a text or writes a head, its results equal those of the journal's
+-- When the device executes entries or writes a head, its results equal those of the journal's
 -- definitions.
 use Rattle.std.proofs.Common.{◌≡◌, ◌≤◌, ◌+◌, ℕ, false, List, length, Option, Some, None, subst, ap, ◌∙◌, arith}
 use Rattle.tpm_bytes.specs.Reading.{AreBytes}
@@ -17,7 +17,7 @@ use Rattle.tpm_kept_journal.specs.State.{DeviceState, IsDeviceState, bytes_of, s
 use Rattle.tpm_kept_journal.proofs.Following.{Tells, followed_so}
 use Rattle.tpm_kept_journal.proofs.Shown.{head_shown, sum_shown}
 
--- ---- following a text
+-- ---- executing entries
 
 module _ (before : Journal) (old : Record) (text : List ℕ) (followed : Followed) (after : Journal) (new : Record) (is : IsDeviceState (state_in before old))
     (replays : Replays false before old text followed after new) where

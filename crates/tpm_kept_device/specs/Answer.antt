@@ -15,13 +15,13 @@ pub record PlainAnswer : Type 0 where
   pub drawn : ℕ
   pub response : List ℕ
 
--- an answer of the code, as a value of the definitions
+-- an `Answer` of the code, as a value of the definitions
 abbrev pub plain_answer : Answer → PlainAnswer
 plain_answer a =
     record { code = a.code; check = a.check; drawn = a.drawn; response = a.response.now }
 
--- the answer that a text encodes: four bytes for the code, one for the check, two for the number of
--- drawn bytes, and the response, which fits in a buffer
+-- the answer that the bytes encode: four bytes for the code, one for the check, two for the number
+-- of drawn bytes, and the response, which fits in a buffer
 unfoldable pub answer_of : List ℕ → Result PlainAnswer Malformed
 answer_of text = do
   code ← number_in w32 text

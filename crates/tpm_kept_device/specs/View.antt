@@ -35,21 +35,21 @@ plain_seed seed = record {
   content = seed.content.now;
 }
 
--- the state of a device; and its position, which also contains the checksum of its journal
+-- the state of a device, and its position, which also contains the checksum of its journal
 abbrev pub state_of : Parts → DeviceState
 state_of parts = state_in parts.journal (slot_record parts.machine.keep)
 
 abbrev pub spot_in : Parts → Spot
 spot_in parts = spot_of parts.journal (slot_record parts.machine.keep)
 
--- the effect of a device's latest command; and the text of its report and response
+-- the effect of a device's latest command, and the encoding of its report and response
 abbrev pub seen_in : Parts → Seen
 seen_in parts = seen_of slot_record parts.machine parts.journal.layer parts.outcome
 
 abbrev pub answer_in : Parts → List ℕ
 answer_in parts = reported (seen_in parts)
 
--- A device was created in this state; or there is neither a state nor a device.
+-- A device was created in this state, or there is neither a state nor a device.
 abbrev pub BeginsAs : {B : Type 0} → (B → Parts) → Option DeviceState → Option B → Type 0
 BeginsAs parts_in state (Some b) = state ≡ Some (state_of (parts_in b))
 BeginsAs parts_in state None = state ≡ None

@@ -24,7 +24,7 @@ pub struct Answer<'a> {
     pub response: &'a [u8],
 }
 
-/// Reads an answer from its text.
+/// Decodes an answer.
 #[tactic(auto, unfolding(crate::specs::Answer::answer_of))]
 pub fn read_answer<'a>(text: &'a [u8]) -> Result<Answer<'a>, Malformed>
     ensures value { Gives plain_answer (answer_of text.now) result }

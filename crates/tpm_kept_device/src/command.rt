@@ -1,4 +1,4 @@
-//! A command to a kept device, read from its text.
+//! A command to a kept device, and its decoding.
 
 ghost use Rattle.std.specs.Prelude.{◌≡◌, IfOk};
 ghost use Rattle.std.specs.Int.{w8};
@@ -14,10 +14,10 @@ use tpm_bytes::Cursor;
 use tpm_image_text::{Malformed, read_bool, read_u8, read_u32, read_u64};
 use tpm_types::Locality;
 
-/// When a TPM command arrives, in milliseconds.
+/// When a TPM command arrives.
 #[derive(Clone, Copy)]
 pub(crate) enum Moment {
-    /// At this time of the host's clock.
+    /// At this time of the host's clock, in milliseconds.
     At(u64),
     /// This many milliseconds after the previous command.
     After(u32),
@@ -61,7 +61,7 @@ pub(crate) enum Command<'a> {
     },
 }
 
-/// Reads a command from a text.
+/// Decodes a command.
 pub(crate) fn read_command<'a>(text: &'a [u8]) -> Result<Command<'a>, Malformed>
     ensures value { Gives plain_command (command_of text.now) result }
     ensures given { IfOk result (λ command. IsGiven (plain_command command)) }
@@ -69,7 +69,7 @@ pub(crate) fn read_command<'a>(text: &'a [u8]) -> Result<Command<'a>, Malformed>
     read_any(text)
 }
 
-/// Reads a command from a text whose elements are bytes.
+/// Decodes a command from a list whose elements are bytes.
 #[tactic(auto, unfolding(tpm_kept_journal::specs::Command::command_in))]
 fn read_any<'a>(text: &'a [u8]) -> Result<Command<'a>, Malformed>
     ensures value { Gives plain_command (command_in text.now) result }
@@ -85,8 +85,8 @@ fn read_any<'a>(text: &'a [u8]) -> Result<Command<'a>, Malformed>
     }
 }
 
-/// Reads a TPM command that arrives at a time of the host's clock, from the text after the byte for
-/// the command's kind.
+/// Decodes a TPM command that arrives at a time of the host's clock. The byte for the command's
+/// kind is already consumed.
 #[tactic(auto, unfolding(tpm_kept_journal::specs::Command::executed_at_in))]
 fn read_executed_at<'a>(text: &mut Cursor<'a>) -> Result<Command<'a>, Malformed>
     ensures { Gives plain_command (executed_at_in text.old) result }
@@ -95,8 +95,8 @@ fn read_executed_at<'a>(text: &mut Cursor<'a>) -> Result<Command<'a>, Malformed>
     read_executed(Moment::At(now_ms), text)
 }
 
-/// Reads a TPM command that arrives some milliseconds after the previous one, from the text after
-/// the byte for the command's kind.
+/// Decodes a TPM command that arrives some milliseconds after the previous one. The byte for the
+/// command's kind is already consumed.
 #[tactic(auto, unfolding(tpm_kept_journal::specs::Command::executed_after_in))]
 fn read_executed_after<'a>(text: &mut Cursor<'a>) -> Result<Command<'a>, Malformed>
     ensures { Gives plain_command (executed_after_in text.old) result }
@@ -105,7 +105,7 @@ fn read_executed_after<'a>(text: &mut Cursor<'a>) -> Result<Command<'a>, Malform
     read_executed(Moment::After(elapsed_ms), text)
 }
 
-/// Reads the fields of a TPM command that follow its arrival time.
+/// Decodes the fields of a TPM command that follow its arrival time.
 #[tactic(auto, unfolding(tpm_kept_journal::specs::Command::executed_in))]
 fn read_executed<'a>(moment: Moment, text: &mut Cursor<'a>) -> Result<Command<'a>, Malformed>
     ensures { Gives plain_command (executed_in (plain_moment moment) text.old) result }
@@ -122,7 +122,7 @@ fn read_executed<'a>(moment: Moment, text: &mut Cursor<'a>) -> Result<Command<'a
     })
 }
 
-/// Reads a locality, 0 to 4.
+/// Decodes a locality, which must be 0 to 4.
 fn read_locality(text: &mut Cursor) -> Result<Locality, Malformed>
     ensures { Reads locality_number (passing is_locality (number_in w8) text.old) text.old result
         text.new }
@@ -146,7 +146,7 @@ fn read_random<'a>(text: &mut Cursor<'a>) -> Result<&'a [u8], Malformed>
     }
 }
 
-/// Reads a power cycle, from the text after the byte for the command's kind.
+/// Decodes a power cycle. The byte for the command's kind is already consumed.
 #[tactic(auto, unfolding(tpm_kept_journal::specs::Command::cycled_in))]
 fn read_cycled<'a>(text: &mut Cursor<'a>) -> Result<Command<'a>, Malformed>
     ensures { Gives plain_command (cycled_in text.old) result }

@@ -5,9 +5,9 @@ ghost use Rattle.tpm_kept_journal.specs.Salvage.{entries_size, whole_size};
 
 use tpm_journal_text::{BYTES_ROOM, CONTENT_LIMIT, ENTRY_ROOM, Next, read_entry, read_head};
 
-/// Returns the size of the head and of the complete entries after it at the start of a text; 0 if
-/// there is no head. The function is not inlined, so that its large buffers are not in its caller's
-/// stack frame.
+/// Returns the size of the head and of the complete entries after it, or 0 if the bytes do not
+/// begin with a head. The function is not inlined, so that its large buffers are not in its
+/// caller's stack frame.
 #[inline(never)]
 pub(crate) fn whole_size(text: &[u8]) -> usize
     ensures value { result ≡ whole_size text.now }
@@ -21,7 +21,7 @@ pub(crate) fn whole_size(text: &[u8]) -> usize
     head.size + entries_size(head.sum, rest)
 }
 
-/// Returns the size of the entries at the start of a text; `sum` is the checksum before them.
+/// Returns the size of the entries at the start of the bytes; `sum` is the checksum before them.
 fn entries_size(sum: u64, text: &[u8]) -> usize
     ensures value { result ≡ entries_size sum text.now }
     ensures within { result ≤ length text.now }

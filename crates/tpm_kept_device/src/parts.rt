@@ -39,8 +39,8 @@ use tpm_slots::SlotKeep;
 use tpm_snapshot::{Layer, completion_of, layer_of, restore_new, snapshot_into};
 use tpm_step::{Event, Outcome};
 
-/// A device; its journal with the completing layer; the outcome of its last event, which the next
-/// event overwrites; and buffers for random bytes and for an entry.
+/// A device, its journal with the completing layer, the outcome of its last event (which the next
+/// event overwrites), and buffers for random bytes and for an entry.
 #[derive(Drop)]
 pub struct Parts {
     machine: Machine<SlotKeep>,
@@ -82,7 +82,7 @@ impl Parts {
         };
     }
 
-    /// Creates the device of a seed; returns None if the text is not a valid seed.
+    /// Creates the device of a seed. Returns None if the bytes do not encode a valid seed.
     #[tactic(auto, unfolding(tpm_kept_journal::specs::Seed::begun_of))]
     pub fn begin(alloc: Global, seed: &[u8]) -> Result<Option<Box<Parts>>, Exhausted>
         ensures { IfOk result (BeginsAs (λ b. b.value) (begun_in seed.now)) }
@@ -149,7 +149,7 @@ impl Parts {
         let _time = self.journal.time;
     }
 
-    /// Opens the device of a journal; None if the text is not a journal.
+    /// Opens the device of a journal. Returns None if the bytes are not a journal.
     pub fn open(alloc: Global, text: &[u8]) -> Result<Option<(Box<Parts>, usize)>, Exhausted>
         ensures { IfOk result (λ opened. MatchOption opened (opened_text text.now ≡ None)
             (λ found. opened_text text.now ≡ Some (spot_in found.0.value, found.1))) }
@@ -162,7 +162,7 @@ impl Parts {
     }
 
     /// Opens the device of the head and the complete entries at the start of a journal, and ignores
-    /// all bytes after them. None if this part does not open.
+    /// all bytes after them. Returns None if this part does not open.
     #[tactic(auto, unfolding(tpm_kept_journal::specs::Salvage::salvaged_text))]
     pub fn salvage(alloc: Global, text: &[u8]) -> Result<Option<(Box<Parts>, usize)>, Exhausted>
         ensures { IfOk result (λ opened. MatchOption opened (salvaged_text text.now ≡ None)
@@ -172,8 +172,8 @@ impl Parts {
         Parts::open(alloc, front)
     }
 
-    /// Turns a new device, whose secrets are zeros, into the device of a journal. If the result is
-    /// None, the device is unspecified.
+    /// Turns a new device, whose secrets are zeros, into the device of a journal. If it returns
+    /// None, the device's state is unspecified.
     fn open_in_place(&mut self, text: &[u8]) -> Option<usize>
         requires { slot_record self.old.machine.keep ≡ manufactured (replicate 256 0) }
         ensures { MatchOption result (opened_text text.now ≡ None)
@@ -186,7 +186,7 @@ impl Parts {
         Some(opened.taken)
     }
 
-    /// Executes the entries of a text; None if they do not continue the device's journal.
+    /// Executes entries. Returns None if they do not continue the device's journal.
     pub fn follow(&mut self, text: &[u8]) -> Option<usize>
         ensures { MatchOption result (walked (spot_in self.old) 0 text.now ≡ None)
             (λ taken. walked (spot_in self.old) 0 text.now ≡ Some (spot_in self.new, taken)) }

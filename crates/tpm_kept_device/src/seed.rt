@@ -1,4 +1,4 @@
-//! The seed from which a device is created, read from its text.
+//! The seed from which a device is created, and its decoding.
 
 ghost use Rattle.tpm_bytes.specs.Reading.{Gives};
 ghost use Rattle.tpm_kept_journal.specs.Seed.{seed_in};
@@ -19,7 +19,7 @@ pub(crate) struct Seed<'a> {
     pub(crate) content: &'a [u8],
 }
 
-/// Reads a seed from a text.
+/// Decodes a seed.
 #[tactic(auto, unfolding(tpm_kept_journal::specs::Seed::seed_in))]
 pub(crate) fn read_seed<'a>(text: &'a [u8]) -> Result<Seed<'a>, Malformed>
     ensures { Gives plain_seed (seed_in text.now) result }

@@ -1,4 +1,4 @@
-//! Writes the texts of commands to a kept device, and of the seeds from which a device is created.
+//! Encodes commands to a kept device, and the seeds from which a device is created.
 
 ghost use Rattle.std.specs.Prelude.{◌≡◌, ◌++◌, ◌∷◌, IfOk, Ok, OnOk};
 ghost use Rattle.tpm_kept_journal.specs.Command.{After, At, Begins, Cycles, Executes, command_of};
@@ -9,7 +9,7 @@ ghost use Rattle.tpm_types.specs.Locality.{locality_number};
 use std::alloc::{AllocError, Global};
 use tpm_types::Locality;
 
-/// Writes a TPM command that arrives at this time of the host's clock, in milliseconds.
+/// Encodes a TPM command that arrives at this time of the host's clock, in milliseconds.
 #[tactic(auto, using(crate::proofs::Texts::at_read))]
 pub fn command_at(
     alloc: Global,
@@ -31,7 +31,7 @@ pub fn command_at(
     Ok(text)
 }
 
-/// Writes a TPM command that arrives this many milliseconds after the previous one.
+/// Encodes a TPM command that arrives this many milliseconds after the previous one.
 #[tactic(auto, using(crate::proofs::Texts::after_read))]
 pub fn command_after(
     alloc: Global,
@@ -53,7 +53,7 @@ pub fn command_after(
     Ok(text)
 }
 
-/// Appends the part of a command's text that follows the arrival time.
+/// Appends the part of an encoded command that follows the arrival time.
 fn put_given(
     text: &mut Vec<u8>,
     locality: Locality,
@@ -69,7 +69,7 @@ fn put_given(
     text.extend_from_slice(buffer)
 }
 
-/// Writes a power cycle at this time of the host's clock. The number `start` has no effect.
+/// Encodes a power cycle at this time of the host's clock. The number `start` has no effect.
 #[tactic(auto, using(crate::proofs::Texts::cycle_read))]
 pub fn power_cycle(alloc: Global, now_ms: u64, start: u64) -> Result<Vec<u8>, AllocError>
     ensures text { IfOk result (λ text. text.items ≡ cycle_text now_ms start) }
@@ -82,7 +82,7 @@ pub fn power_cycle(alloc: Global, now_ms: u64, start: u64) -> Result<Vec<u8>, Al
     Ok(text)
 }
 
-/// Writes a command that replaces the device by the device of this seed.
+/// Encodes a command that replaces the device by the device of this seed.
 #[tactic(auto, using(crate::proofs::Texts::beginning_read))]
 pub fn beginning(alloc: Global, seed: &[u8]) -> Result<Vec<u8>, AllocError>
     ensures text { IfOk result (λ text. text.items ≡ 2 ∷ seed.now) }
@@ -94,7 +94,7 @@ pub fn beginning(alloc: Global, seed: &[u8]) -> Result<Vec<u8>, AllocError>
     Ok(text)
 }
 
-/// Writes the seed of a new device, whose secrets are these random bytes.
+/// Encodes the seed of a new device, whose secrets are these random bytes.
 pub fn seed_of_random(
     alloc: Global,
     now_ms: u64,
@@ -107,7 +107,7 @@ pub fn seed_of_random(
     seed(alloc, 0, now_ms, start, random)
 }
 
-/// Writes the seed of the device that a state text contains.
+/// Encodes the seed of the device that a state text contains.
 pub fn seed_of_state(
     alloc: Global,
     now_ms: u64,
@@ -120,7 +120,7 @@ pub fn seed_of_state(
     seed(alloc, 2, now_ms, start, state)
 }
 
-/// Writes a seed. For kind 0, the content is 256 random bytes; for kind 1, an image; for kind 2, a
+/// Encodes a seed. For kind 0, the content is 256 random bytes; for kind 1, an image; for kind 2, a
 /// state text.
 #[tactic(auto, using(crate::proofs::Texts::seed_read))]
 pub fn seed(

@@ -6,7 +6,7 @@ use tpm_keeping::holder::{End, Job};
 use tpm_keeping::keeper::{Ask, Got, Keeper};
 use tpm_kept_device::KeptDevice;
 
-/// More steps than any call has.
+/// More steps than any call takes.
 const STEPS: u32 = 40;
 
 /// The journal and its number, and the new file that has no name yet.

@@ -21,7 +21,7 @@ const FOUR_FIVES: &[u8] = &[
     0, 0, 1, 0x7b, 0, 0, 4, 0x80, 1, 0, 0, 0, 16, 0, 0, 0, 0, 0, 4, 5, 5, 5, 5,
 ];
 
-/// The report on TPM2_GetRandom without TPM2_Startup, which check 5 refuses with INITIALIZE
+/// The report on TPM2_GetRandom without TPM2_Startup: check 5 refuses the command with INITIALIZE
 /// (0x100).
 const INITIALIZE: &[u8] = &[0, 0, 1, 0x7b, 5, 0, 0, 0x80, 1, 0, 0, 0, 10, 0, 0, 1, 0];
 
@@ -30,7 +30,7 @@ const READ_CLOCK: &[u8] = &[0x80, 1, 0, 0, 0, 10, 0, 0, 1, 0x81];
 
 const CLOCK_READ: &[u8] = &[0, 0, 1, 0x81, 0, 0, 0];
 
-/// Checks that a call is done, and has this response.
+/// Checks that a call is done, and returned this response.
 fn answers<R: Abort>(
     rt: &R,
     folder: &mut Folder,

@@ -1,4 +1,4 @@
-//! The texts of commands and seeds.
+//! Encoded commands and seeds.
 
 use std::alloc::{AllocError, Global};
 

@@ -1,4 +1,4 @@
--- A TPM command that is decoded from a text has an entry.
+-- A TPM command that was decoded from bytes has an entry.
 use Rattle.std.proofs.Common.{◌≡◌, ◌<◌, ◌^◌, ◌==◌, ℕ, Bool, true, false, List, [], ◌∷◌, length, Result, Ok, Err, refl, subst, ap, ◌∙◌, cond, arith}
 use Rattle.std.specs.Prelude.{not}
 use Rattle.std.specs.Int.{w8, w32, w64}
@@ -126,7 +126,7 @@ entry_of_given s moment locality completes random buffer seen (near, all, random
 
 -- ---- what the code decodes
 
--- For a text of bytes, `command_of` has the same result as `command_in`.
+-- For a list of bytes, `command_of` has the same result as `command_in`.
 pub command_read : (text : List ℕ) (r : Result KeptCommand Malformed) → AreBytes text → command_in text ≡ r → command_of text ≡ r
 unfolding command_of
 command_read text r are is = ap (λ (b : Bool). cond b (command_in text) (Err malformed)) ((are_bytes-Decides text).1 are) ∙ is

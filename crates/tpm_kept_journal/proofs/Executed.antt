@@ -22,7 +22,7 @@ module _ (j : Journal) (r : Record) (is : IsDeviceState (state_in j r)) (text : 
   abbrev s : DeviceState
   s = state_in j r
 
-  -- `with_both` applies the function `f` to this state and this command.
+  -- `with_both` returns `f` of this state and this command, since both are decoded.
   said : {X : Type 0} (other : X) (f : DeviceState → KeptCommand → X) → with_both (state_of_bytes (bytes_of s)) (command_of text) other f ≡ f s c
   said other f =
       ap (λ (o : Option DeviceState). with_both o (command_of text) other f) (state_told s is)

@@ -1,4 +1,4 @@
--- A device that executes the entries of a text reaches the position that `walk` defines.
+-- A device that executes the entries of a journal reaches the position that `walk` defines.
 use Rattle.std.proofs.Common.{◌≡◌, ◌<◌, ◌+◌, ◌==◌, ℕ, zero, suc, Bool, true, false, List, [], ◌∷◌, ◌++◌, length, drop, map, get_or, Option, Some, None, Result, Ok, Err, refl, subst, sym, ap, ◌∙◌, append_assoc, arith, length-append, eq-eqb, eqb-true}
 use Rattle.std.specs.List.{AllByRecursion}
 use Rattle.std.proofs.lemmas.Bool.{false≢true}
@@ -108,8 +108,8 @@ module _ (before : Journal) (old : Record) (one : Performance) (is : IsDeviceSta
 abbrev text_of : ℕ → List Performance → List ℕ
 text_of sum performances = entries_text sum (map entry_in performances)
 
--- Walking over these entries and a rest is the same as walking over the rest, from the position
--- after the entries.
+-- Walking over these entries and further bytes is the same as walking over the further bytes from
+-- the position after the entries.
 pub record GoesOn (bound : ℕ) (before : Journal) (old : Record) (performances : List Performance) (after : Journal) (new : Record)
     (taken : ℕ) (left : List ℕ) : Type 0 where
   pub more : ℕ
@@ -200,7 +200,7 @@ fails (one ∷ performances) (suc bound) before old after new taken left is are 
     (λ answered. fails performances bound mid one.seen.step.after after new (taken + length own) left (next_is before old one is leads.0) are.1 leads.1
     (λ others. differ (ap (λ (n : ℕ). n ∷ map response_sum performances) answered ∙ ap (λ (l : List ℕ). answer_said one ∷ l) others)) less')
 
--- ---- the end of a text
+-- ---- the end of the bytes
 
 torn_end : (more : ℕ) (p : Spot) (taken : ℕ) (left : List ℕ) → length left < more → IsTorn p.chain left → walk more p taken left ≡ Some (p, taken)
 torn_end zero p taken left less torn = absurd (omega (arith, less))
@@ -225,15 +225,15 @@ last_is [] x = refl
 last_is (y ∷ []) x = refl
 last_is (y ∷ z ∷ front) x = last_is (z ∷ front) x
 
--- ---- the result for a whole text
+-- ---- the result for all bytes
 
--- Without a fault, the walk over a text ends at this position after `taken` bytes; with a fault, it
--- fails.
+-- If there is no fault, the walk over the bytes ends at this position after `taken` bytes. If there
+-- is one, the walk fails.
 abbrev pub Tells : Option FollowFault → Option (Spot × ℕ) → Spot → (taken : ℕ) → Type 0
 Tells None found p taken = found ≡ Some (p, taken)
 Tells (Some fault) found p taken = found ≡ None
 
--- The walk over these entries and the bytes after them fails if there is a fault, and otherwise
+-- If there is a fault, the walk over these entries and the bytes after them fails. Otherwise, it
 -- ends at the position after the entries.
 told_by : (fault : Option FollowFault) (performances : List Performance) (before : Journal) (old : Record) (after : Journal) (new : Record) (taken : ℕ)
     (left text : List ℕ) → IsDeviceState (state_in before old) → AllByRecursion IsEntry (map entry_in performances)

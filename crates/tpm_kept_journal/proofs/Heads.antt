@@ -29,9 +29,9 @@ use Rattle.tpm_kept_journal.proofs.Walks.{spot_made}
 use Rattle.tpm_kept_journal.proofs.texts.HeadAt.{head_again, head_found}
 use Rattle.tpm_kept_journal.proofs.texts.Parts.{Decides-leb, are_bytes-Decides, so_found, so_told}
 
--- ---- texts that encode a state
+-- ---- bytes that encode a state
 
--- The facts about a text that can be written in a head.
+-- The requirements on an encoded state that can be written in a head.
 pub record IsWritable (text : List ℕ) : Type 0 where
   pub are : AreBytes text
   pub says : IsStateText text
@@ -56,7 +56,7 @@ writable text is =
       small = (Decides-leb (length (content_in text)) (content_limit State)).0 others.1;
     }
 
--- If a text consists of bytes, so does its part after the first eight.
+-- If a list consists of bytes, so does its part after the first eight.
 content_bytes : (text : List ℕ) → AreBytes text → AreBytes (content_in text)
 content_bytes text are i = rw get_or-drop (are (8 + i))
 
@@ -70,7 +70,7 @@ has_head text is = record {
   are_bytes = content_bytes text is.are;
 }
 
--- The text of a state has at least the eight bytes of the time.
+-- An encoded state has at least eight bytes, which encode the time.
 content_some : (text : List ℕ) (whole : WholeState) → current_state_of_text (content_in text) ≡ Ok whole → 8 ≤ length text
 content_some text whole says = long (content_in text) refl
   where
@@ -80,7 +80,7 @@ content_some text whole says = long (content_in text) refl
         absurd cc
     long (byte ∷ content) some = omega (arith, ap length some, length-drop 8 text)
 
--- If a text decodes to a state, encoding this state gives the text again.
+-- If bytes decode to a state, encoding this state gives the same bytes.
 text_again : (text : List ℕ) (is : IsWritable text)
     → bytes_of (record { time = time_in text; layer = completion_of (Some is.says.layer); device = is.says.device }) ≡ text
 unfolding bytes_of
@@ -98,7 +98,7 @@ text_again text is =
 
 -- ---- heads
 
--- A text that begins with a head is read with `head_at`, and not as the head of `no_head`.
+-- If the bytes begin with a head, they are read with `head_at`, and not as the head of `no_head`.
 head_first : (kind : HeadKind) (clock : ℕ) (content rest : List ℕ)
     → started_at (head_text kind clock content ++ rest) ≡ started_by (head_at (head_text kind clock content ++ rest))
 unfolding head_text marked_line
@@ -110,7 +110,7 @@ pub head_starts : (h : PlainHead) (rest : List ℕ) → HasHead h.kind h.clock h
     → started_at (text_of_head h ++ rest) ≡ spot_by (length (text_of_head h)) (start_by h.kind h.clock h.content)
 head_starts h rest has = head_first h.kind h.clock h.content rest ∙ ap started_by (head_again h rest has)
 
--- The head that contains a text's state starts the device in that state.
+-- The head that contains an encoded state starts the device in that state.
 state_starts : (text : List ℕ) (is : IsWritable text)
     → spot_by (length (head_text State (time_in text) (content_in text))) (start_by State (time_in text) (content_in text))
     ≡ Some (spot_made text (head_sum (time_in text) (content_in text)), length (head_text State (time_in text) (content_in text)))
@@ -146,7 +146,7 @@ pub heads : (text : List ℕ) → after_head_text (head_of text) ≡ Some (spot_
 unfolding after_head_text head_of head_sum_of
 heads text = head_by (is_state_text text) text (writable text)
 
--- ---- texts after a head
+-- ---- bytes after a head
 
 found_head : (size : ℕ) (found : Option (Spot × ℕ)) (p : Spot) → whole_head size found ≡ Some p → found ≡ Some (p, size)
 found_head size None p is = absurd cc
@@ -163,7 +163,7 @@ started_whole : (size : ℕ) (start : Result Start OpenFault) (p : Spot) (n : �
 started_whole size (Ok start) p n is = ap count_of is
 started_whole size (Err why) p n is = absurd cc
 
--- If a text is a head and nothing more, the same head is found when any text follows it.
+-- If the bytes are a head and nothing more, the same head is found when any bytes follow it.
 head_alone : (head : List ℕ) (found : Option PlainHead) (p : Spot) → head_at head ≡ found → started_by found ≡ Some (p, length head)
     → (rest : List ℕ) → head_at (head ++ rest) ≡ head_at head
 head_alone head None p at is rest = absurd cc
@@ -197,7 +197,7 @@ started_behind [] rest p is = absurd cc
 started_behind (first ∷ []) rest p is = absurd cc
 started_behind (first ∷ second ∷ text) rest p is = head_behind (first == 256) first second text rest p is
 
--- Opening a head and a rest executes the rest from the position after the head.
+-- Opening a head with further bytes executes these bytes from the position after the head.
 pub opened_after : (head rest : List ℕ) (p : Spot) → after_head_text head ≡ Some p → opened_text (head ++ rest) ≡ walked p (length head) rest
 unfolding after_head_text opened_text
 opened_after head rest p is =

@@ -1,4 +1,4 @@
--- Opening a prefix of a text executes at most as many bytes as salvaging the text does.
+-- Opening a prefix of a journal executes at most as many bytes as salvaging the journal does.
 use Rattle.std.proofs.Common.{◌≡◌, ◌≤◌, ◌+◌, ◌==◌, ℕ, zero, suc, List, [], ◌∷◌, ◌++◌, length, drop, take, Option, Some, None, Result, Ok, Err, refl, subst, sym, ap, ◌∙◌, append-nil, append_assoc, arith, drop_at, take_at, length-append}
 use Rattle.std.specs.List.{AllByRecursion}
 use Rattle.std.proofs.lemmas.List.{take-append-drop}
@@ -38,8 +38,8 @@ use Rattle.tpm_kept_journal.proofs.texts.Parts.{so_found}
 
 -- ---- the entries that a walk executed
 
--- A text consists of these entries and a rest that does not begin with an entry. `n` is `taken`
--- plus the size of the entries.
+-- The bytes consist of these entries and further bytes that do not begin with an entry. `n` is
+-- `taken` plus the size of the entries.
 record IsWalked (chain taken n : ℕ) (text : List ℕ) : Type 0 where
   entries : List PlainEntry
   are : AllByRecursion IsEntry entries
@@ -93,7 +93,7 @@ walk_parts zero p q taken n text leads = absurd cc
 walk_parts (suc bound) p q taken n text leads =
     found_walked bound p q taken n text leads (λ s from left on. walk_parts bound s q from n left on) (finding p text)
 
--- ---- the executed entries are among those of the text, and all of them if nothing follows
+-- ---- the executed entries are among those of the journal, and all of them if nothing follows
 
 few_entries : (sum : ℕ) (text : List ℕ) (entries : List PlainEntry) (rest : List ℕ) → AllByRecursion IsEntry entries
     → text ≡ entries_text sum entries ++ rest → length (entries_text sum entries) ≤ entries_size sum text
@@ -169,7 +169,7 @@ salvaged_size text p n (Some h) at leads =
     ap (take (length head + many)) found.1 ∙ take-append-add head rest many in
     all_walked sum (length head) n rest (opened_parts h (take many rest) p n found.0 (sym (ap opened_text so) ∙ leads))
 
--- Opening a prefix of a text executes at most as many bytes as the text's intact part has.
+-- Opening a prefix of a journal executes at most as many bytes as the journal's intact part has.
 front_size : (text : List ℕ) (m : ℕ) (q : Spot) (k : ℕ) (found : Option PlainHead) → AreBytes text → head_at (take m text) ≡ found
     → opened_text (take m text) ≡ Some (q, k) → k ≤ size_with (head_at text) text
 front_size text m q k None are at leads =

@@ -1,4 +1,4 @@
--- Executing an entry again has the same effect as the command had.
+-- Executing the entry of a command has the same effect as the command had.
 use Rattle.std.proofs.Common.{◌≡◌, ◌≤◌, ◌-◌, ◌&&◌, ℕ, Bool, true, false, List, [], ◌∷◌, ◌++◌, length, replicate, take, Option, Some, None, Result, Ok, Err, refl, sym, ap, ◌∙◌, get_or, arith, if◌then◌else◌}
 use Rattle.std.specs.Int.{w32, to_be_bytes}
 use Rattle.std.proofs.lemmas.Bool.{false≢true}
@@ -32,8 +32,8 @@ use Rattle.tpm_kept_journal.specs.State.{DeviceState}
 
 -- ---- without the completing layer
 
--- The check that the step reports does not affect the number of bytes drawn: a refused command
--- draws none.
+-- The number of bytes drawn does not depend on the check that refused the command, because a
+-- refused command draws none.
 drawn_told : (r : Record) (random : List ℕ) (a : Result Accepted RefusedCommand)
     → drawn_by_command random a (stepped_of r random a).row.check ≡ drawn_by_command random a 0
 drawn_told r random (Ok a) = refl
@@ -90,8 +90,8 @@ module _ (c : Completion) (old : Record) (buffer : List ℕ) (locality elapsed :
   pub few_drawn : (passed c old (event random)).drawn ≤ length random
   few_drawn = omega (arith, passed_drawn, drawn_few)
 
-  -- If a command draws no random bytes, its effect is the same with other random bytes of the same
-  -- number.
+  -- If a command draws no random bytes, its effect is the same with any other random bytes, if
+  -- there are as many of them.
   pub passed_anyhow : (other : List ℕ) → drawn ≡ 0 → length other ≡ length random → passed c old (event other) ≡ passed c old (event random)
   passed_anyhow other none as_long =
       passed_alike other (as_long, ap (λ (n : ℕ). take n other) none ∙ ap (λ (n : ℕ). take n random) (sym none))

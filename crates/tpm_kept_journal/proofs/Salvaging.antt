@@ -1,4 +1,4 @@
--- The device that is salvaged from a text is the device of a prefix of that text.
+-- The device that is salvaged from a journal is the device of a prefix of that journal.
 use Rattle.std.proofs.Common.{◌≡◌, ◌≤◌, ◌<◌, ◌+◌, ℕ, zero, suc, List, [], ◌++◌, length, drop, take, Option, Some, None, Result, Ok, Err, refl, sym, ap, ◌∙◌, arith, length-append}
 use Rattle.std.proofs.lemmas.List.{length-take, length-take-le, take-take}
 use Rattle.std.proofs.Math.Seq.{take-append-add}
@@ -21,10 +21,10 @@ use Rattle.tpm_kept_journal.proofs.texts.HeadAt.{head_found}
 use Rattle.tpm_kept_journal.proofs.texts.NextAt.{next_is, torn_tells}
 use Rattle.tpm_kept_journal.proofs.texts.TornText.{is_torn_text-Decides}
 
--- ---- what a text begins with
+-- ---- what the bytes begin with
 
--- At a position, a text begins with an entry that leads to another position; or it ends without a
--- further entry; or it does not continue the journal.
+-- At a position, the bytes begin with an entry, after which there is another position; or they end
+-- without a further entry; or they do not continue the journal.
 pub data Finding (p : Spot) (text : List ℕ) : Type 0 where
   AtEntry : (e : PlainEntry) (q : Spot) (rest : List ℕ) → IsEntry e → text ≡ entry_text p.chain e ++ rest
       → performed_on p.chain e (state_of_bytes p.state) ≡ Some q → Finding p text
@@ -54,15 +54,15 @@ abbrev pub taken_of : Option (Spot × ℕ) → ℕ
 taken_of None = 0
 taken_of (Some found) = found.1
 
--- If walking over a text reaches a position, then walking over only its executed bytes reaches the
--- same position.
+-- If walking over the bytes reaches a position, then walking over only the executed ones reaches
+-- the same position.
 record IsFront (p q : Spot) (taken n : ℕ) (text : List ℕ) : Type 0 where
   size : ℕ
   is : n ≡ taken + size
   within : size ≤ length text
   walks : (bound : ℕ) → size < bound → walk bound p taken (take size text) ≡ Some (q, n)
 
--- If the text ends, no byte is executed.
+-- If the bytes end without a further entry, no byte is executed.
 front_ends : (bound : ℕ) (p q : Spot) (taken n : ℕ) (text : List ℕ) → walk (suc bound) p taken text ≡ Some (q, n) → found_at p text ≡ Ends
     → IsFront p q taken n text
 front_ends bound p q taken n text leads ends =
@@ -79,7 +79,7 @@ front_ends bound p q taken n text leads ends =
     nothing (suc more) less here =
         walk_ends more p taken [] (found_torn p [] ((is_torn_text-Decides p.chain []).1 (torn_nothing p.chain))) ∙ here
 
--- If the text begins with an entry, the executed bytes begin with that entry.
+-- If the bytes begin with an entry, so do the executed ones.
 front_goes : (p q s : Spot) (taken n : ℕ) (e : PlainEntry) (rest text : List ℕ) → IsEntry e → text ≡ entry_text p.chain e ++ rest
     → performed_on p.chain e (state_of_bytes p.state) ≡ Some s → IsFront s q (taken + length (entry_text p.chain e)) n rest
     → IsFront p q taken n text
@@ -121,9 +121,9 @@ walk_front zero p q taken n text leads = absurd cc
 walk_front (suc bound) p q taken n text leads =
     found_front bound p q taken n text leads (λ s from left on. walk_front bound s q from n left on) (finding p text)
 
--- ---- a head and the text after it
+-- ---- a head and the bytes after it
 
--- If a head and a rest open as a journal, so do the head and only the executed bytes of the rest.
+-- If a head and the bytes after it open as a journal, so do the head and only the executed bytes.
 record IsFrontOf (h : PlainHead) (rest : List ℕ) (p : Spot) (n : ℕ) : Type 0 where
   size : ℕ
   is : n ≡ length (text_of_head h) + size

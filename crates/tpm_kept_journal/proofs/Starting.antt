@@ -1,4 +1,4 @@
--- Opening a text makes the device that `opened_text` defines.
+-- Opening a journal creates the device that `opened_text` defines.
 use Rattle.std.proofs.Common.{◌≡◌, ◌<◌, ◌+◌, ◌==◌, ◌^◌, ℕ, Bool, true, false, cond, List, [], ◌∷◌, length, drop, Option, Some, None, Result, Ok, Err, refl, subst, sym, ap, ◌∙◌, arith, drop_at, eqb-true}
 use Rattle.std.specs.Prelude.{IfSome}
 use Rattle.tpm_bytes.specs.Reading.{AreBytes}
@@ -100,7 +100,7 @@ module _ (clock : ℕ) (content : List ℕ) (small : clock < 2 ^ 64) (are : AreB
   starts_whole Image is = by_image (image_of content) refl is
   starts_whole State is = by_state (current_state_of_text content) refl is
 
--- ---- texts that begin with a head
+-- ---- bytes that begin with a head
 
 module _ (text : List ℕ) (kind : HeadKind) (clock : ℕ) (content rest : List ℕ) (begins : BeginsWith text kind clock content rest) where
   abbrev head : List ℕ
@@ -115,7 +115,8 @@ module _ (text : List ℕ) (kind : HeadKind) (clock : ℕ) (content rest : List 
   behind found is =
       ap (opened_behind text) (ap started_at begins.is ∙ head_starts head_of_text rest begins.has ∙ is)
 
-  -- If the head starts a device, opening the text makes this device execute the rest.
+  -- If the head starts a device, opening the journal makes this device execute the bytes after the
+  -- head.
   pub opens_by : (start : Start) → start_by kind clock content ≡ Ok start
       → opened_text text ≡ walked (spot_of start.journal start.device) (length head) rest
   opens_by start is =
@@ -126,7 +127,7 @@ module _ (text : List ℕ) (kind : HeadKind) (clock : ℕ) (content rest : List 
   pub opens_not : (why : OpenFault) → start_by kind clock content ≡ Err why → opened_text text ≡ None
   opens_not why is = behind None (ap (spot_by (length head)) is)
 
--- ---- texts that do not begin with a head
+-- ---- bytes that do not begin with a head
 
 started_none : (text : List ℕ) → AreBytes text → head_at text ≡ None → started_at text ≡ None
 started_none [] are none = refl
@@ -142,9 +143,9 @@ pub opens_none : (text : List ℕ) → AreBytes text → head_at text ≡ None �
 unfolding opened_text
 opens_none text are none = ap (opened_behind text) (started_none text are none)
 
--- ---- the result of opening a text
+-- ---- the result of opening a journal
 
--- `opened_text` agrees with the result of executing the text's entries.
+-- `opened_text` agrees with the result of executing the journal's entries.
 read_so : (text : List ℕ) (followed : Followed) (journal : Journal) (new : Record) (reads : Reads text followed journal new)
     → Tells followed.fault (opened_text text) (spot_of journal new) (length (head_text reads.starts.kind reads.starts.clock reads.starts.content) + followed.taken)
 read_so text followed journal new reads =

@@ -1,4 +1,4 @@
--- Decoding the text of a device's state gives this state again.
+-- Decoding an encoded state of a device gives this state again.
 use Rattle.std.proofs.Common.{◌≡◌, ◌<◌, ◌^◌, ℕ, List, Option, Some, None, Result, Ok, Err, refl, ap, ◌∙◌, drop_at, take_at}
 use Rattle.std.specs.Int.{w64, from_be_bytes, to_be_bytes}
 use Rattle.tpm_image_text.proofs.FieldSpelling.{wide64}
@@ -13,7 +13,7 @@ use Rattle.tpm_state_text.specs.declared.layer.Layer.{Layer}
 use Rattle.tpm_state_text.proofs.StateLaws.{current_told}
 use Rattle.tpm_kept_journal.specs.State.{DeviceState, IsDeviceState, bytes_of, content_in, state_by, state_of_bytes, state_with, time_in, whole_of}
 
--- ---- decoding the text of a state
+-- ---- decoding an encoded state
 
 state_of : (s : DeviceState) → state_with s.time s.device (Some (layer_of s.layer)) ≡ Some s
 state_of s =
@@ -36,12 +36,12 @@ state_told s is =
     ∙ ap (state_by s.time) (current_told (whole_of s) is.whole)
     ∙ state_of s
 
--- ---- texts that decode to a state
+-- ---- bytes that decode to a state
 
 pub layer_back : (layer : Layer) → layer_of (completion_of (Some layer)) ≡ layer
 layer_back layer = refl
 
--- The facts about a text that decodes to a state.
+-- The facts about bytes that decode to a state.
 pub record IsStateText (text : List ℕ) : Type 0 where
   pub layer : Layer
   pub device : Record

@@ -21,9 +21,9 @@ use Rattle.tpm_kept_journal.proofs.texts.NextAt.{next_only}
 use Rattle.tpm_kept_journal.proofs.texts.Parts.{so_told}
 use Rattle.tpm_kept_journal.proofs.texts.TornText.{is_torn_text-Decides}
 
--- ---- what a text begins with
+-- ---- what the bytes begin with
 
--- For a text that begins with an entry, `found_at` returns the result of that entry.
+-- If the bytes begin with an entry, `found_at` returns the result of that entry.
 pub found_entry : (p : Spot) (e : PlainEntry) (rest : List ℕ) → IsEntry e
     → found_at p (entry_text p.chain e ++ rest) ≡ found_by (length (entry_text p.chain e)) (performed_on p.chain e (state_of_bytes p.state))
 unfolding found_at
@@ -32,7 +32,7 @@ found_entry p e rest is =
     ap (found_next p) (next_only p.chain text (Whole e)
     (is, ap (λ (l : List ℕ). entry_text p.chain e ++ l) (sym (drop_at (entry_text p.chain e) rest (length (entry_text p.chain e)) refl))))
 
--- If a text is torn, `found_at` returns `Ends`.
+-- If the bytes are torn, `found_at` returns `Ends`.
 pub found_torn : (p : Spot) (text : List ℕ) → is_torn_text p.chain text ≡ true → found_at p text ≡ Ends
 unfolding found_at
 found_torn p text torn = ap (found_next p) (next_only p.chain text Torn ((is_torn_text-Decides p.chain text).0 torn))
@@ -59,7 +59,7 @@ pub walk_fails : (bound : ℕ) (p : Spot) (taken : ℕ) (text : List ℕ) → fo
 unfolding walk
 walk_fails bound p taken text found = ap (λ (f : Found). walk_by f bound p taken text) found
 
--- If the first entry of a text can be executed, the walk continues after it.
+-- If the first entry can be executed, the walk continues after it.
 pub walk_entry : (bound : ℕ) (p q : Spot) (e : PlainEntry) (taken : ℕ) (rest : List ℕ) → IsEntry e
     → performed_on p.chain e (state_of_bytes p.state) ≡ Some q
     → walk (suc bound) p taken (entry_text p.chain e ++ rest) ≡ walk bound q (taken + length (entry_text p.chain e)) rest
@@ -68,7 +68,7 @@ walk_entry bound p q e taken rest is performed =
     walk_goes bound p q size taken (entry_text p.chain e ++ rest) (found_entry p e rest is ∙ ap (found_by size) performed)
     ∙ ap (walk bound q (taken + size)) (drop_at (entry_text p.chain e) rest size refl)
 
--- If the first entry of a text cannot be executed, the walk fails.
+-- If the first entry cannot be executed, the walk fails.
 pub walk_otherwise : (bound : ℕ) (p : Spot) (e : PlainEntry) (taken : ℕ) (rest : List ℕ) → IsEntry e
     → performed_on p.chain e (state_of_bytes p.state) ≡ None
     → walk (suc bound) p taken (entry_text p.chain e ++ rest) ≡ None
@@ -81,8 +81,8 @@ walk_otherwise bound p e taken rest is performed =
 abbrev pub spot_made : List ℕ → ℕ → Spot
 spot_made state chain = record { state = state; chain = chain }
 
--- A command that has an entry leads to the same position as its entry. If the position's text
--- encodes no state, the command's entry is empty, and the position stays the same.
+-- The position after a command that has an entry is the same as the one after its entry. If the
+-- position does not encode a state, the command's entry is empty, and the position stays the same.
 pub data Leads (p : Spot) (c : List ℕ) : Type 0 where
   Nowhere : (device_journal.entry p c ≡ []) → (stepped device_journal p c ≡ p) → Leads p c
   Further : (e : PlainEntry) → IsEntry e → (device_journal.entry p c ≡ entry_text p.chain e)
@@ -98,8 +98,7 @@ module _ (p : Spot) (c : List ℕ) (found : IsEntered c) where
   abbrev entry : DeviceState → PlainEntry
   entry s = entry_of (command s) (effect s (command s))
 
-  -- `with_both` applies the function `f` if the position's text encodes a state, and otherwise
-  -- returns `other`
+  -- `with_both` returns `f` of this state and the command, since both are decoded
   said : {X : Type 0} (other : X) (f : DeviceState → KeptCommand → X) (s : DeviceState) → state_of_bytes p.state ≡ Some s
       → with_both (state_of_bytes p.state) (command_of c) other f ≡ f s given_command
   said other f s is =
@@ -121,7 +120,7 @@ module _ (p : Spot) (c : List ℕ) (found : IsEntered c) where
       (performed_again s (command s) found.given.1)
       ∙ so_told (sum_of seen.step.response == sum_of seen.step.response) (spot_after s) (eq-eqb _ _ refl)
 
-  -- If the position's text encodes a state, the command leads to a next position.
+  -- If the position encodes a state, there is a next position, after the command.
   further : (s : DeviceState) → state_of_bytes p.state ≡ Some s → Leads p c
   further s is =
       let entry_is : entry_at_spot p c ≡ Some (entry s) = said None entered s is in

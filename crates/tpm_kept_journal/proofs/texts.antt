@@ -1,4 +1,4 @@
--- Proofs about the contents of a journal's text.
+-- Proofs about the contents of a journal.
 pub mod Parts
 pub mod EntryAt
 pub mod HeadAt

@@ -1,4 +1,5 @@
--- A command to a kept device, as a text that contains everything on which its effect depends.
+-- A command to a kept device, and its encoding, which contains everything on which the command's
+-- effect depends.
 use Rattle.std.specs.Prelude.{◌≡◌, ℕ, ◌≤◌, ◌==◌, nat_le, not, Bool, true, false, List, length, if◌then◌else◌, Result, Ok, Err}
 use Rattle.std.specs.Int.{w8, w32, w64}
 use Rattle.tpm_bytes.specs.Reading.{◌>>=◌, AreBytes, refused_if}
@@ -24,8 +25,8 @@ pub data KeptCommand : Type 0 where
 abbrev pub is_locality : ℕ → Bool
 is_locality number = nat_le number 4
 
--- the TPM command that a text encodes, without its moment: a byte for the locality, a byte for the
--- completing layer, the random bytes, and the buffer
+-- the TPM command that the bytes encode, without its moment: a byte for the locality, a byte for
+-- the completing layer, the random bytes, and the buffer
 unfoldable pub executed_in : Moment → List ℕ → Result KeptCommand Malformed
 executed_in moment text = do
   locality ← passing is_locality (number_in w8) text
@@ -33,21 +34,21 @@ executed_in moment text = do
   random ← bytes_in 256 completes.1
   Ok (Executes moment locality.0 completes.0 random.0 random.1)
 
--- a command of kind 0, after the byte for the kind: eight bytes for the host's clock, and the rest
--- of the command
+-- a command of kind 0, without the byte for the kind: eight bytes for the host's clock, and the
+-- rest of the command
 unfoldable pub executed_at_in : List ℕ → Result KeptCommand Malformed
 executed_at_in text = do
   now ← number_in w64 text
   executed_in (At now.0) now.1
 
--- a command of kind 3, after the byte for the kind: four bytes for the milliseconds since the
+-- a command of kind 3, without the byte for the kind: four bytes for the milliseconds since the
 -- previous command, and the rest of the command
 unfoldable pub executed_after_in : List ℕ → Result KeptCommand Malformed
 executed_after_in text = do
   elapsed ← number_in w32 text
   executed_in (After elapsed.0) elapsed.1
 
--- a power cycle, after the byte for the kind: eight bytes for the host's clock, and eight for the
+-- a power cycle, without the byte for the kind: eight bytes for the host's clock, and eight for the
 -- number that has no effect
 unfoldable pub cycled_in : List ℕ → Result KeptCommand Malformed
 cycled_in text = do
@@ -63,17 +64,17 @@ by_kind kind text =
     else (if kind == 2 then Ok (Begins text)
     else (if kind == 3 then executed_after_in text else Err malformed)))
 
--- the command that a text encodes: a byte for its kind, and the fields of this kind
+-- the command that the bytes encode: a byte for its kind, and the fields of this kind
 unfoldable pub command_in : List ℕ → Result KeptCommand Malformed
 command_in text = do
   kind ← number_in w8 text
   by_kind kind.0 kind.1
 
--- the command that a text encodes; the text must consist of bytes
+-- the command that a list encodes; the list must consist of bytes
 unfoldable pub command_of : List ℕ → Result KeptCommand Malformed
 command_of text = if are_bytes text then command_in text else Err malformed
 
--- whether a text was read as a command; and whether the command has an entry
+-- whether the bytes were decoded as a command, and whether the command has an entry
 abbrev pub is_command_read : Result KeptCommand Malformed → Bool
 is_command_read (Ok c) = true
 is_command_read (Err why) = false

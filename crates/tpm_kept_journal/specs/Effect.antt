@@ -83,7 +83,7 @@ entered s (Executes moment locality completes random buffer) =
     Some (entry_of c (effect s c))
 entered s c = None
 
--- ---- the effect of a command, as functions of texts
+-- ---- the effect of a command, as functions of bytes
 
 -- the result of a function of the decoded state and command; `other` if either of them could not be
 -- decoded
@@ -103,8 +103,8 @@ response_to state command = with_both (state_of_bytes state) (command_of command
 abbrev pub entry_at_spot : Spot → (command : List ℕ) → Option PlainEntry
 entry_at_spot p command = with_both (state_of_bytes p.state) (command_of command) None entered
 
--- the text of an entry, and the checksum after it; if there is no entry, the text is empty and the
--- checksum stays the same
+-- the encoding of an entry, and the checksum after it. If there is no entry, the encoding is empty
+-- and the checksum stays the same
 abbrev pub text_if : (sum : ℕ) → Option PlainEntry → List ℕ
 text_if sum (Some e) = entry_text sum e
 text_if sum None = []

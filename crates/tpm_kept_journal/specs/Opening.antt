@@ -1,4 +1,4 @@
--- How the text of a journal is opened: its head starts a device, which executes the entries again.
+-- How a journal is opened: its head starts a device, which executes the entries again.
 use Rattle.std.specs.Prelude.{ℕ, zero, suc, ◌+◌, ◌==◌, ◌&&◌, nat_le, Bool, cond, List, [], ◌∷◌, drop, is_some, length, take, Option, Some, None, Result, Ok, Err}
 use Rattle.tpm_completion.specs.Completed.{completed}
 use Rattle.tpm_completion.specs.Execution.{Seen}
@@ -31,8 +31,8 @@ performed_on chain e (Some s) =
     })
 performed_on chain e None = None
 
--- The result of reading a text at a position. `Goes`: an entry of this size, and the position after
--- it. `Ends`: no further whole entry. `Fails`: the text does not continue the journal.
+-- The result of reading bytes at a position. `Goes`: an entry of this size, and the position after
+-- it. `Ends`: no further whole entry. `Fails`: the bytes do not continue the journal.
 pub data Found : Type 0 where
   Goes : Spot → (size : ℕ) → Found
   Ends : Found
@@ -51,9 +51,9 @@ found_next p Damaged = Fails
 unfoldable pub found_at : Spot → List ℕ → Found
 found_at p text = found_next p (next_at p.chain text)
 
--- the position after the entries of a text, and the size of all executed bytes, `taken` of which
--- were executed before; None if the text does not continue the journal. `bound` must exceed the
--- number of entries
+-- the position after the entries at the start of the bytes, and the size of all executed bytes,
+-- `taken` of which were executed before; None if the bytes do not continue the journal. `bound`
+-- must exceed the number of entries
 unfoldable pub walk : (bound : ℕ) → Spot → (taken : ℕ) → List ℕ → Option (Spot × ℕ)
 walk zero p taken text = None
 walk (suc bound) p taken text = elim (found_at p text) [
@@ -67,18 +67,18 @@ walked p taken text = walk (suc (length text)) p taken text
 
 -- ---- the heads of journals
 
--- whether a text encodes a state, and its state text fits in a head
+-- whether the bytes encode a state, and its state text fits in a head
 unfoldable pub is_state_text : List ℕ → Bool
 is_state_text text =
     are_bytes text
     && (is_some (state_of_bytes text) && nat_le (length (content_in text)) (content_limit State))
 
--- the head for a text that does not encode a state. It contains a number that is not a byte, so no
+-- the head for bytes that do not encode a state. It contains a number that is not a byte, so no
 -- file begins with it. Because of this head, laws about heads hold for all lists of numbers.
 abbrev pub no_head : List ℕ → List ℕ
 no_head text = 256 ∷ length text ∷ text
 
--- the head for the text of a state; and the checksum after this head
+-- the head for an encoded state, and the checksum after this head
 unfoldable pub head_of : List ℕ → List ℕ
 head_of text =
     cond (is_state_text text) (head_text State (time_in text) (content_in text)) (no_head text)
@@ -99,14 +99,14 @@ abbrev pub started_no_head : (count : ℕ) → List ℕ → Option (Spot × ℕ)
 started_no_head count text =
     where_so (nat_le count (length text)) (record { state = take count text; chain = 0 }, 2 + count)
 
--- the position after the head at the start of a text, and the size of the head
+-- the position after the head at the start of the bytes, and the size of the head
 abbrev pub started_at : List ℕ → Option (Spot × ℕ)
 started_at [] = None
 started_at (first ∷ []) = None
 started_at (first ∷ second ∷ text) =
     cond (first == 256) (started_no_head second text) (started_by (head_at (first ∷ second ∷ text)))
 
--- the position after a text that consists of exactly one head
+-- the position after bytes that are exactly one head
 abbrev pub whole_head : (size : ℕ) → Option (Spot × ℕ) → Option Spot
 whole_head size (Some found) = where_so (found.1 == size) found.0
 whole_head size None = None

@@ -1,4 +1,5 @@
--- The seed from which a device is created, as a text: random bytes, an image, or a state text.
+-- The seed from which a device is created, and its encoding: random bytes, an image, or a state
+-- text.
 use Rattle.std.specs.Prelude.{ℕ, ◌==◌, List, length, if◌then◌else◌, Option, Some, None, Result, Ok, Err}
 use Rattle.std.specs.Int.{w8, w64}
 use Rattle.tpm_bytes.specs.Reading.{◌>>=◌}
@@ -26,8 +27,8 @@ pub record Seed : Type 0 where
   pub start : ℕ
   pub content : List ℕ
 
--- the seed in a text: a byte for the kind, eight for the clock, eight for the start, and the
--- content
+-- the seed that the bytes encode: a byte for the kind, eight for the clock, eight for the start
+-- number, and the content
 unfoldable pub seed_in : List ℕ → Result Seed Malformed
 seed_in text = do
   kind ← number_in w8 text
@@ -35,12 +36,12 @@ seed_in text = do
   start ← number_in w64 now.1
   Ok (record { kind = kind.0; now = now.0; start = start.0; content = start.1 })
 
--- the state of this device with a new completing layer
+-- the state that consists of this device and a new completing layer
 abbrev pub started_anew : Seed → Record → DeviceState
 started_anew seed device =
     record { time = seed.now; layer = new_completion seed.start; device = device }
 
--- a new device; the 256 random bytes of the seed become its secrets
+-- the state of a new device; the 256 random bytes of the seed become its secrets
 abbrev pub state_made : Seed → Option DeviceState
 state_made seed =
     if length seed.content == 256 then Some (started_anew seed (manufactured seed.content)) else None
@@ -57,7 +58,8 @@ abbrev pub layer_restored : (start : ℕ) → Option Layer → Completion
 layer_restored start (Some layer) = record (completion_of (Some layer)) { start = start }
 layer_restored start None = new_completion start
 
--- the device that a state text contains, with the text's layer, or a new one if the text has none
+-- the device that a state text contains, with the layer that it contains, or with a new one if it
+-- contains none
 abbrev pub state_restored : Seed → Result WholeState StateFault → Option DeviceState
 state_restored seed (Ok whole) = Some (record {
   time = seed.now;
@@ -77,7 +79,7 @@ abbrev pub begun_by : Result Seed Malformed → Option DeviceState
 begun_by (Ok seed) = begun_of seed
 begun_by (Err why) = None
 
--- the state in which a device with the seed in a text begins; None if the text is not that of a
--- valid seed
+-- the state in which a device with the encoded seed begins; None if the bytes do not encode a valid
+-- seed
 abbrev pub begun_in : List ℕ → Option DeviceState
 begun_in text = begun_by (seed_in text)

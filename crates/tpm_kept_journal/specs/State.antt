@@ -1,5 +1,5 @@
--- The state of a kept device as a text: the time of its journal, and the state text of the device
--- and its completing layer.
+-- The state of a kept device, and its encoding: the time of its journal, and the state text of the
+-- device and its completing layer.
 use Rattle.std.specs.Prelude.{ℕ, ◌<◌, ◌^◌, List, ◌++◌, drop, take, Option, Some, None, Result, Ok, Err}
 use Rattle.std.specs.Int.{w64, from_be_bytes, to_be_bytes}
 use Rattle.tpm_completion.specs.declared.completion.Completion.{Completion}
@@ -28,7 +28,7 @@ pub record IsDeviceState (s : DeviceState) : Type 0 where
   pub time : s.time < 2 ^ 64
   pub whole : IsWholeState (whole_of s)
 
--- the text of a state: the time in eight bytes, then the state text
+-- the encoding of a state: the time in eight bytes, then the state text
 unfoldable pub bytes_of : DeviceState → List ℕ
 bytes_of s = to_be_bytes w64 s.time ++ state_text (whole_of s)
 
@@ -42,7 +42,7 @@ abbrev pub state_by : (time : ℕ) → Result WholeState StateFault → Option D
 state_by time (Ok whole) = state_with time whole.device whole.layer
 state_by time (Err why) = None
 
--- the two parts of a state's text: the time, and the state text
+-- the two parts of an encoded state: the time, and the state text
 abbrev pub time_in : List ℕ → ℕ
 time_in text = from_be_bytes w64 (take 8 text)
 
@@ -52,8 +52,8 @@ content_in text = drop 8 text
 unfoldable pub state_of_bytes : List ℕ → Option DeviceState
 state_of_bytes text = state_by (time_in text) (current_state_of_text (content_in text))
 
--- the state of a device with this journal; and its position in the journal, which is the state and
--- the journal's checksum
+-- the state of a device with this journal; and the device's position in the journal, which is the
+-- state and the journal's checksum
 abbrev pub state_in : Journal → Record → DeviceState
 state_in journal device =
     record { time = journal.time; layer = journal.layer; device = device }

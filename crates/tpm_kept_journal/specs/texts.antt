@@ -1,4 +1,4 @@
--- What the text of a journal contains, as functions of the text.
+-- What a journal contains, as functions of its bytes.
 pub mod Parts
 pub mod EntryAt
 pub mod HeadAt

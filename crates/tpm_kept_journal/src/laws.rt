@@ -23,9 +23,9 @@ pub fn device_journal_laws()
     ensures { IsJournal device_journal }
 {}
 
-/// The text of a state that a device can have determines this state. A journal that begins in this
-/// state begins with the head that contains the state text. The other heads of `device_journal`
-/// belong to texts that do not encode a state.
+/// The encoding of a state that a device can have determines this state. A journal that begins in
+/// this state begins with the head that contains the state text. The other heads of
+/// `device_journal` belong to bytes that do not encode a state.
 #[inline(always)]
 #[tactic(auto, using(crate::proofs::States::state_told, crate::proofs::Shown::head_shown))]
 pub fn device_state_laws()
@@ -44,7 +44,7 @@ pub fn start_laws()
         → s.layer.start ≡ seed.start }
 {}
 
-/// Salvaging a text of bytes makes the device of the longest prefix that opens as a journal.
+/// Salvaging a list of bytes creates the device of its longest prefix that opens as a journal.
 #[inline(always)]
 #[tactic(auto, using(crate::proofs::Salvaging::salvages, crate::proofs::Longest::longest))]
 pub fn salvage_laws()

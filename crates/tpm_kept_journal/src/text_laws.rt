@@ -1,5 +1,5 @@
-//! Laws about what is read from the text of a journal. Each function is a proof only: it has no
-//! effect at run time.
+//! Laws about what is read from a journal. Each function is a proof only: it has no effect at run
+//! time.
 
 ghost use Rattle.std.specs.Prelude.{◌≡◌, ◌<◌, ◌++◌, ℕ, List, [], Option, Some, None, Ok, Err, Decides, drop, false, length, take, true};
 ghost use Rattle.std.specs.List.{AllByRecursion};
@@ -16,8 +16,7 @@ ghost use Rattle.tpm_kept_journal.specs.texts.NextAt.{IsNext, PlainNext, next_at
 ghost use Rattle.tpm_kept_journal.specs.texts.StartAt.{start_at};
 ghost use Rattle.tpm_kept_journal.specs.texts.TornText.{is_litter, is_torn_text};
 
-/// A text begins with the text of an entry exactly if reading the text finds this entry at its
-/// start.
+/// The bytes begin with the encoding of an entry exactly if `entry_at` returns this entry.
 #[inline(always)]
 pub fn entry_at_laws()
     ensures written { (sum : ℕ) (e : PlainEntry) (rest : List ℕ) → IsEntry e
@@ -29,7 +28,7 @@ pub fn entry_at_laws()
         → entry_at sum text ≡ None }
 {}
 
-/// A text begins with the text of a head exactly if reading the text finds this head at its start.
+/// The bytes begin with the encoding of a head exactly if `head_at` returns this head.
 #[inline(always)]
 pub fn head_at_laws()
     ensures written { (h : PlainHead) (rest : List ℕ) → HasHead h.kind h.clock h.content
@@ -43,14 +42,14 @@ pub fn head_at_laws()
         → head_at text ≡ None }
 {}
 
-/// `is_torn_text` is true exactly for the texts that are torn.
+/// `is_torn_text` is true exactly for the bytes that are torn.
 #[inline(always)]
 pub fn torn_text_laws()
     ensures { (sum : ℕ) (text : List ℕ) → Decides (is_torn_text sum text) (IsTorn sum text) }
 {}
 
-/// Every text begins with an entry, or is torn, or is damaged; no two of these hold for one text.
-/// The code that reads a text finds which one holds.
+/// Every list of bytes begins with an entry, or is torn, or is damaged; no two of these hold for
+/// one list. The code that reads the bytes finds which one holds.
 #[inline(always)]
 pub fn next_at_laws()
     ensures is { (sum : ℕ) (text : List ℕ) → IsNext sum text (next_at sum text) }
@@ -60,8 +59,8 @@ pub fn next_at_laws()
         → next_at sum text ≡ plain_next next }
 {}
 
-/// A text that begins with an entry is not torn. A text that is torn or damaged does not begin with
-/// an entry.
+/// Bytes that begin with an entry are not torn. Bytes that are torn or damaged do not begin with an
+/// entry.
 #[inline(always)]
 pub fn next_laws()
     ensures whole { (sum : ℕ) (e : PlainEntry) (rest text : List ℕ) → IsEntry e
@@ -74,7 +73,7 @@ pub fn next_laws()
 {}
 
 /// The remains of an entry after a crash are torn: nothing; a proper prefix of the entry; or a
-/// prefix of an earlier torn text, followed by zeros.
+/// prefix of earlier torn bytes, followed by zeros.
 #[inline(always)]
 pub fn litter_laws()
     ensures nothing { (sum : ℕ) → is_torn_text sum [] ≡ true }
@@ -86,8 +85,8 @@ pub fn litter_laws()
     ensures clean { is_litter [] ≡ true }
 {}
 
-/// `entries_at` returns the entries with which a text begins, one after another. The text after
-/// them does not begin with a further entry.
+/// `entries_at` returns the entries with which the bytes begin, one after another. The bytes after
+/// them do not begin with a further entry.
 #[inline(always)]
 pub fn entries_at_laws()
     ensures written { (sum : ℕ) (entries : List PlainEntry) (rest : List ℕ)
@@ -103,8 +102,8 @@ pub fn entries_at_laws()
         ≡ entries ++ entries_at (sum_after_all sum entries) rest }
 {}
 
-/// If a text starts a journal, `start_at` returns the device and the journal that its head
-/// determines. If it does not, `start_at` returns the fault that prevents it.
+/// If the bytes start a journal, `start_at` returns the device and the journal that the head
+/// determines. Otherwise, `start_at` returns the fault that prevents it.
 #[inline(always)]
 pub fn start_at_laws()
     ensures starts { (text : List ℕ) (start : Start) (rest : List ℕ)

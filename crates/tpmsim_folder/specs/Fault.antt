@@ -1,4 +1,4 @@
--- The texts of the faults of a kept device.
+-- The messages for the faults of a kept device.
 use Rattle.std.specs.Prelude.{Bool, true, false, List, ℕ, ◌++◌, codes}
 use Rattle.tpm_keeping.specs.Sentence.{sentence}
 use Rattle.tpm_keeping.specs.declared.holder.Fault.TheVariants.{Damaged}
@@ -8,7 +8,7 @@ use Rattle.tpmsim_folder.specs.declared.fault.Place.TheVariants as place
 use Rattle.tpmsim_folder.specs.declared.fault.Said.{Said}
 use Rattle.tpmsim_folder.specs.declared.fault.Said.TheVariants as said
 
--- the part of a place's path that follows the folder's path
+-- the part of the file's or folder's path that follows the path of the device's folder
 abbrev pub place_file : Place → List ℕ
 place_file place.Folder = codes ""
 place_file place.Journal = codes "/journal"
@@ -46,12 +46,12 @@ said_text said.WasAnsweredOtherwise =
     codes "was written by a program that answers otherwise than this one, and stays as it is"
 said_text (said.Keeper fault) = sentence fault
 
--- the text of a fault, in which the folder is called state; it does not contain the system's error
+-- the message for a fault of a folder called `state`; it does not contain the system's error
 abbrev pub kept_fault_text : KeptFault → List ℕ
 kept_fault_text fault =
     codes "state" ++ place_file fault.place ++ codes " " ++ said_text fault.said
 
--- whether a fault is in a journal's contents, and not in the system
+-- whether the fault is in the journal's contents, and not in the system
 abbrev pub is_of_contents : Said → Bool
 is_of_contents said.IsNoJournal = true
 is_of_contents said.HoldsNoImage = true

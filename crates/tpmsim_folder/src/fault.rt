@@ -68,7 +68,8 @@ pub struct KeptFault {
 }
 
 impl Place {
-    /// Returns the part of the place's path that follows the folder's path.
+    /// Returns the part of the file's or folder's path that follows the path of the device's
+    /// folder.
     pub fn file(self) -> &'static str
         ensures { result.now ≡ place_file self }
     {
@@ -81,7 +82,7 @@ impl Place {
         }
     }
 
-    /// Returns this fault of the place, without a system error.
+    /// Returns this fault of the file or folder, without a system error.
     pub fn that(self, said: Said) -> KeptFault
         ensures { result ≡ record { place = self; said = said; error = None } }
     {

@@ -73,7 +73,7 @@ impl Folder {
         }
     }
 
-    /// Returns the path of a place.
+    /// Returns the path of this file or folder.
     pub fn path(&self, place: Place) -> &str {
         match place {
             Place::Folder => self.path.as_str(),
@@ -84,7 +84,7 @@ impl Folder {
         }
     }
 
-    /// Returns the metadata of the user's regular file at a place; None if there is no file.
+    /// Returns the metadata of a regular file of the user; None if there is no file at this place.
     pub fn look(&self, rt: &HostRuntime, place: Place) -> Result<Option<Metadata>, KeptFault> {
         match fs::symlink_metadata(rt, self.path(place)) {
             Ok(metadata) => match self.fault_at(place, &metadata) {
@@ -96,7 +96,7 @@ impl Folder {
         }
     }
 
-    /// Returns why the file at a place is not a regular file of the user, if it is not.
+    /// Returns why the file is not a regular file of the user, or None if it is one.
     fn fault_at(&self, place: Place, metadata: &Metadata) -> Option<KeptFault> {
         match file_fault(kind_of(metadata), metadata.uid(), self.user) {
             Some(said) => Some(place.that(said)),

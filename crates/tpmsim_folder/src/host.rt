@@ -54,7 +54,7 @@ impl<'a> Host<'a> {
         Ok(self.folder.look(self.rt, Place::Journal)?.is_some())
     }
 
-    /// Waits until no other process holds the lock, and takes it.
+    /// Waits until no other process has the lock, and takes it.
     pub fn lock(&mut self) -> Result<(), KeptFault> {
         self.lock.take(self.rt, &self.folder)
     }
@@ -137,7 +137,7 @@ impl<'a> Host<'a> {
         }
     }
 
-    /// Writes a text to the journal at this offset.
+    /// Writes bytes to the journal at this offset.
     pub fn put(&self, text: &[u8], at: u64) -> Result<(), KeptFault> {
         match self.opened()?.file.write_all_at(text, at) {
             Ok(()) => Ok(()),
@@ -153,7 +153,7 @@ impl<'a> Host<'a> {
         }
     }
 
-    /// Creates a new journal with this text, and syncs it to the disk. Before that, removes a new
+    /// Creates a new journal with these bytes, and syncs it to the disk. Before that, removes a new
     /// journal that a killed process left. If writing fails, removes the created file too.
     pub fn make(&mut self, text: &[u8]) -> Result<(), KeptFault> {
         if self.folder.look(self.rt, Place::NewJournal)?.is_some() {

@@ -6,7 +6,7 @@
 //! and random numbers ([`moment`]), and the possible faults ([`fault`]).
 //!
 //! The crate does not depend on a TPM. Contracts say which kinds of files and which owners are
-//! refused, and define the text of each fault. No contract can define the contents of a file.
+//! refused, and define the message of each fault. No contract can define the contents of a file.
 //! tpm_keeping decides when each task is done, and proves what follows from that.
 
 pub mod fault;

@@ -33,7 +33,7 @@ pub fn kind_of(metadata: &Metadata) -> Kind
     }
 }
 
-/// Returns why a file at a path is not a regular file of this user, if it is not.
+/// Returns why the file at a path is not a regular file of this user, or None if it is one.
 pub fn file_fault(kind: Kind, owner: u32, user: u32) -> Option<Said>
     ensures { result ≡ file_fault kind owner user }
 {
@@ -44,7 +44,7 @@ pub fn file_fault(kind: Kind, owner: u32, user: u32) -> Option<Said>
     }
 }
 
-/// Returns why a file at a path is not a folder of this user, if it is not.
+/// Returns why the file at a path is not a folder of this user, or None if it is one.
 pub fn folder_fault(kind: Kind, owner: u32, user: u32) -> Option<Said>
     ensures { result ≡ folder_fault kind owner user }
 {
@@ -55,7 +55,7 @@ pub fn folder_fault(kind: Kind, owner: u32, user: u32) -> Option<Said>
     }
 }
 
-/// Returns the fault of a file whose owner is not the user.
+/// Returns the fault of a file that this user does not own, or None if the user owns it.
 fn owner_fault(owner: u32, user: u32) -> Option<Said>
     ensures { result ≡ owner_fault owner user }
 {

@@ -17,7 +17,7 @@ pub mod Words
 pub mod Calls
 pub mod Held
 
--- the type of a device, as an argument of a generic function
+-- the type of the value in the box, as an argument of a generic function
 abbrev pub Content : RattleType
 Content = arg (bare (layout device.the_row)) no device.the_row
 

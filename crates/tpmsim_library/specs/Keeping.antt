@@ -30,7 +30,7 @@ call_of keeper = caller_of (λ device. spot_in device.parts.value) keeper.keeper
 abbrev pub view_of : DeviceKeeper → Holder
 view_of keeper = (call_of keeper).holder
 
--- A call with this text began. An unfinished call was abandoned.
+-- A call with this command began. An unfinished call was abandoned.
 abbrev pub Begins : (cuts : Bool) → Job → (text : List ℕ) → (before after : DeviceKeeper) → Type 0
 Begins cuts job text before after =
     (call_of after ≡ called cuts job text (view_of before)) × (after.cuts ≡ before.cuts)
@@ -93,7 +93,7 @@ said_by None = []
 abbrev pub fault_text : (number : ℕ) → List ℕ
 fault_text number = said_by (fault_of number)
 
--- the text that the host must write, and the response that may be sent
+-- the bytes that the host must write, and the response that may be sent
 abbrev pub text_by : Ask → (out : List ℕ) → List ℕ
 text_by (ask.Put cut at) out = out
 text_by (ask.Make whole) out = out
@@ -114,7 +114,7 @@ abbrev pub drops_damage : Job → Bool
 drops_damage Cut = true
 drops_damage job = false
 
--- the response that may be sent: of a job that executes a command (`if_executed`), and of one that
+-- the response that may be sent, for a job that executes a command (`if_executed`) and for one that
 -- returns the state text (`if_shown`)
 abbrev pub if_executed : Job → List ℕ → List ℕ
 if_executed Execute response = response
@@ -130,7 +130,7 @@ executed_by keeper = if_executed (view_of keeper).job (response_of (view_of keep
 abbrev pub shown_by : DeviceKeeper → List ℕ
 shown_by keeper = if_shown (view_of keeper).job (response_of (view_of keeper))
 
--- the content of the head at the start of a text; empty if there is no head
+-- the content of the head at the start of the bytes; empty if there is no head
 abbrev pub content_of : Option PlainHead → List ℕ
 content_of (Some h) = h.content
 content_of None = []
@@ -153,8 +153,8 @@ abbrev pub number_of : Bool → ℕ
 number_of true = 1
 number_of false = 0
 
--- the request for a keeper's task, with the size of the text to write or of the response, and
--- whether a new journal drops damage
+-- the request for a keeper's task, with the number of bytes to write or the size of the response,
+-- and whether a new journal drops damage
 abbrev pub request_by : Ask → (drops : Bool) → (text response : ℕ) → Request
 request_by (ask.Nothing end) drops text response =
     record (task_of 0) { size = response; fault = end_number end }
@@ -190,7 +190,7 @@ abbrev pub told_by : (got : ℕ) → Ask → (file size : ℕ) → List ℕ → 
 told_by got asked file size bytes =
     if got == 0 then did asked file size bytes else (if got == 1 then Gone else Failed)
 
--- A keeper continues with what its host reported; or an allocation failed, which ends its call.
+-- A keeper continues with what its host reported, or its call ends because an allocation failed.
 abbrev pub GoesOn : (before : Caller) → Told → (after : Caller) → Type 0
 GoesOn before told after = (after ≡ next_call device_journal before told)
     ⊎ (after ≡ next_call device_journal before Starved)

@@ -55,21 +55,21 @@ abbrev pub restore_number : RestoreFault → ℕ
 restore_number (restore.Text fault) = state_number fault
 restore_number restore.NoMemory = no_memory
 
--- `done` if a text was executed to its end, and otherwise the number of the error
+-- `done` if all entries were executed, and otherwise the number of the error
 abbrev pub follow_number : Option FollowFault → ℕ
 follow_number None = done
 follow_number (Some follow.Damaged) = 11
 follow_number (Some follow.Otherwise) = 12
 
--- the error number for a text that cannot be opened as a journal
+-- the error number for bytes that cannot be opened as a journal
 abbrev pub open_number : OpenFault → ℕ
 open_number opening.NoJournal = 10
 open_number (opening.Image fault) = fault_number fault
 open_number (opening.State fault) = restore_number fault
 open_number (opening.Follow fault) = follow_number (Some fault)
 
--- The number reports the result of opening an image. The holder has the opened device on success,
--- and otherwise the device that it had before.
+-- The number reports the result of opening an image. On success, the holder has the opened device.
+-- Otherwise, it has the device that it had before.
 abbrev pub Tells : Result Device ImageFault → (old new : Option Device) → (told : ℕ) → Type 0
 Tells (Ok device) old new told = (told ≡ done) × (new ≡ Some device)
 Tells (Err fault) old new told = (told ≡ fault_number fault) × (new ≡ old)

@@ -1,5 +1,5 @@
-//! The exports with which C begins a keeper's calls and reads its answers. A host encodes no text
-//! itself: `tpm_kept_device::writing` writes the texts of commands and seeds.
+//! The exports with which C begins a keeper's calls and reads its answers. A host encodes nothing
+//! itself: `tpm_kept_device::writing` encodes commands and seeds.
 
 ghost use Rattle.std.specs.Prelude.{◌≡◌, ◌≢◌, ◌<◌, ◌==◌, ◌∷◌, Ok, Err, drop, not, true};
 ghost use Rattle.std.specs.Option.{MatchOption};

@@ -44,8 +44,8 @@ use tpm_snapshot::{RestoreFault, completion_of, layer_of, restore_new};
 use tpm_step::{Event, Outcome};
 use tpm_types::Locality;
 
-/// A device; the outcome of its last event, which the next event overwrites; the state of its
-/// journal; and a buffer for its texts.
+/// A device, the outcome of its last event (which the next event overwrites), the state of its
+/// journal, and a buffer for what is saved.
 #[derive(Drop)]
 pub struct Device {
     machine: Machine<SlotKeep>,
@@ -69,8 +69,8 @@ pub struct Answered {
 }
 
 impl Device {
-    /// Creates a new device without a journal, whose secrets are these random bytes. None if an
-    /// allocation fails.
+    /// Creates a new device without a journal, whose secrets are these random bytes. Returns None
+    /// if an allocation fails.
     pub fn manufacture(alloc: Global, random: &[u8; 256]) -> Option<Box<Device>>
         ensures state { IfSome result (λ b. record_of b.value ≡ manufactured random.now) }
         ensures history { IfSome result (λ b. Follows (record_of b.value) []) }
@@ -91,8 +91,8 @@ impl Device {
         }
     }
 
-    /// Opens the device of an image, or returns the first error; NoMemory if the text is an image
-    /// and an allocation fails.
+    /// Opens the device of an image, or returns the first error. Returns NoMemory if the bytes are
+    /// an image and an allocation fails.
     pub fn open(alloc: Global, image: &[u8]) -> Result<Box<Device>, ImageFault>
         ensures exact { Opens (λ b. record_of b.value) true image.now result }
         ensures history { (version : Version) (r : Record) (history : History) → IsRecord r
@@ -166,7 +166,7 @@ impl Device {
         self.scratch.kept_into(&self.machine, room)
     }
 
-    /// Writes the state text to the start of a buffer, if it fits. Returns the text's size.
+    /// Writes the state text to the start of a buffer, if it fits. Returns its size.
     pub fn snapshot_into(&mut self, buffer: &mut [u8]) -> usize
         ensures put { PutsFront (state_text (whole_state self.old)) buffer.old result buffer.new }
         ensures small { result ≤ state_text_size }
@@ -178,8 +178,8 @@ impl Device {
             .snapshot_into(&self.machine, Some(&layer), buffer)
     }
 
-    /// Restores the device of a state text, or returns the first error in the text. Returns
-    /// NoMemory if an allocation fails, whatever the text is.
+    /// Restores the device of a state text, or returns the first error in the bytes. Returns
+    /// NoMemory if an allocation fails, whatever the bytes are.
     pub fn restored(alloc: Global, text: &[u8]) -> Result<Box<Device>, RestoreFault>
         ensures { RestoresDevice (λ b. b.value) text.now result }
     {
@@ -190,8 +190,8 @@ impl Device {
         Ok(device)
     }
 
-    /// Turns a new device, whose secrets are zeros, into the device of a state text. On error the
-    /// device is unspecified.
+    /// Turns a new device, whose secrets are zeros, into the device of a state text. On error, the
+    /// device's state is unspecified.
     fn restore(&mut self, text: &[u8]) -> Result<(), RestoreFault>
         requires { record_of self.old ≡ manufactured (replicate 256 0) }
         ensures { RestoresDevice (λ done. self.new) text.now result }
@@ -239,8 +239,8 @@ impl Device {
         self.journal.checkpoint(&self.machine, clock_ms, buffer)
     }
 
-    /// Opens the device of a journal, and reports the size of the head and the entries in the text;
-    /// or returns the first error. None if an allocation fails.
+    /// Opens the device of a journal, and reports the size of the journal's head and entries; or
+    /// returns the first error. Returns None if an allocation fails.
     pub fn open_journal(
         alloc: Global,
         text: &[u8],
@@ -258,8 +258,8 @@ impl Device {
         }
     }
 
-    /// Turns a new device, whose secrets are zeros, into the device of a journal; returns the size
-    /// of the head and the entries in the text. On error the device is unspecified.
+    /// Turns a new device, whose secrets are zeros, into the device of a journal. Returns the size
+    /// of the journal's head and entries. On error, the device's state is unspecified.
     fn open_in_place(&mut self, text: &[u8]) -> Result<usize, OpenFault>
         requires { record_of self.old ≡ manufactured (replicate 256 0) }
         ensures opens { IfOk result (λ taken. IsOfJournal text.now taken self.new) }
@@ -270,7 +270,7 @@ impl Device {
         Ok(opened.taken)
     }
 
-    /// Executes the entries of a text that continues the device's journal.
+    /// Executes entries that continue the device's journal.
     pub fn follow(&mut self, text: &[u8]) -> Followed
         ensures { Replays false self.old.journal (record_of self.old) text.now result
             self.new.journal (record_of self.new) }

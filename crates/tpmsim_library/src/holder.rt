@@ -1,4 +1,4 @@
-//! The pointer through which C holds a device.
+//! The pointer through which C refers to a device.
 
 ghost use Rattle.std.specs.Prelude.{◌≡◌};
 ghost use Rattle.std.specs.Option.{MatchOption};
@@ -14,7 +14,7 @@ use std::alloc::Global;
 use std::marker::Model;
 use std::mem;
 
-/// The pointer through which C holds a device. It points to the device's box, which the holder
+/// The pointer through which C refers to a device. It points to the device's box, which the holder
 /// owns, or is null if there is no device. C sees only a pointer, because the allocator occupies no
 /// bytes.
 #[repr(C)]

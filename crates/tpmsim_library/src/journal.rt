@@ -72,9 +72,9 @@ pub extern "C" fn tpmsim_journal_checkpoint(
     size
 }
 
-/// Replaces the holder's device by the device of a journal, and reports the size of the head and
-/// the entries in the text. On failure, returns the number of the first error, or NO_MEMORY, and
-/// leaves the holder unchanged.
+/// Replaces the holder's device by the device of a journal, and reports the size of the journal's
+/// head and entries. On failure, returns the number of the first error, or NO_MEMORY, and leaves
+/// the holder unchanged.
 #[unsafe(no_mangle)]
 pub extern "C" fn tpmsim_journal_open(
     alloc: Global,
@@ -99,8 +99,8 @@ pub extern "C" fn tpmsim_journal_open(
     }
 }
 
-/// Executes the entries of a text that continues the device's journal, and reports their size in
-/// the text. Returns NO_DEVICE, without any effect, if the holder is empty.
+/// Executes entries that continue the device's journal, and reports the number of bytes executed.
+/// Returns NO_DEVICE, without any effect, if the holder is empty.
 #[unsafe(no_mangle)]
 pub extern "C" fn tpmsim_journal_follow(
     alloc: Global,

@@ -50,7 +50,7 @@ impl DeviceKeeper {
         self.cuts = cuts;
     }
 
-    /// Begins a call with this text.
+    /// Begins a call with this command.
     pub fn begin(&mut self, alloc: Global, job: Job, text: &[u8]) -> Result<(), Exhausted>
         ensures ok { OnOk result (Begins self.old.cuts job text.now self.old self.new) }
         ensures err { OnErr result (self.new ≡ self.old) }
@@ -135,7 +135,7 @@ impl DeviceKeeper {
         self.keeper.begin(true, Job::Execute, text)
     }
 
-    /// Returns the text that the host must write.
+    /// Returns the bytes that the host must write.
     fn text(&self) -> &[u8]
         ensures { result.now ≡ text_of (view_of self.now) }
     {
@@ -155,7 +155,7 @@ impl DeviceKeeper {
         }
     }
 
-    /// Returns what the keeper requests from its host.
+    /// Returns what the keeper requests of its host.
     pub fn request(&self) -> Request
         ensures { result ≡ request_of (view_of self.now) }
     {
@@ -168,8 +168,8 @@ impl DeviceKeeper {
         )
     }
 
-    /// Writes the text that the host must write to the start of a buffer, if it fits. Returns its
-    /// size.
+    /// Writes the bytes that the host must write to the start of a buffer, if they fit. Returns
+    /// their number.
     pub fn text_into(&self, buffer: &mut [u8]) -> usize
         ensures { PutsFront (text_of (view_of self.now)) buffer.old result buffer.new }
     {
@@ -183,8 +183,8 @@ impl DeviceKeeper {
         put_whole(self.response(), buffer)
     }
 
-    /// Returns the response to a command, if the latest call executed one and is done; otherwise an
-    /// empty slice.
+    /// Returns the response to a command, if the latest call executed one and is done. Otherwise,
+    /// returns an empty slice.
     pub fn executed(&self) -> &[u8]
         ensures { result.now ≡ executed_by self.now }
     {

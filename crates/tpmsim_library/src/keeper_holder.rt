@@ -1,4 +1,4 @@
-//! The pointer through which C holds a keeper.
+//! The pointer through which C refers to a keeper.
 
 ghost use Rattle.std.specs.Prelude.{◌≡◌};
 ghost use Rattle.std.specs.Option.{MatchOption};
@@ -14,7 +14,7 @@ use std::alloc::Global;
 use std::marker::Model;
 use std::mem;
 
-/// The pointer through which C holds a keeper. It points to the keeper's box, which the holder
+/// The pointer through which C refers to a keeper. It points to the keeper's box, which the holder
 /// owns, or is null if there is no keeper. C sees only a pointer, because the allocator occupies no
 /// bytes.
 #[repr(C)]

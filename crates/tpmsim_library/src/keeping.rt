@@ -114,8 +114,8 @@ pub extern "C" fn tpmsim_keeper_ask(alloc: Global, holder: &mut KeeperHolder, re
     holder.put(kept);
 }
 
-/// Writes the text that the host must write to the start of a buffer, if it fits. Returns its size,
-/// or 0 if there is no keeper.
+/// Writes the bytes that the host must write to the start of a buffer, if they fit. Returns their
+/// number, or 0 if there is no keeper.
 #[unsafe(no_mangle)]
 pub extern "C" fn tpmsim_keeper_text(
     alloc: Global,

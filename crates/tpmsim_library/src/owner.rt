@@ -9,7 +9,7 @@ ghost use Rattle.tpmsim_library.specs.Held.{held};
 use std::alloc::Global;
 use std::marker::Model;
 
-/// A pointer to a box, which the owner owns; or null. A holder consists of an owner, and C sees
+/// A pointer to a box, which the owner owns, or null. A holder consists of an owner, and C sees
 /// only the holder.
 #[derive(Drop)]
 pub struct Owner<T> {

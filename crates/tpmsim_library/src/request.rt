@@ -17,7 +17,7 @@ pub struct Request {
     pub cut: u64,
     /// The offset in the file for a read or a write.
     pub at: u64,
-    /// The size of the text that the host must write, or of the response.
+    /// The number of bytes that the host must write, or the size of the response.
     pub size: usize,
     /// The number of the task.
     pub task: u8,
@@ -127,8 +127,8 @@ impl Request {
         }
     }
 
-    /// Returns the request for a keeper's task, with the size of the text to write or of the
-    /// response, and whether a new journal drops damage.
+    /// Returns the request for a keeper's task, with the number of bytes to write or the size of
+    /// the response, and whether a new journal drops damage.
     pub fn of(asked: Ask, drops: bool, text: usize, response: usize) -> Request
         ensures { result ≡ request_by asked drops text response }
     {

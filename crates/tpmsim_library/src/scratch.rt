@@ -1,4 +1,4 @@
-//! The buffer into which a device's texts are written before they are copied to the caller's
+//! The buffer into which an image or a state text is written before it is copied to the caller's
 //! buffer.
 
 ghost use Rattle.std.specs.Prelude.{◌≡◌, ◌≤◌, option_copied};
@@ -62,7 +62,7 @@ impl Scratch {
     }
 
     /// Writes the state text of a machine, with its completing layer, to the start of a buffer, if
-    /// it fits. Returns the size of the text.
+    /// it fits. Returns its size.
     pub fn snapshot_into(
         &mut self,
         machine: &Machine<SlotKeep>,

@@ -21,7 +21,7 @@ pub fn put_whole(bytes: &[u8], buffer: &mut [u8]) -> usize
     bytes.len()
 }
 
-/// Writes the content of the head at the start of a text to the start of a buffer, if it fits.
+/// Writes the content of the head at the start of the bytes to the start of a buffer, if it fits.
 /// Returns its size, or 0 if there is no head. The function is not inlined, so that its large
 /// buffer is not in its caller's stack frame.
 #[inline(never)]

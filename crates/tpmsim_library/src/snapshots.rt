@@ -22,7 +22,7 @@ use crate::told::{DONE, restore_number};
 use std::alloc::Global;
 
 /// Writes the state text of the device to the start of a buffer, if it fits. Returns the size of
-/// the text, whether it was written or not; 0 if the holder is empty.
+/// the state text, whether it was written or not; 0 if the holder is empty.
 #[unsafe(no_mangle)]
 pub extern "C" fn tpmsim_snapshot(alloc: Global, holder: &mut Holder, buffer: &mut [u8]) -> usize
     ensures written { MatchOption holder.old.device

@@ -20,7 +20,7 @@ pub const NO_LOCALITY: u8 = 2;
 /// An allocation failed.
 pub const NO_MEMORY: u8 = 3;
 
-/// No `Force`, or no `Job`, has the number that was passed.
+/// There is no `Force` or `Job` with the number that was passed.
 pub const NO_WORD: u8 = 19;
 
 /// The keeper has no answer to a TPM command.
@@ -66,7 +66,7 @@ pub fn restore_number(fault: RestoreFault) -> u8
     }
 }
 
-/// Returns DONE if a text was executed to its end, and otherwise the number of the error.
+/// Returns DONE if all entries were executed, and otherwise the number of the error.
 pub fn follow_number(fault: Option<FollowFault>) -> u8
     ensures { result ≡ follow_number fault }
 {
@@ -77,7 +77,7 @@ pub fn follow_number(fault: Option<FollowFault>) -> u8
     }
 }
 
-/// Returns the error number for a text that cannot be opened as a journal.
+/// Returns the error number for bytes that cannot be opened as a journal.
 pub fn open_number(fault: OpenFault) -> u8
     ensures { result ≡ open_number fault }
 {

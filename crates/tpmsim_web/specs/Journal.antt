@@ -56,8 +56,8 @@ checkpoint_head device now =
     head_text State (checkpoint_clock device now)
     (state_text (state_beside device.journal (record_of device)))
 
--- The device's journal restarts with a checkpoint. Starting from this checkpoint leads to the
--- same journal and device. The device and its completing layer are unchanged.
+-- The device's journal restarts with a checkpoint. Starting from this checkpoint gives the same
+-- journal and device. The device and its completing layer are unchanged.
 pub record Checkpoints (before : Device) (now : ℕ) (after : Device) : Type 0 where
   pub device : record_of after ≡ record_of before
   pub journal : after.journal
@@ -91,9 +91,9 @@ seen_in room answered after = record {
 abbrev pub journal_with : Journal → Completion → Journal
 journal_with journal layer = record journal { layer = layer }
 
--- A device executed a command, with or without its completing layer. Its response is at the start
--- of one buffer, and its entry, `size` bytes long, at the start of another. `executes` states what
--- the device executed, and which history it then follows.
+-- A device executed a command, with or without its completing layer. The response is at the start
+-- of one buffer, and the entry, `size` bytes long, at the start of another. `executes` states what
+-- the device executed, and its history after that.
 pub record Records (before : Device) (c : Command) (response : List ℕ) (answered : Answered)
     (size : ℕ) (entry : List ℕ) (after : Device) : Type 0
   where
@@ -105,18 +105,18 @@ pub record Records (before : Device) (c : Command) (response : List ℕ) (answer
     pub journal : after.journal ≡ journal_after before.journal
         (entry_of c (seen_in response answered after)) after.journal.layer
 
--- Opening this text as a journal gives this device. The journal's head and entries are `taken`
+-- Opening these bytes as a journal gives this device. The journal's head and entries are `taken`
 -- bytes long.
 abbrev pub IsOfJournal : List ℕ → (taken : ℕ) → Device → Type 0
 IsOfJournal text taken device =
     IsJournal text (record { journal = device.journal; taken = taken }) (record_of device)
 
--- A text cannot be opened as a journal, because of this error.
+-- The bytes cannot be opened as a journal, because of this error.
 abbrev pub HasFault : List ℕ → OpenFault → Type 0
 HasFault text fault = (new : Record) × OpensJournal text (Err fault) new
 
--- A device was opened from a journal whose head and entries are `taken` bytes long; or the text
--- has this error; or an allocation failed.
+-- A device was opened from a journal whose head and entries are `taken` bytes long, or the journal
+-- has this error, or an allocation failed.
 abbrev pub OpensDevice : {B : Type 0} → (B → Device) → List ℕ → (old : ℕ)
     → Option (Result B OpenFault) → (taken : ℕ) → Type 0
 OpensDevice device_in text old (Some (Ok opened)) taken = IsOfJournal text taken (device_in opened)

@@ -3,8 +3,8 @@ use Rattle.std.specs.Prelude.{ℕ, ◌+◌}
 use Rattle.tpm_types.specs.declared.rc.Place.{Place}
 use Rattle.tpm_types.specs.declared.rc.Place.TheVariants as place
 
--- one number for what a response code names: nothing, or the handle, parameter or session with this
--- number
+-- one number for what a response code refers to: nothing, or the handle, parameter or session with
+-- this number
 abbrev pub place_number : Place → ℕ
 place_number place.Nowhere = 0
 place_number (place.Handle number) = 0x100 + number

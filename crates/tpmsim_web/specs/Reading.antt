@@ -11,8 +11,8 @@ use Rattle.tpmsim_script.specs.Report.{wanted_text}
 use Rattle.tpmsim_script.specs.declared.bad_line.BadLine.{BadLine}
 use Rattle.tpmsim_web.specs.declared.read_line.ReadLine.{ReadLine}
 
--- the number of an error in a command in words; and the column of the wrong token, 0 if there is
--- none
+-- the number of an error in a command in words, and the column of the wrong token, which is 0 if
+-- there is none
 abbrev pub fault_kind : AsmFault → ℕ
 fault_kind fault.BadName = 1
 fault_kind (fault.BadField column) = 2
@@ -59,7 +59,7 @@ IsGood line waited read written next =
     (meaning : Meaning) × (line_meaning line ≡ Some meaning) × (line_check waited line ≡ Ok next)
     × Says meaning waited read (take read.size written)
 
--- A line was parsed: either it is good; or it is bad for this reason, and `next` is unchanged.
+-- A line was parsed. Either it is good, or it is bad for this reason, and `next` is unchanged.
 abbrev pub ReadsLine : List ℕ → (waited : ℕ) → Result ReadLine BadLine → (written : List ℕ)
     → (next : ℕ) → Type 0
 ReadsLine line waited (Ok read) written next =

@@ -20,7 +20,7 @@ whole_state device = record {
 }
 
 -- the effect of a command: the response at the start of its buffer, the row, and the record after
--- it
+-- the command
 abbrev pub command_seen : List ℕ → Answered → Device → Stepped
 command_seen room answered after = record {
   response = take answered.size room;
@@ -28,7 +28,7 @@ command_seen room answered after = record {
   after = record_of after;
 }
 
--- the effect of a power cycle, which has no response, and whose row names no command
+-- the effect of a power cycle, which has no response, and whose row contains no command
 abbrev pub cycle_seen : Device → Stepped
 cycle_seen after =
     record { response = []; row = record { code = 0; check = 0 }; after = record_of after }

@@ -37,7 +37,7 @@ use tpm_snapshot::{RestoreFault, completion_of, layer_of, restore_new, snapshot_
 use tpm_step::{Event, Outcome};
 use tpm_text::{trace_text, traceable_laws};
 
-/// A device; the outcome of its last event, which the next event overwrites; and the state of its
+/// A device, the outcome of its last event (which the next event overwrites), and the state of its
 /// journal, which includes that of the completing layer.
 #[derive(Drop)]
 pub struct Device {
@@ -172,7 +172,7 @@ impl Device {
         Ok(())
     }
 
-    /// Writes the state text to the start of a buffer, if it fits. Returns the text's size.
+    /// Writes the state text to the start of a buffer, if it fits. Returns its size.
     pub fn snapshot_into(&self, buffer: &mut [u8]) -> usize
         ensures put { PutsFront (state_text (whole_state self.now)) buffer.old result buffer.new }
         ensures small { result ≤ state_text_size }

@@ -1,9 +1,9 @@
-//! Texts at the start of a buffer.
+//! Writes bytes to the start of a buffer.
 
 ghost use Rattle.std.specs.Prelude.{◌≡◌};
 ghost use Rattle.tpm_image_text.specs.Saving.{PutsFront};
 
-/// Writes a text to the start of a buffer, if it fits. Returns the text's size.
+/// Writes bytes to the start of a buffer, if they fit. Returns their number.
 pub fn put_front(text: &[u8], buffer: &mut [u8]) -> usize
     ensures { PutsFront text.now buffer.old result buffer.new }
 {

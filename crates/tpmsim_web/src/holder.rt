@@ -1,4 +1,4 @@
-//! The pointer through which a page holds a device.
+//! The pointer through which a page refers to a device.
 
 ghost use Rattle.std.specs.Prelude.{◌≡◌};
 ghost use Rattle.std.specs.Option.{MatchOption};
@@ -13,7 +13,7 @@ use crate::lent::Lent;
 use std::marker::Model;
 use std::mem;
 
-/// The pointer through which a page holds a device. It points to the device's memory, which the
+/// The pointer through which a page refers to a device. It points to the device's memory, which the
 /// holder owns, or is null if there is no device. The page sees only a pointer, because the
 /// allocator occupies no bytes.
 #[repr(C)]
@@ -28,7 +28,7 @@ impl Model for Holder {
     ghost also_owns = { λ h. held device_row h.alloc h.at h.device };
 }
 
-/// The memory for one device, provided by the page. It is free, and its address may be compared
+/// The memory for one device, provided by the page. It is unused, and its address may be compared
 /// with null.
 #[repr(C)]
 #[derive(Drop)]
@@ -63,7 +63,7 @@ impl Holder {
         }
     }
 
-    /// Returns a holder of this device, which stays where it is.
+    /// Returns a holder of this device, which is not moved.
     pub fn of(device: Box<Device, Lent>) -> Holder
         ensures { result.device ≡ Some device.value }
     {

@@ -62,9 +62,9 @@ pub extern "C" fn journal_checkpoint(holder: &mut Holder, now_ms: u64, buffer: &
     size
 }
 
-/// Replaces the holder's device by the device of a journal, and reports the size of the head and
-/// the entries in the text. On failure, returns the number of the first error, or NO_DEVICE, and
-/// leaves the holder unchanged.
+/// Replaces the holder's device by the device of a journal, and reports the size of the journal's
+/// head and entries. On failure, returns the number of the first error, or NO_DEVICE, and leaves
+/// the holder unchanged.
 #[unsafe(no_mangle)]
 pub extern "C" fn journal_open(
     alloc: Global,
@@ -93,8 +93,8 @@ pub extern "C" fn journal_open(
     }
 }
 
-/// Executes the entries of a text that continues the device's journal, and reports their size in
-/// the text. Returns NO_DEVICE, without any effect, if the holder is empty.
+/// Executes entries that continue the device's journal, and reports the number of bytes executed.
+/// Returns NO_DEVICE, without any effect, if the holder is empty.
 #[unsafe(no_mangle)]
 pub extern "C" fn journal_follow(holder: &mut Holder, text: &[u8], taken: &mut usize) -> u8
     ensures follows { MatchOption holder.old.device

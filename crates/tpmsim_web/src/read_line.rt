@@ -14,7 +14,7 @@ pub struct ReadLine {
     pub size: usize,
     /// The column of the wrong token, counted from 1; 0 if there is none.
     pub column: usize,
-    /// The size of the text that says what was expected at the error.
+    /// The size of the message that says what was expected at the error.
     pub wanted: usize,
     /// The number of a locality, the milliseconds of a wait, or, for a command, the milliseconds
     /// since the previous one.

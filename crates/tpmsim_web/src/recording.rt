@@ -53,8 +53,8 @@ impl Device {
         self.journal.checkpoint(&self.machine, clock_ms, buffer)
     }
 
-    /// Turns this device into that of a journal. Returns the size of the head and the entries in
-    /// the text. On error the device is unchanged.
+    /// Turns this device into that of a journal. Returns the size of the journal's head and
+    /// entries. On error, the device is unchanged.
     pub fn open_journal(&mut self, alloc: Global, text: &[u8]) -> Result<usize, OpenFault>
         ensures opens { IfOk result (λ taken. IsOfJournal text.now taken self.new) }
         ensures fault { IfErr result (λ fault. HasFault text.now fault) }
@@ -68,7 +68,7 @@ impl Device {
         Ok(opened.taken)
     }
 
-    /// Executes the entries of a text that continues the device's journal.
+    /// Executes entries that continue the device's journal.
     pub fn follow(&mut self, text: &[u8]) -> Followed
         ensures { Replays false self.old.journal (record_of self.old) text.now result
             self.new.journal (record_of self.new) }

@@ -22,8 +22,8 @@ const TOO_LONG: usize = REPORT_LIMIT + 1;
 
 /// Writes the report on the line with this number, or nothing if the line is good. The line is
 /// passed without its line feed. `waited` is the number of milliseconds since the last command.
-/// Returns the size of the text. It is 257 if the buffer cannot hold the text; the contract does
-/// not specify when.
+/// Returns the size of the report, or 257 if the buffer cannot hold it; the contract does not
+/// specify when this happens.
 #[unsafe(no_mangle)]
 pub extern "C" fn script_report(
     number: u32,
@@ -59,7 +59,7 @@ fn put_fault(number: u32, line: &[u8], bad: BadLine, report: &mut [u8; 256]) -> 
     }
 }
 
-/// Appends the text of a report line.
+/// Appends a report line.
 fn write_fault(text: &mut ArrayString<REPORT_LIMIT>, line: FaultLine) -> fmt::Result
     ensures { OnOk result (text.new.bytes ≡ text.old.bytes
         ++ (fault_text line.number line.fault line.wanted.now ++ 10 ∷ [])) }

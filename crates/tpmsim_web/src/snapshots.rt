@@ -21,7 +21,7 @@ use crate::told::{DONE, NO_DEVICE, restore_number};
 use std::alloc::Global;
 
 /// Writes the state text of the device to the start of a buffer, if it fits. Returns the size of
-/// the text, whether it was written or not; 0 if the holder is empty.
+/// the state text, whether it was written or not; 0 if the holder is empty.
 #[unsafe(no_mangle)]
 pub extern "C" fn device_snapshot(holder: &mut Holder, buffer: &mut [u8]) -> usize
     ensures written { MatchOption holder.old.device

@@ -60,7 +60,7 @@ pub fn restore_number(fault: RestoreFault) -> u8
     }
 }
 
-/// Returns DONE if a text was executed to its end, and otherwise the number of the error.
+/// Returns DONE if all entries were executed, and otherwise the number of the error.
 pub fn follow_number(fault: Option<FollowFault>) -> u8
     ensures { result ≡ follow_number fault }
 {
@@ -71,7 +71,7 @@ pub fn follow_number(fault: Option<FollowFault>) -> u8
     }
 }
 
-/// Returns the error number for a text that cannot be opened as a journal.
+/// Returns the error number for bytes that cannot be opened as a journal.
 pub fn open_number(fault: OpenFault) -> u8
     ensures { result ≡ open_number fault }
 {

@@ -1,4 +1,4 @@
--- `entries_at` returns the entries with which a text begins, and stops where no further entry
+-- `entries_at` returns the entries with which its argument begins, and stops where no further entry
 -- begins.
 use Rattle.std.proofs.Common.{◌≡◌, ℕ, zero, suc, ◌≤◌, List, [], ◌∷◌, ◌++◌, length, drop, Option, Some, None, refl, ap, sym, ◌∙◌, append_assoc, arith, length-append}
 use Rattle.std.specs.List.{AllByRecursion}
@@ -47,7 +47,7 @@ entries_again sum entries rest are last =
 
 -- ---- entries that were read
 
--- A text begins with these entries, and the rest does not begin with an entry.
+-- The bytes begin with these entries, and the bytes after them do not begin with an entry.
 abbrev AreAt : (sum : ℕ) → List ℕ → List PlainEntry → Type 0
 AreAt sum text entries =
     AllByRecursion IsEntry entries × (text ≡ entries_text sum entries ++ after_entries sum entries text)
@@ -96,7 +96,7 @@ pub entries_found : (sum : ℕ) (text : List ℕ) → AreAt sum text (entries_at
 unfolding entries_at
 entries_found sum text = up_to_are (length text) sum text (omega arith)
 
--- ---- entries and the text after them
+-- ---- entries and the bytes after them
 
 pub texts_joined : (sum : ℕ) (front back : List PlainEntry) → entries_text sum (front ++ back) ≡ entries_text sum front ++ entries_text (sum_after_all sum front) back
 texts_joined sum [] back = refl

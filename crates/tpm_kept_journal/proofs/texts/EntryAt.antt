@@ -1,4 +1,4 @@
--- `entry_at` returns an entry exactly if a text begins with the text of this entry.
+-- `entry_at` returns an entry exactly if its argument begins with the encoding of this entry.
 use Rattle.std.proofs.Common.{◌≡◌, ℕ, ◌+◌, ◌*◌, ◌^◌, ◌==◌, Bool, true, false, List, ◌++◌, length, take, drop, max, Some, None, refl, ap, sym, subst, ◌∙◌}
 use Rattle.std.specs.Prelude.{Decides}
 use Rattle.std.proofs.lemmas.Bool.Decides.{Decides-and, Decides-like, Decides-ltb}
@@ -38,7 +38,7 @@ is_entry-Decides e =
 
 -- ---- the parts of an entry
 
--- If a text begins with the line of a mark, `mark_in` returns this mark.
+-- If the bytes begin with the line of a mark, `mark_in` returns this mark.
 pub mark_is_in : (sum : ℕ) (text mark : List ℕ) → length mark ≡ 26 → AreBytes mark → take 72 text ≡ mark_line sum mark → mark_in text ≡ mark
 unfolding mark_in
 mark_is_in sum text mark many are line =
@@ -70,7 +70,7 @@ fields_same e f a b c d g h =
     ∙ ap (λ (l : List ℕ). entry_made f.elapsed f.locality f.completes f.drawn l e.answered) g
     ∙ ap (entry_made f.elapsed f.locality f.completes f.drawn f.buffer) h
 
--- If a mark and a text contain an entry, `entry_by` reads this entry.
+-- If a mark and the bytes contain an entry, `entry_by` returns this entry.
 stands_told : (e : PlainEntry) (mark text : List ℕ) → Stands e mark text → entry_by mark text ≡ e
 unfolding entry_by
 stands_told e mark text at =
@@ -81,7 +81,7 @@ stands_told e mark text at =
     ∙ hex_is_at (102 + 2 * max 1 (length e.drawn) + 5) (buffer_size mark) text e.buffer at.is.buffer_bytes at.buffer_size at.buffer)
     at.answered
 
--- ---- the entry at the start of a text
+-- ---- the entry at the start of the bytes
 
 entry_is : (sum : ℕ) (e : PlainEntry) (rest text : List ℕ) → IsEntry e → text ≡ entry_text sum e ++ rest → entry_by (mark_in text) text ≡ e
 entry_is sum e rest text is t =

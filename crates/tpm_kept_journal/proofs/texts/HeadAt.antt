@@ -1,4 +1,4 @@
--- `head_at` returns a head exactly if a text begins with the text of this head.
+-- `head_at` returns a head exactly if its argument begins with the encoding of this head.
 use Rattle.std.proofs.Common.{◌≡◌, ℕ, ◌*◌, ◌^◌, Bool, true, false, List, ◌++◌, length, take, drop, Some, None, refl, ap, sym, subst, ◌∙◌}
 use Rattle.std.specs.Prelude.{Decides, cond}
 use Rattle.std.specs.Int.{w32, from_be_bytes}
@@ -56,7 +56,7 @@ mark_is kind clock content rest text t =
 head_made : HeadKind → (clock : ℕ) → (content : List ℕ) → PlainHead
 head_made kind clock content = record { kind = kind; clock = clock; content = content }
 
--- If a mark and a text contain a head, `head_by` reads this head.
+-- If a mark and the bytes contain a head, `head_by` returns this head.
 stands_told : (kind : HeadKind) (clock : ℕ) (content mark text : List ℕ) → HeadStands kind clock content mark text
     → head_by kind mark text ≡ record { kind = kind; clock = clock; content = content }
 unfolding head_by head_made
@@ -65,7 +65,7 @@ stands_told kind clock content mark text at =
     ap (λ (n : ℕ). head_made kind n (hex_at 79 count text)) at.clock_told
     ∙ ap (head_made kind clock) (hex_is_at 79 count text content at.has.are_bytes at.count_told at.content_told)
 
--- ---- the head at the start of a text
+-- ---- the head at the start of the bytes
 
 head_is : (h : PlainHead) (rest text : List ℕ) → HasHead h.kind h.clock h.content → text ≡ text_of_head h ++ rest
     → head_by (kind_in text) (head_mark_in text) text ≡ h

@@ -1,4 +1,5 @@
--- Each text begins with an entry, is torn, or is damaged; no two of these hold for the same text.
+-- Every list of bytes begins with an entry, is torn, or is damaged; no two of these hold for the
+-- same list.
 use Rattle.std.proofs.Common.{◌≡◌, ℕ, ◌≤◌, Bool, true, false, List, ◌++◌, length, take, drop, Option, Some, None, refl, ap, sym, ◌∙◌}
 use Rattle.std.proofs.lemmas.Bool.{false_from_ne_true}
 use Rattle.std.proofs.lemmas.List.{length-take-le, take-append-drop}

@@ -1,4 +1,4 @@
--- Lemmas about reading and testing parts of a text.
+-- Lemmas about reading and testing parts of a journal.
 use Rattle.std.proofs.Common.{◌≡◌, ℕ, zero, suc, ◌*◌, ◌<◌, ◌≤◌, Bool, true, false, List, [], ◌∷◌, ◌++◌, length, take, drop, Option, Some, None, Result, Ok, Err, refl, ap, sym, ◌∙◌, arith}
 use Rattle.std.specs.Prelude.{Decides, nat_le, nat_lt}
 use Rattle.std.proofs.lemmas.Bool.{leb-true, le-leb}
@@ -66,13 +66,13 @@ read_are_bytes digits (Err fault) is = bytes_nil
 pub spelled_are_bytes : (digits : List ℕ) → AreBytes (spelled digits)
 spelled_are_bytes digits = read_are_bytes digits (decode_of digits) refl
 
--- If the hex digits of these bytes are at an offset in a text, `hex_at` reads these bytes there.
+-- If an offset has the hex digits of these bytes, `hex_at` returns these bytes for that offset.
 pub hex_is_at : (place count : ℕ) (text bytes : List ℕ) → AreBytes bytes → count ≡ length bytes
     → take (2 * length bytes) (drop place text) ≡ encode_lower bytes → hex_at place count text ≡ bytes
 hex_is_at place count text bytes are many at =
     ap (λ (n : ℕ). hex_at place n text) many ∙ ap spelled at ∙ spelled_again bytes are
 
--- ---- the prefix of a text
+-- ---- the prefix of a list
 
 pub begins_with-Decides : (text front : List ℕ) → Decides (begins_with text front) (text ≡ front ++ drop (length front) text)
 begins_with-Decides text front =
@@ -81,7 +81,7 @@ begins_with-Decides text front =
       λ is. same.1 (ap (take (length front)) is ∙ take_at front (drop (length front) text) (length front) refl),
     )
 
--- A text that consists of a prefix and a rest begins with that prefix.
+-- A list that consists of a prefix and further bytes begins with that prefix.
 pub begins : (text front rest : List ℕ) → text ≡ front ++ rest → begins_with text front ≡ true
 begins text front rest is =
     (bytes_eq-Decides (take (length front) text) front).1 (ap (take (length front)) is ∙ take_at front rest (length front) refl)

@@ -1,4 +1,4 @@
--- A journal starts with the head at the beginning of its text.
+-- A journal is started by the head at its beginning.
 use Rattle.std.proofs.Common.{◌≡◌, ℕ, List, Option, Some, None, Ok, Err, ap, ◌∙◌}
 use Rattle.tpm_journal.specs.Starting.{BeginsWith, HoldsFault, Start, Starts, StartsNot}
 use Rattle.tpm_journal.specs.declared.opening.OpenFault.{OpenFault}

@@ -1,4 +1,4 @@
--- `is_torn_text` is true exactly for the texts that are torn.
+-- `is_torn_text` is true exactly for the bytes that are torn.
 use Rattle.std.proofs.Common.{◌≡◌, ℕ, zero, suc, ◌+◌, ◌<◌, ◌≤◌, ◌==◌, ◌&&◌, ◌||◌, inl, inr, Bool, true, false, List, [], ◌∷◌, ◌++◌, length, get_or, not, take, drop, replicate, refl, ap, sym, subst, ◌∙◌, arith, length-append}
 use Rattle.std.specs.Prelude.{Decides, bytes_eq, nat_lt}
 use Rattle.std.proofs.lemmas.Bool.{and_parts, cond-false, cond-true, eqb-true, ltb-true, ltb-false, lt-ltb, or_left, or_right, and_from}
@@ -28,7 +28,7 @@ are_of : (count : ℕ) → are_zeros (replicate count 0) ≡ true
 are_of zero = refl
 are_of (suc count) = are_of count
 
--- Without its final zeros, a text of zeros is empty, and any other text keeps its first byte.
+-- A list of zeros without its final zeros is empty. Any other list keeps its first byte.
 left_of_zeros : (text : List ℕ) → are_zeros text ≡ true → without_zeros text ≡ []
 unfolding without_zeros
 left_of_zeros [] all = refl
@@ -38,7 +38,7 @@ left_of_others : (byte : ℕ) (text : List ℕ) → are_zeros (byte ∷ text) �
 unfolding without_zeros
 left_of_others byte text not = cond-false (are_zeros (byte ∷ text)) [] (byte ∷ without_zeros text) not
 
--- A text consists of the text without its final zeros, and zeros.
+-- A list consists of the list without its final zeros, and zeros.
 one_more_left : (byte : ℕ) (text : List ℕ) (b : Bool) → are_zeros (byte ∷ text) ≡ b
     → (count : ℕ) × (text ≡ without_zeros text ++ replicate count 0)
     → (count : ℕ) × (byte ∷ text ≡ without_zeros (byte ∷ text) ++ replicate count 0)
@@ -56,7 +56,7 @@ unfolding without_zeros
 zeros_left [] = (0, refl)
 zeros_left (byte ∷ text) = one_more_left byte text (are_zeros (byte ∷ text)) refl (zeros_left text)
 
--- If zeros follow a text, the result without its final zeros is a prefix of that text.
+-- If zeros follow some bytes, the whole without its final zeros is a prefix of these bytes.
 one_more_front : (byte : ℕ) (front text : List ℕ) (b : Bool) → are_zeros (byte ∷ text) ≡ b
     → (back : List ℕ) × (front ≡ without_zeros text ++ back)
     → (back : List ℕ) × (byte ∷ front ≡ without_zeros (byte ∷ text) ++ back)
@@ -125,7 +125,7 @@ lines_end-Decides test place (byte ∷ lines) =
           ))),
     )
 
--- The test decides whether a text's lines end only where those of the mark's entry end.
+-- The test decides whether the lines end only where those of the mark's entry end.
 pub lines_end_so : (mark text : List ℕ) → Decides (lines_end (ends_line mark) 0 (drop 72 text)) (LinesEnd mark text)
 lines_end_so mark text =
     let all = lines_end-Decides (ends_line mark) 0 (drop 72 text) in (
@@ -200,7 +200,7 @@ cut_off_front sum front back cut = by (nat_lt (length front) 72) refl
               )
         ]
 
--- ---- torn texts
+-- ---- torn bytes
 
 torn_so : (sum : ℕ) (text : List ℕ) → is_torn_text sum text ≡ true → IsTorn sum text
 unfolding is_torn_text

@@ -1,4 +1,4 @@
--- The entries at the start of a text, one after another.
+-- The entries at the start of a list of bytes, one after another.
 use Rattle.std.specs.Prelude.{ℕ, zero, suc, List, [], ◌∷◌, drop, length, Option, Some, None}
 use Rattle.tpm_journal_text.specs.Entry.{PlainEntry, entry_text, sum_after}
 use Rattle.tpm_journal_text.specs.Journal.{entries_text}
@@ -9,22 +9,22 @@ abbrev pub with_next : Option PlainEntry → (PlainEntry → List PlainEntry) �
 with_next (Some e) following = e ∷ following e
 with_next None following = []
 
--- the rest of a text, after the entry at its start
+-- the remaining bytes, after the entry at their start
 abbrev pub after_entry : (sum : ℕ) → PlainEntry → List ℕ → List ℕ
 after_entry sum e text = drop (length (entry_text sum e)) text
 
--- the entries at the start of a text, but at most `most` of them
+-- the entries at the start of the bytes, but at most `most` of them
 unfoldable pub entries_up_to : (most sum : ℕ) → List ℕ → List PlainEntry
 entries_up_to zero sum text = []
 entries_up_to (suc most) sum text =
     with_next (entry_at sum text)
     (λ e. entries_up_to most (sum_after sum e) (after_entry sum e text))
 
--- the entries at the start of a text; `sum` is the checksum before the text. There are at most as
+-- the entries at the start of the bytes; `sum` is the checksum before them. There are at most as
 -- many entries as bytes
 unfoldable pub entries_at : (sum : ℕ) → List ℕ → List PlainEntry
 entries_at sum text = entries_up_to (length text) sum text
 
--- the rest of a text, after these entries at its start
+-- the remaining bytes, after these entries at their start
 abbrev pub after_entries : (sum : ℕ) → List PlainEntry → List ℕ → List ℕ
 after_entries sum entries text = drop (length (entries_text sum entries)) text

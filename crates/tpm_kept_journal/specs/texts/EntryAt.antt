@@ -1,4 +1,4 @@
--- The entry at the start of a text.
+-- The entry at the start of a list of bytes.
 use Rattle.std.specs.Prelude.{ℕ, ◌+◌, ◌*◌, ◌^◌, ◌==◌, ◌&&◌, nat_le, nat_lt, Bool}
 use Rattle.std.specs.Prelude.{List, drop, length, max, slice_index, take, Option}
 use Rattle.std.specs.Int.{w32, w64, from_be_bytes}
@@ -12,11 +12,11 @@ is_entry e =
     && ((nat_le (length e.drawn) 256 && are_bytes e.drawn)
     && (nat_le (length e.buffer) entry_limit && are_bytes e.buffer))
 
--- the mark on the first line of a text that begins with an entry; it follows the line's first word
+-- the mark on the first line, if the bytes begin with an entry; it follows the line's first word
 unfoldable pub mark_in : List ℕ → List ℕ
 mark_in text = hex_at 2 mark_size text
 
--- the entry whose numbers are in this mark, and whose bytes are at their offsets in the text
+-- the entry whose numbers are in this mark, and whose byte fields are at their offsets
 unfoldable pub entry_by : (mark text : List ℕ) → PlainEntry
 entry_by mark text = record {
   elapsed = from_be_bytes w32 (take 4 mark);
@@ -27,11 +27,11 @@ entry_by mark text = record {
   answered = from_be_bytes w64 (take 8 (drop 18 mark));
 }
 
--- whether a text begins with exactly the text of this entry; `sum` is the checksum before the text
+-- whether the bytes begin with exactly the encoding of this entry; `sum` is the checksum before it
 abbrev pub begins_with_entry : (sum : ℕ) → List ℕ → PlainEntry → Bool
 begins_with_entry sum text e = is_entry e && begins_with text (entry_text sum e)
 
--- the entry at the start of a text
+-- the entry at the start of the bytes
 unfoldable pub entry_at : (sum : ℕ) → List ℕ → Option PlainEntry
 entry_at sum text =
     let e = entry_by (mark_in text) text in

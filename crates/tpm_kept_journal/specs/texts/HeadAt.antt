@@ -1,4 +1,4 @@
--- The head at the start of a text.
+-- The head at the start of a list of bytes.
 use Rattle.std.specs.Prelude.{ℕ, ◌^◌, ◌&&◌, nat_le, nat_lt, Bool, cond, List, drop, length, take, Option}
 use Rattle.std.specs.Int.{w32, w64, from_be_bytes}
 use Rattle.tpm_journal_text.specs.Head.{content_limit, head_text, head_word}
@@ -12,7 +12,7 @@ pub record PlainHead : Type 0 where
   pub clock : ℕ
   pub content : List ℕ
 
--- the text of a head
+-- the encoding of a head
 abbrev pub text_of_head : PlainHead → List ℕ
 text_of_head h = head_text h.kind h.clock h.content
 
@@ -22,16 +22,15 @@ is_head h =
     nat_lt h.clock (2 ^ 64)
     && (nat_le (length h.content) (content_limit h.kind) && are_bytes h.content)
 
--- the kind of head that the first word of a text announces: `State`, or else `Image`
+-- the kind of head that the first word announces: `State`, or else `Image`
 unfoldable pub kind_in : List ℕ → HeadKind
 kind_in text = cond (begins_with text (head_word State)) State Image
 
--- the mark on the first line of a text that begins with a head; it follows the line's first word
+-- the mark on the first line, if the bytes begin with a head; it follows the line's first word
 unfoldable pub head_mark_in : List ℕ → List ℕ
 head_mark_in text = hex_at 19 20 text
 
--- the head of this kind, whose numbers are in this mark, and whose content is at its offset in the
--- text
+-- the head of this kind, whose numbers are in this mark, and whose content is at its offset
 unfoldable pub head_by : HeadKind → (mark text : List ℕ) → PlainHead
 head_by kind mark text = record {
   kind = kind;
@@ -39,11 +38,11 @@ head_by kind mark text = record {
   content = hex_at 79 (from_be_bytes w32 (take 4 (drop 8 mark))) text;
 }
 
--- whether a text begins with exactly the text of this head
+-- whether the bytes begin with exactly the encoding of this head
 abbrev pub begins_with_head : List ℕ → PlainHead → Bool
 begins_with_head text h = is_head h && begins_with text (text_of_head h)
 
--- the head at the start of a text
+-- the head at the start of the bytes
 unfoldable pub head_at : List ℕ → Option PlainHead
 head_at text =
     let h = head_by (kind_in text) (head_mark_in text) text in

@@ -1,4 +1,4 @@
--- Whether a text begins with an entry, is torn, or is damaged.
+-- Whether a list of bytes begins with an entry, is torn, or is damaged.
 use Rattle.std.specs.Prelude.{◌≡◌, ℕ, ◌++◌, Bool, true, false, List, drop, length, Option, Some, None}
 use Rattle.tpm_journal_text.specs.Entry.{IsEntry, PlainEntry, entry_text, plain_entry}
 use Rattle.tpm_journal_text.specs.Journal.{IsDamaged, IsTorn}
@@ -24,11 +24,11 @@ next_by (Some e) is_torn = Whole e
 next_by None true = Torn
 next_by None false = Damaged
 
--- the entry at the start of a text, or why there is none; `sum` is the checksum before the text
+-- the entry at the start of the bytes, or why there is none; `sum` is the checksum before them
 unfoldable pub next_at : (sum : ℕ) → List ℕ → PlainNext
 next_at sum text = next_by (entry_at sum text) (is_torn_text sum text)
 
--- A text consists of this entry and a rest; or it is torn; or it is damaged.
+-- The bytes consist of this entry and further bytes, or they are torn, or they are damaged.
 abbrev pub IsNext : (sum : ℕ) → List ℕ → PlainNext → Type 0
 IsNext sum text (Whole e) =
     IsEntry e × (text ≡ entry_text sum e ++ drop (length (entry_text sum e)) text)

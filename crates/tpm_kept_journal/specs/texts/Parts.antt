@@ -1,10 +1,10 @@
--- Reading parts of a text at their offsets.
+-- Reading parts of a journal at their offsets.
 use Rattle.std.specs.Prelude.{ℕ, ◌*◌, nat_lt, Bool, true, false, bytes_eq}
 use Rattle.std.specs.Prelude.{List, [], drop, length, take, Option, Some, None, Result, Ok, Err}
 use Rattle.std.specs.List.{list_all}
 use Rattle.hex.specs.Hex.{decode_of}
 
--- a value if the test holds, otherwise None
+-- a value if the test holds, and None otherwise
 abbrev pub where_so : {A : Type 0} → Bool → A → Option A
 where_so true value = Some value
 where_so false value = None
@@ -18,7 +18,7 @@ read_or_none (Err fault) = []
 abbrev pub spelled : (digits : List ℕ) → List ℕ
 spelled digits = read_or_none (decode_of digits)
 
--- the `count` bytes that are written in hex at an offset of a text
+-- the `count` bytes that are written in hex at an offset
 abbrev pub hex_at : (place count : ℕ) → (text : List ℕ) → List ℕ
 hex_at place count text = spelled (take (2 * count) (drop place text))
 
@@ -26,6 +26,6 @@ hex_at place count text = spelled (take (2 * count) (drop place text))
 abbrev pub are_bytes : List ℕ → Bool
 are_bytes bytes = list_all (λ byte. nat_lt byte 256) bytes
 
--- whether the first text begins with the second
+-- whether the first list begins with the second
 abbrev pub begins_with : (text front : List ℕ) → Bool
 begins_with text front = bytes_eq (take (length front) text) front

@@ -1,4 +1,4 @@
--- The device and the journal that the head of a text starts.
+-- The device and the journal that a head starts.
 use Rattle.std.specs.Prelude.{ℕ, List, Option, Some, None, Result, Err}
 use Rattle.tpm_journal.specs.Starting.{Start, start_by}
 use Rattle.tpm_journal.specs.declared.opening.OpenFault.{OpenFault}
@@ -11,6 +11,6 @@ abbrev pub start_of : Option PlainHead → Result Start OpenFault
 start_of (Some h) = start_by h.kind h.clock h.content
 start_of None = Err fault.NoJournal
 
--- the device and the journal that the head at the beginning of a text starts
+-- the device and the journal that the head at the start of the bytes starts
 unfoldable pub start_at : List ℕ → Result Start OpenFault
 start_at text = start_of (head_at text)

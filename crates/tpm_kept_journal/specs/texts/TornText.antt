@@ -9,12 +9,12 @@ use Rattle.tpm_kept_journal.specs.texts.EntryAt.{mark_in}
 abbrev pub are_zeros : List ℕ → Bool
 are_zeros bytes = list_all (λ byte. byte == 0) bytes
 
--- a text without the zeros at its end
+-- the bytes without the zeros at their end
 unfoldable pub without_zeros : List ℕ → List ℕ
 without_zeros [] = []
 without_zeros (byte ∷ text) = cond (are_zeros (byte ∷ text)) [] (byte ∷ without_zeros text)
 
--- whether a text begins with the line of its own mark; `sum` is the checksum before the text
+-- whether the bytes begin with the line of their own mark; `sum` is the checksum before them
 abbrev pub begins_with_mark : (sum : ℕ) → List ℕ → Bool
 begins_with_mark sum text = bytes_eq (take mark_line_size text) (mark_line sum (mark_in text))
 
@@ -29,8 +29,8 @@ lines_end test place [] = true
 lines_end test place (byte ∷ lines) =
     (not (byte == 10) || test place) && lines_end test (suc place) lines
 
--- whether a text is an incomplete entry. Either its first line is incomplete; or its first line is
--- that of a mark, which announces more bytes than the text has, and the later lines end where those
+-- whether the bytes are an incomplete entry. Either the first line is incomplete; or the first line
+-- is that of a mark, which announces more bytes than there are, and the later lines end where those
 -- of the entry would
 unfoldable pub is_cut_off : (sum : ℕ) → List ℕ → Bool
 is_cut_off sum text =
@@ -38,7 +38,7 @@ is_cut_off sum text =
     || (begins_with_mark sum text && (nat_lt (length text) (entry_size (mark_in text))
     && lines_end (ends_line (mark_in text)) 0 (drop mark_line_size text)))
 
--- whether a text is torn: without the zeros at its end, it is an incomplete entry
+-- whether the bytes are torn: without the zeros at their end, they are an incomplete entry
 unfoldable pub is_torn_text : (sum : ℕ) → List ℕ → Bool
 is_torn_text sum text = is_cut_off sum (without_zeros text)
 

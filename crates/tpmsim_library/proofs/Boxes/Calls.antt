@@ -71,16 +71,16 @@ heap_outlives {𝓤 = 𝓤} 𝓛 = fact_i 𝓤 _ (emp 𝓤) (global_laws.the_wit
 module _ (T : RattleType) (drop_of : Dict) {M : Type 1} {𝓤 : Ura M} (𝓛 : Logic 𝓤) (at_mem : Memory → SProp 𝓤) (run : Routine → Fun 𝓤) where
   open 𝓛 use {H, A}
 
-  -- the contract of `into_raw`: a box becomes its pointer and its allocator
+  -- the contract of `into_raw`, which converts a box to its pointer and its allocator
   abbrev pub Apart : Contract 𝓤
   Apart = triple_of 𝓛 (into_raw.signature T Heap ghosts dict (plain_drop Heap) drop_of)
       (into_raw.spec T Heap ghosts dict (plain_drop Heap) drop_of 𝓛 at_mem run)
 
-  -- the contract of `from_raw`: a pointer and an allocator become a box
+  -- the contract of `from_raw`, which converts a pointer and an allocator to a box
   abbrev pub Whole : Contract 𝓤
   Whole = triple_of 𝓛 (from_raw.signature T Heap ghosts dict (plain_drop Heap)) (from_raw.spec T Heap ghosts dict (plain_drop Heap) 𝓛 at_mem run)
 
-  -- The type of the value outlives a lifetime that has not ended.
+  -- Context: a lifetime that has not ended, and that the value's type outlives.
   module _ (κ : Lft) (q : Share) where
     abbrev Outlives : SProp 𝓤
     Outlives = fact 𝓤 (κ ⊑ T.lives)
@@ -146,7 +146,8 @@ pub record Linked (γ : Env) : Type 0 where
   pub drop : Wired γ drops.code
 
 module _ (T : RattleType) (L : Laws T) (drop_of : Dict) {M : Type 1} {𝓤 : Ura M} (𝓛 : Logic 𝓤) (𝓜 : Model 𝓤 𝓛.H) (𝓡 : Running 𝓤 𝓛.H 𝓜) (glued : Glued 𝓛 𝓜 𝓡 𝓡.env T drop_of) (linked : Linked 𝓡.env) where
-  -- `into_raw` and `from_raw` meet their contracts, with std's allocator and a value of any type.
+  -- `into_raw` and `from_raw` satisfy their contracts, with std's allocator and a value of any
+  -- type.
   pub apart_met : Wired 𝓡.env into_raw_symbol.code
       → Triple 𝓤 ((tables 𝓤 𝓛.H 𝓜 𝓡 𝓡.env).C (into_raw_symbol.name (types_of T (dcons dict (dcons (plain_drop Heap) (dcons drop_of dnil)))))) (Apart T drop_of 𝓛 𝓜.mem 𝓡.returns)
   apart_met call = into_raw_met.met 𝓤 𝓛 𝓜 𝓡 call T Heap L heap_laws ghosts dict (plain_drop Heap) drop_of

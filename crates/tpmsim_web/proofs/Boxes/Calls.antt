@@ -65,7 +65,7 @@ BoxRow = box.the_row device.the_row lent.the_row ghosts
 module _ {M : Type 1} {𝓤 : Ura M} (𝓛 : Logic 𝓤) where
   open 𝓛 use {H, A}
 
-  -- the two type arguments of a call outlive 'static
+  -- the two type arguments of a call outlive the lifetime 'static
   abbrev Alive : SProp 𝓤
   Alive = sep 𝓤 (A.lft [] full_share) (sep 𝓤 (A.lft [] full_share) (emp 𝓤))
 
@@ -80,12 +80,12 @@ module _ {M : Type 1} {𝓤 : Ura M} (𝓛 : Logic 𝓤) where
   source_outlives = fact_i 𝓤 _ (emp 𝓤) (lent_laws.the_within [])
 
   module _ (at_mem : Memory → SProp 𝓤) (run : Routine → Fun 𝓤) where
-    -- the contract of `into_raw`: a box becomes its pointer and its allocator
+    -- the contract of `into_raw`, which converts a box to its pointer and its allocator
     abbrev pub Apart : Contract 𝓤
     Apart = triple_of 𝓛 (into_raw.signature Content Source ghosts dict (plain_drop Source) (plain_drop Content))
         (into_raw.spec Content Source ghosts dict (plain_drop Source) (plain_drop Content) 𝓛 at_mem run)
 
-    -- the contract of `from_raw`: a pointer and an allocator become a box
+    -- the contract of `from_raw`, which converts a pointer and an allocator to a box
     abbrev pub Whole : Contract 𝓤
     Whole = triple_of 𝓛 (from_raw.signature Content Source ghosts dict (plain_drop Source)) (from_raw.spec Content Source ghosts dict (plain_drop Source) 𝓛 at_mem run)
 
@@ -141,7 +141,7 @@ pub record Linked (γ : Env) : Type 0 where
   pub drop : Wired γ drops.code
 
 module _ {M : Type 1} {𝓤 : Ura M} (𝓛 : Logic 𝓤) (𝓜 : Model 𝓤 𝓛.H) (𝓡 : Running 𝓤 𝓛.H 𝓜) (linked : Linked 𝓡.env) where
-  -- `into_raw` and `from_raw` meet their contracts, with the page's allocator and a device.
+  -- `into_raw` and `from_raw` satisfy their contracts, with the page's allocator and a device.
   pub apart_met : Wired 𝓡.env into_raw_symbol.code
       → Triple 𝓤 ((tables 𝓤 𝓛.H 𝓜 𝓡 𝓡.env).C (into_raw_symbol.name (types_of (dcons dict (dcons (plain_drop Source) (dcons (plain_drop Content) dnil)))))) (Apart 𝓛 𝓜.mem 𝓡.returns)
   apart_met call = into_raw_met.met 𝓤 𝓛 𝓜 𝓡 call Content Source content_laws source_laws ghosts dict (plain_drop Source) (plain_drop Content)

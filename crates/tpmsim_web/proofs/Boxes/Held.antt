@@ -1,5 +1,5 @@
--- A holder owns nothing if it is null, and otherwise the box of its device. With these lemmas,
--- proofs take holders apart and make them.
+-- A holder owns the box of its device, or nothing if it is null. With these lemmas, proofs take
+-- holders apart and make them.
 use mathlib.Core.List.{List, [], ◌∷◌}
 use mathlib.Core.Path.{◌≡◌, refl}
 use Prim.Native.Nat.{ℕ}

@@ -1,6 +1,5 @@
--- A pointer and an allocator as two fields. A box, a holder and a pair consist of these fields,
--- so each is one machine word. Neither an allocator nor a pointer owns anything, so these fields
--- own nothing.
+-- A struct of a pointer and an allocator. A box, a holder and a pair consist of these two fields,
+-- so each is one machine word. Neither field owns anything.
 use mathlib.Core.List.{List, [], ◌∷◌}
 use mathlib.Core.Path.{◌≡◌, refl}
 use lib.Dec.{T, lit<}
@@ -37,14 +36,15 @@ source_laws = arg_laws (bare (layout lent.the_row)) no lent.the_row lent_laws.th
 pub content_laws : Laws Content
 content_laws = arg_laws (bare (layout device.the_row)) no device.the_row device_laws.the_row_laws refl
 
--- the machine word of an allocator; and that of a pointer together with an allocator
+-- the machine word of an allocator, and the machine word of a pointer together with an allocator
 abbrev pub source_word : Lent → Val
 source_word alloc = lent_laws.lowered alloc
 
 abbrev pub word : Ptr → Lent → Val
 word at alloc = vstruct (vcons (ptr_val at) (vcons (source_word alloc) vnil))
 
--- an allocator owns only the fact that its word is this one, and no allocator has another word
+-- an allocator owns nothing but the fact that it is represented by this machine word, and by no
+-- other
 pub source_is : (alloc : Lent) → Is Source alloc (source_word alloc ∷ [])
 source_is alloc = (tt, (refl, tt))
 
@@ -59,7 +59,8 @@ pub pointer_typed : (at : Ptr) → T (has_ty ty_ptr (ptr_val at)) × WT (ptr_val
 pointer_typed (block_ptr b o) = (tt, tt)
 pointer_typed null_ptr = (tt, record { fits = lit< tt })
 
--- a word has the type of any struct with these two fields, because names are ignored
+-- a machine word has the type of any struct with these two fields, because the names of structs and
+-- fields are ignored
 pub word_typed : (at : Ptr) (alloc : Lent) → T (has_ty (ty_struct [] (tcons ty_ptr (tcons (layout Source) tnil))) (word at alloc)) × WT (word at alloc)
 word_typed (block_ptr b o) alloc = (tt, (tt, ((source_typed alloc).1, tt)))
 word_typed null_ptr alloc = (tt, (record { fits = lit< tt }, ((source_typed alloc).1, tt)))

@@ -2,7 +2,7 @@ use Rattle.std.proofs.Common.{◌≡◌, ◌≤◌, ◌+◌, ◌-◌, drop, leng
 use Rattle.tpm_kept_journal.specs.Salvage.{entries_size}
 use Rattle.tpm_kept_device.proofs.front.entries_size.Given as goal
 
--- The entries read so far are at the start of the text.
+-- The entries read so far are the first entries of the bytes.
 abbrev pub invariant-loop-size : goal.invariant-loop-size
 invariant-loop-size l =
     (l.taken ≤ length l.text) × (entries_size l.fn.sum l.text ≡ l.taken + entries_size l.after (drop l.taken l.text))

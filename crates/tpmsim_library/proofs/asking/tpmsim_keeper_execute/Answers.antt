@@ -6,7 +6,7 @@ use Rattle.tpm_kept_device.specs.Texts.{text_at}
 use Rattle.tpmsim_library.specs.Keeping.{Begins}
 use Rattle.tpmsim_library.proofs.asking.tpmsim_keeper_execute.Goals as goal
 
--- The keeper is put back into its holder after it has begun the call.
+-- The keeper begins the call, and is then put back into its holder.
 pub returns-in-Ok-clause-begins : goal.returns-in-Ok-clause-begins
 returns-in-Ok-clause-begins c =
     let before = c.deref_mut.result.now in

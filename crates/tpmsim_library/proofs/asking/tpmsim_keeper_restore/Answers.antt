@@ -2,7 +2,7 @@ use Rattle.std.proofs.Common.{sym, ap, ◌∙◌, ◌≡◌}
 use Rattle.std.specs.declared.option.Option.TheVariants.{Some}
 use Rattle.tpmsim_library.proofs.asking.tpmsim_keeper_restore.Goals as goal
 
--- The keeper is put back into its holder after it has begun the call.
+-- The keeper begins the call, and is then put back into its holder.
 pub returns-in-Ok-clause-begins : goal.returns-in-Ok-clause-begins
 returns-in-Ok-clause-begins c =
     let before = c.deref_mut.result.now in

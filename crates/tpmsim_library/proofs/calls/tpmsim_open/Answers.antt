@@ -15,7 +15,8 @@ returns-in-Err-clause-opens c = (
   (c.fault_number.ensures, refl),
 )
 
--- the device that is put into the holder follows the history
+-- if the image is that of a device with a history, the opened device has this history and a power
+-- cycle after it
 pub returns-in-Ok-clause-history : goal.returns-in-Ok-clause-history
 returns-in-Ok-clause-history c =
     λ done version r history is follows image. (c.in-Ok.device.value, c.put.ensures, c.in-Ok.ensures.history version r history is follows image)

@@ -4,12 +4,12 @@ use Rattle.tpm_kept_journal.specs.texts.HeadAt.{PlainHead}
 use Rattle.tpm_kept_journal.proofs.texts.HeadAt.{head_at_front, no_head}
 use Rattle.tpmsim_library.proofs.shown.put_content.Goals as goal
 
--- a text without a head has no content
+-- without a head, there is no content
 pub returns-in_default : goal.returns-in_default
 returns-in_default c =
     rw (no_head c.args.text.now (λ h rest has is. c.in_default.ensures.only h.kind h.clock h.content rest has is)) (search rules)
 
--- the content is that of the head at the start of the text
+-- the content is that of the head at the start of the bytes
 pub returns : goal.returns
 returns c =
     let head = c.in-Some.head in

@@ -17,7 +17,8 @@ returns-in-Err-clause-opens c =
     let exact = fault_alike (λ (done : Unit {0}). record_of c.open-opened.new.self) record_of false c.args.image.now c.in-Err.fault c.in-Err.ensures.exact in
     rw was (Err c.in-Err.fault, exact, (c.fault_number.ensures, c.put.ensures ∙ ap Some c.in-Err.ensures.kept))
 
--- The device that is put back into the holder follows the history.
+-- If the image is that of a device with a history, the opened device has this history and a power
+-- cycle after it.
 pub returns-in-Ok-clause-history : goal.returns-in-Ok-clause-history
 returns-in-Ok-clause-history c =
     λ done version r history is follows image. (c.open-opened.new.self, c.put.ensures, c.in-Ok.ensures.history version r history is follows image)

@@ -4,7 +4,7 @@ use Rattle.std.specs.declared.option.Option.TheVariants.{Some}
 use Rattle.tpmsim_web.specs.Journal.{Records, command_by}
 use Rattle.tpmsim_web.proofs.journal.journal_execute.Goals as goal
 
--- The executed command is sent from the locality with this number.
+-- The executed command was sent from the locality with this number.
 pub returns-clause-records : goal.returns-clause-records
 returns-clause-records c =
     let before = c.deref_mut.result.now in

@@ -10,7 +10,7 @@ on_ok : {A E : Type 0} (r : Result A E) (P Q : Type 0) → (P → Q) → OnOk r 
 on_ok (Ok done) P Q so p = so p
 on_ok (Err e) P Q so p = tt
 
--- the call appends these bytes to a text
+-- the call appends these bytes to a string
 abbrev Appended : ArrayString 256 → List ℕ → ArrayString 256 → Type 0
 Appended old bytes new = new.bytes ≡ old.bytes ++ bytes
 

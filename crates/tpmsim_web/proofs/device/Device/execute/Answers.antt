@@ -1,6 +1,6 @@
 use Rattle.tpmsim_web.proofs.device.Device.execute.Goals as goal
 
--- what an execution returns can be traced
+-- the results of an execution satisfy what `put_trace` requires
 pub put_trace-traced-requires-clause-row : goal.put_trace-traced-requires-clause-row
 put_trace-traced-requires-clause-row c =
     (c.traceable_laws.ensures _ _ _ _ c.execute_into.ensures.executes).0

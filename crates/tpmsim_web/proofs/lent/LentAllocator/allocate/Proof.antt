@@ -1,4 +1,4 @@
--- The allocator returns an error, since it has no block to return.
+-- The allocator returns an error, because it has no block to allocate.
 use mathlib.Core.Bool.{false}
 use mathlib.Core.List.{[], ◌∷◌}
 use mathlib.Core.Path.{refl}
