@@ -12,7 +12,7 @@ fn are_zeros(bytes: &[u8]) -> bool
     bytes.iter().all(|byte| *byte == 0)
 }
 
-/// Whether a text has fewer than `size` bytes, not counting the zeros at its end.
+/// Whether `text` has fewer than `size` bytes, not counting the zeros at its end.
 pub(crate) fn has_fewer(text: &[u8], size: usize) -> bool
     requires { 0 < size }
     ensures yes { result ≡ true → HasFewer size text.now }
@@ -50,10 +50,10 @@ pub(crate) fn lines_end(lines: &[u8], drawn_end: usize) -> bool
     true
 }
 
-/// If a crash leaves nothing of an entry, or a prefix of it, possibly followed by zeros, the text
-/// is torn. It stays torn if another crash truncates it or adds zeros. An entry is not torn. If any
-/// byte of an entry except the last is removed, the entry is damaged. The function does nothing at
-/// run time.
+/// If a crash leaves nothing of an entry, or a prefix of it, possibly followed by zeros, the rest
+/// of the journal is torn. It stays torn if another crash truncates it or adds zeros. An entry is
+/// not torn. If any byte of an entry except the last is removed, the entry is damaged. The function
+/// does nothing at run time.
 #[inline(always)]
 pub fn torn_laws()
     ensures nothing { (sum : ℕ) → IsTorn sum [] }

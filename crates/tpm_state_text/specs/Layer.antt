@@ -18,7 +18,7 @@ pub record IsLayer (layer : Layer) : Type 0 where
   pub sessions : length layer.sessions ≡ session_limit
   pub each_session : All (λ context. context < 2 ^ 64) layer.sessions
 
--- the text of a layer: the start, the count and the sessions
+-- the encoding of a layer: its start number, its count and the sessions
 unfoldable pub layer_text : Layer → List ℕ
 layer_text layer =
     to_be_bytes w64 layer.start ++ to_be_bytes w64 layer.count
