@@ -95,7 +95,7 @@ ignores layer old c seen executed =
     (sym (length-take-le seen.drawn c.random few))
     (executed_again c.completes layer old c.buffer c.locality c.elapsed c.random seen executed)
 
--- executing the entries of a live device and its layer again leads to the same layer and record
+-- executing the entries of a live device and its layer again results in the same layer and record
 pub lives_alike : (layer : Completion) (old : Record) (entries : List PlainEntry) (after : Completion) (new : Record)
     → Lives layer old entries after new → Answers layer old entries after new
 lives_alike = lives_again ignores

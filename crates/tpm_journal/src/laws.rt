@@ -40,8 +40,8 @@ pub fn living_laws()
         (new : Record) → Lives layer old entries after new → Answers layer old entries after new }
 {}
 
-/// If a text consists of entries and perhaps an incomplete entry after a crash, and the device and
-/// its layer give the recorded answers, exactly the complete entries are executed again.
+/// If the input consists of entries and perhaps an incomplete entry after a crash, and the device
+/// and its layer give the recorded answers, exactly the complete entries are executed again.
 #[inline(always)]
 pub fn following_laws()
     ensures { (before : Journal) (old : Record) (layer : Completion) (final new : Record)
@@ -74,8 +74,8 @@ pub fn starting_laws()
         ≡ Ok (record { journal = checkpointed j clock r; device = r }) }
 {}
 
-/// If a text consists of a head that starts a journal, entries, and perhaps an incomplete entry
-/// after a crash, and the device and its layer give the recorded answers, opening the text yields
+/// If the input consists of a head that starts a journal, entries, and perhaps an incomplete entry
+/// after a crash, and the device and its layer give the recorded answers, opening the input yields
 /// the device and the layer after all complete entries.
 #[inline(always)]
 #[tactic(auto, using(crate::proofs::Again::opened_again))]

@@ -84,7 +84,7 @@ pub fn retell<K: Keep, W: Write>(
     }
 }
 
-/// Executes the entries of a text that continues a journal, and converts each.
+/// Executes the entries in input that continues a journal, and converts each.
 fn retell_entries<K: Keep, W: Write>(
     form: Telling,
     journal: &mut Journal,

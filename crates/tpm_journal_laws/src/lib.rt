@@ -14,8 +14,9 @@ ghost use Rattle.tpm_journal_laws.specs.Playing.{JournalPlays, PlaysAsExecuted};
 ghost use Rattle.tpm_journal_laws.specs.Times.{BeginsAtClock, GoesWithClock, TellsNoTimeTwice};
 
 /// The line of an entry's mark has no effect. The lines after it wait for the entry's milliseconds,
-/// set its locality and the random bytes that it drew, and execute its buffer. The lines of a head
-/// have no effect. Therefore, a whole journal means what its entries say, one after another.
+/// set its locality and the random bytes that its command drew, and execute its buffer. The lines
+/// of a head have no effect. Therefore, a whole journal means what its entries say, one after
+/// another.
 #[inline(always)]
 #[tactic(auto, using(crate::proofs::Meanings::entry_means_it, crate::proofs::Meanings::head_means_nothing, crate::proofs::Meanings::journal_means_it))]
 pub fn meaning_laws()
