@@ -1,4 +1,5 @@
--- The text of a list is the text written so far, followed by the text of the remaining elements.
+-- The encoding of a list consists of the bytes written so far and the encodings of the remaining
+-- elements.
 use Rattle.std.proofs.Common.{arith, ◌≡◌, ℕ, zero, suc, ◌-◌, ◌≢◌, true, false, List, ◌∷◌, ◌++◌, filter, take, refl, ap, sym, ◌∙◌}
 use Rattle.std.proofs.lemmas.List.{append_assoc}
 use Rattle.std.proofs.lemmas.List.Concat.{flat_map-cons}

@@ -21,8 +21,8 @@ use Rattle.tpm_completion.specs.Reply.{reply}
 use Rattle.tpm_completion.specs.Saving.{Reply, refused}
 use Rattle.tpm_completion.specs.declared.completion.Completion.{Completion}
 
--- the effect of an event: the response, and the device's row and new record; the layer's new state;
--- and how many random bytes the device's last event drew
+-- the effect of an event: the response; the device's row and new record; the layer's new state; and
+-- the number of random bytes that the device's last event drew
 pub record Seen : Type 0 where
   pub step : Stepped
   pub layer : Completion
@@ -78,12 +78,12 @@ placed_behind first placing =
       drawn = 0;
     }
 
--- the effect if memory for the object ran out: the response is MEMORY (904), and the state is
+-- the effect if memory for the object ran out: the response is MEMORY (904), and the device is
 -- unchanged
 abbrev pub unplaced_behind : Seen → Seen
 unplaced_behind first = record (answered first (refused first.layer 0x904)) { drawn = 0 }
 
--- After a command's effect `first`, the device executes the event that places an object.
+-- After a command with the effect `first`, the device executes the event that places an object.
 pub record ExecutesPlacing (can : Bool) (first : Seen) (object : Object) (placing : Stepped) : Type 0
   where
     pub executes : Executes can first.step.after (Placed object) placing

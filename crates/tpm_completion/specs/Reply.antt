@@ -100,8 +100,7 @@ command_reply r c command response was_told =
     else stands c response))
 
 -- the answer to a TPM 1.2 command (tag 00C1). If the device refused it with BAD_TAG (1E) and tag
--- 00C4, the layer answers VALUE (84) with tag 8001, from which firmware learns that there is no TPM
--- 1.2
+-- 00C4, the layer answers VALUE (84) with tag 8001, which shows firmware that there is no TPM 1.2
 unfoldable pub probed : Completion → (buffer response : List ℕ) → Reply
 probed c buffer response =
     if (tag_of buffer == 0xc1) && bytes_eq response (framed 0xc4 0x1e []) then

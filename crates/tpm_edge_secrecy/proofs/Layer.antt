@@ -147,8 +147,8 @@ same_reply saved a b same = record {
   after = ap (λ (x : Reply). x.after) same;
 }
 
--- the replies that a condition selects on both devices are alike, if those of the first branch are
--- alike and those of the second branch are equal
+-- if the first branches of a condition are alike on both devices, and the second branches are
+-- equal, the selected replies are alike
 then_alike : (b saved : Bool) (x y z w : Reply) → RepliesAlike saved x y → z ≡ w → RepliesAlike (b && saved) (if b then x else z) (if b then y else w)
 then_alike true saved x y z w chosen left = chosen
 then_alike false saved x y z w chosen left = same_reply false z w left

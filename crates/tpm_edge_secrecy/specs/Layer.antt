@@ -94,8 +94,8 @@ LayerSavesAlike =
     → saves_secret s one c buffer response ≡ saves_secret s other c buffer response
 
 -- If two devices differ only in secrets, the layer is asked to load the same context on both, and
--- the context contains the same object, or has the same fault. The proofs of the hierarchies do not
--- count as secrets.
+-- the context contains the same object, or has the same fault. Here, the proofs of the hierarchies
+-- are not secrets: they are equal on both devices.
 abbrev pub LayerLoadsAlike : Type 0
 LayerLoadsAlike =
     (s : Secrecy) (one other : Record) (c : Completion) (buffer response context : List ℕ)
@@ -174,8 +174,9 @@ CompletionsAlike s (e ∷ es) (f ∷ fs) =
 CompletionsAlike s [] (f ∷ fs) = ⊥
 CompletionsAlike s (e ∷ es) [] = ⊥
 
--- If two devices differ only in secret data, and have the same layer, they answer alike until an
--- event reads these data, except with contexts of objects that have secret data.
+-- If two devices differ only in secret data, and have the same layer, they return the same
+-- responses and rows until an event reads these data. Only contexts of objects that have secret
+-- data may differ.
 abbrev pub CompletedRunTellsNothing : Type 0
 CompletedRunTellsNothing =
     (indices : ℕ → Bool) (objects : Public → Bool) (one other : Record) (c : Completion)
