@@ -78,8 +78,8 @@ placed_behind first placing =
       drawn = 0;
     }
 
--- the effect if memory for the object ran out: the response is MEMORY (904), and the device is
--- unchanged
+-- the effect if memory for the object ran out: the response is MEMORY (904), and the device and the
+-- layer are unchanged
 abbrev pub unplaced_behind : Seen → Seen
 unplaced_behind first = record (answered first (refused first.layer 0x904)) { drawn = 0 }
 

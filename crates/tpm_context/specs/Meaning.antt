@@ -78,7 +78,8 @@ abbrev pub OpensAgain : Type 0
 OpensAgain =
     (c : Making) → IsMaking c → opened c.hierarchies c.binding (context_of c) ≡ Ok c.object
 
--- Two contexts with the same integrity value are the same (`AreSame`), or the HMAC has a collision.
+-- Unless the HMAC has a collision, two contexts with the same integrity value have the same object,
+-- sequence number, proof, start number and counts (`AreSame`).
 abbrev pub IntegrityMeans : Type 0
 IntegrityMeans =
     (c d : Making) → IsMaking c → IsMaking d

@@ -44,9 +44,9 @@ fn write_object(object: &Object, text: &mut Sink<OBJECT_SIZE>)
     text.append_sized(sensitive.text().as_slice());
 }
 
-/// Writes the context of an object. After one start of the layer, no two contexts may have the same
-/// sequence number, since they would be encrypted with the same key and IV. Contexts of different
-/// starts have different keys.
+/// Writes the context of an object. Contexts with the same start number must have different
+/// sequence numbers, since they would otherwise be encrypted with the same key and IV. Contexts
+/// with different start numbers have different keys.
 #[tactic(auto, unfolding(crate::specs::Context::context_text))]
 pub fn seal(
     hierarchies: &Hierarchies,

@@ -177,7 +177,8 @@ counted_elements permanent startup indices loaded active objects persistent coun
     ∷ element 0x20a counters
     ∷ []
 
--- Two devices differ only in secrets, and agree on which authorization values are empty.
+-- Context: two devices that differ only in secrets, and agree on which authorization values are
+-- empty.
 module _ (s : Secrecy) (one other : Record) (differ : DifferInSecrets s one other) (alike : SetAlike one other) where
   -- a function that does not depend on a device's secrets has the same value for both devices
   through : {X : Type 0} (f : Record → X) → ((r : Record) → f (without_secrets s r) ≡ f r) → f one ≡ f other

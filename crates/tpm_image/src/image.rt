@@ -102,8 +102,8 @@ fn open_device<K: Keep>(alloc: Global, text: &[u8]) -> Result<Machine<K>, ImageF
 }
 
 /// Opens a device from its image, in either version, in a machine just manufactured with all-zero
-/// random bytes. The machine's memory must be of a kind that never runs out. The device is the same
-/// as with [`open`], and is not moved. On error, the machine's state is unspecified.
+/// random bytes. `K` must be a type that never runs out of memory. The device is the same as with
+/// [`open`], and is not moved. On error, the machine's state is unspecified.
 pub fn open_into<K: Keep>(machine: &mut Machine<K>, text: &[u8]) -> Result<(), ImageFault>
     requires new { state_of K.record_of machine.old ≡ manufactured (replicate 256 0) }
     requires never_refused { K.can_refuse ≡ false }

@@ -31,7 +31,7 @@ ghost use Rattle.tpm_record.specs.Record.{Record};
 ghost use Rattle.tpm_state_text.specs.Body.{IsWholeState, WholeState};
 ghost use Rattle.tpm_state_text.specs.State.{state_text};
 
-/// Executing the entries of a live device and its layer again yields the same answers, layer and
+/// Executing the entries of a running device and its layer again yields the same answers, layer and
 /// record. Random bytes that a command did not draw have no effect.
 #[inline(always)]
 #[tactic(auto, using(crate::proofs::Ignoring::lives_alike))]
@@ -92,8 +92,8 @@ pub fn opening_laws()
         new }
 {}
 
-/// Opening a checkpoint of a live device, followed by the entries of the commands that the device
-/// and its layer executed since, yields this device and layer.
+/// Opening a checkpoint of a running device, followed by the entries of the commands that the
+/// device and its layer executed since, yields this device and layer.
 #[inline(always)]
 #[tactic(auto, using(crate::proofs::Starts::checkpoint_opened))]
 pub fn checkpoint_laws()

@@ -64,7 +64,7 @@ zero_at zero place = refl
 zero_at (suc zeros) zero = refl
 zero_at (suc zeros) (suc place) = zero_at zeros place
 
--- The line feed at the end of a line is not one of the zeros at the end of a text.
+-- The line feed at the end of a line is not one of the zeros at the end of the input.
 pub line_feed_is_no_zero : (front : List ℕ) (zeros : ℕ) (line rest : List ℕ) → length front ≤ length line
     → line ++ (10 ∷ rest) ≡ front ++ replicate zeros 0 → ⊥
 line_feed_is_no_zero front zeros line rest le same =

@@ -1,4 +1,4 @@
-//! Strips a piece from the beginning of a text.
+//! Strips a piece from the beginning of the input.
 
 ghost use Rattle.std.specs.Prelude.{◌≡◌, ◌*◌, ◌++◌, ℕ, List, IfNone, IfSome, length};
 ghost use Rattle.std.specs.Str.{bytes_eq};

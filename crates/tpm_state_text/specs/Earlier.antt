@@ -24,7 +24,8 @@ use Rattle.tpm_state_text.specs.declared.layer.Layer.{Layer}
 
 -- ---- the layer
 
--- A layer stores only 64-bit numbers, with one slot for each object and each session.
+-- Every number in a layer's state fits in 64 bits, and there is one slot for each object and each
+-- session.
 pub record IsHeld (held : Held) : Type 0 where
   pub context : held.context < 2 ^ 64
   pub waits : held.waits < 2 ^ 64
