@@ -1,6 +1,6 @@
--- The context of a session: a token that names the slot where the session stays on the device. TPM
--- 2.0 Library, Part 2, section 14 (TPMS_CONTEXT: sequence, savedHandle, hierarchy, contextBlob),
--- and Part 1, section 30 (context management).
+-- The context of a session: a token that names the slot in which the session stays on the device.
+-- TPM 2.0 Library, Part 2, section 14 (TPMS_CONTEXT: sequence, savedHandle, hierarchy,
+-- contextBlob), and Part 1, section 30 (context management).
 use Rattle.std.specs.Prelude.{ℕ, not, Bool, false, List, [], ◌∷◌, ◌++◌, Result, Ok, Err}
 use Rattle.std.specs.Int.{w32, w64, to_be_bytes}
 use Rattle.std.specs.Str.{bytes_eq}

@@ -102,7 +102,7 @@ saved r c handle =
 
 -- ---- TPM2_ContextLoad of a session's context
 
--- the reply with the handle of a loaded context
+-- the reply to loading a context: the handle
 abbrev pub handle_given : Completion → Handle → Reply
 handle_given c handle =
     record { response = success (to_be_bytes w32 handle.number); after = c }

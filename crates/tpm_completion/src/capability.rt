@@ -76,7 +76,7 @@ fn algorithms(elements: &mut Elements)
     elements.push(element(0x43, 0x202));
 }
 
-/// The element of a command that the device serves, with its attributes (TPMA_CC).
+/// The element of a command that the device supports, with its attributes (TPMA_CC).
 fn command(code: CommandCode) -> Element
     ensures { result ≡ command_element code }
 {

@@ -83,7 +83,7 @@ impl Completion {
         }
     }
 
-    /// Answers with the result of a row, which is a success or a refusal.
+    /// Answers with the result of a command's row, which is a success or a refusal.
     fn give(&self, row: Result<Body, Refused>, text: &mut Response)
         ensures { record { response = text.new.items; after = self.now }
             ≡ replied self.now row }
@@ -111,7 +111,7 @@ impl Completion {
         }
     }
 
-    /// Answers a command that the device does not serve.
+    /// Answers a command that the device does not support.
     fn serve<K: Keep>(&mut self, keep: &K, command: &PlainCommand, text: &mut Response)
         ensures { record { response = text.new.items; after = self.new }
             ≡ served (K.record_of keep.now) self.old (command_of command.now) text.old.items }

@@ -26,8 +26,8 @@ pub fn meaning_laws()
 {}
 
 /// If the content of its head has at most 32,767 bytes, a journal can be played as a script to its
-/// end, which prints the device's responses to its entries. If an entry contains the bytes that its
-/// command drew, its lines execute the command as it was originally executed.
+/// end. The script prints the device's responses to the entries. If an entry contains the bytes
+/// that its command drew, its lines execute the command as it was originally executed.
 #[inline(always)]
 #[tactic(auto, using(crate::proofs::Playing::journal_plays, crate::proofs::Executing::plays_as_executed))]
 pub fn playing_laws()

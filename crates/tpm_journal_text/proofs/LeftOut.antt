@@ -12,7 +12,7 @@ use Rattle.tpm_journal_text.specs.Sum.{sum_from}
 use Rattle.tpm_journal_text.proofs.Damage.{ends_a_line, same_mark, without_end, zero_at}
 use Rattle.tpm_journal_text.proofs.Standing.{buffer_told, drawn_told, entry_text_many, line_stands, mark_bytes, mark_line_many, mark_many}
 
--- the bytes without the one at an offset
+-- a list of bytes without the byte at an offset
 abbrev pub without : (place : ℕ) → List ℕ → List ℕ
 without place text = take place text ++ drop (place + 1) text
 

@@ -18,7 +18,7 @@ zero_at (suc count) (suc place) = zero_at count place
 
 -- ---- texts without line feeds
 
--- The bytes contain no line feed.
+-- These bytes contain no line feed.
 abbrev pub NoFeed : List ℕ → Type 0
 NoFeed text = (place : ℕ) → get_or text place 0 ≡ 10 → ⊥
 

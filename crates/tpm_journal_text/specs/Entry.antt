@@ -91,13 +91,13 @@ mark_line_size = marked_size entry_word mark_size
 abbrev pub digit_at : (number place : ℕ) → ℕ
 digit_at number place = 48 + number / place % 10
 
--- a number below 10^10 as ten decimal digits
+-- a number below 10^10, as ten decimal digits
 unfoldable pub ten_digits : ℕ → List ℕ
 ten_digits number =
     map (digit_at number) (1000000000 ∷ 100000000 ∷ 10000000 ∷ 1000000 ∷ 100000 ∷ 10000 ∷ 1000 ∷ 100 ∷ 10 ∷ 1 ∷ [])
 
--- the random bytes as a script line contains them: at least one byte, since the line may not be
--- empty
+-- the random bytes for a line of the script. If the command drew none, they are a single zero byte,
+-- since the line may not be empty
 abbrev pub shown : List ℕ → List ℕ
 shown [] = 0 ∷ []
 shown (byte ∷ bytes) = byte ∷ bytes

@@ -34,9 +34,8 @@ abbrev pub LinesEnd : (mark text : List ℕ) → Type 0
 LinesEnd mark text =
     (place : ℕ) → get_or (drop mark_line_size text) place 0 ≡ 10 → EndsLine mark place
 
--- The input is too short for an entry. Either its first line is truncated. Or its first line
--- contains the mark of a longer entry, and the following lines end where the lines of the mark's
--- entry end.
+-- The input is too short for an entry. Either its first line is truncated; or this line contains
+-- the mark of a longer entry, and the following lines end where the lines of that entry end.
 abbrev pub IsCutOff : (sum : ℕ) → List ℕ → Type 0
 IsCutOff sum text =
     (length text < mark_line_size)
