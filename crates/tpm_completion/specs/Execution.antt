@@ -45,9 +45,9 @@ answered seen reply = record {
   drawn = seen.drawn;
 }
 
--- The device alone executes an event. If the device follows a history, after the event it follows
--- that history extended by the event. The layer only forgets the contexts of sessions that no
--- longer exist.
+-- The device executes an event without the layer. If the device follows a history, after the event
+-- it follows that history extended by the event. In the layer's state, only the contexts of
+-- sessions that no longer exist are removed.
 pub record Passes (can : Bool) (c : Completion) (old : Record) (event : PlainEvent) (seen : Seen)
     : Type 0
   where

@@ -21,9 +21,9 @@ pub struct Completion {
 }
 
 impl Completion {
-    /// The state of the layer after a start, before it has saved any context. If each start has a
-    /// different number, such as the time of the host's clock, contexts of earlier starts are not
-    /// loaded.
+    /// The state of a layer that started with this number, before it has saved any context. If each
+    /// start has a different number, such as the time of the host's clock, contexts of earlier
+    /// starts are not loaded.
     pub fn of_start(start: u64) -> Completion
         ensures { result ≡ new_completion start }
     {

@@ -168,7 +168,7 @@ impl Completion {
         }
     }
 
-    /// Replaces the device's response in `text` by the layer's answer, or leaves it unchanged.
+    /// Replaces the device's response in `text` with the layer's answer, or leaves it unchanged.
     /// `was_told` says whether the device's response is a success.
     #[tactic(auto, unfolding(crate::specs::Reply::reply))]
     pub(crate) fn reply<K: Keep>(

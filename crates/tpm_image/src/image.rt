@@ -101,7 +101,7 @@ fn open_device<K: Keep>(alloc: Global, text: &[u8]) -> Result<Machine<K>, ImageF
     }
 }
 
-/// Opens a device from its image, in either version, in a machine just manufactured with all-zero
+/// Opens a device from its image, in either version, in a machine just manufactured from all-zero
 /// random bytes. `K` must be a type that never runs out of memory. The device is the same as with
 /// [`open`], and is not moved. On error, the machine's state is unspecified.
 pub fn open_into<K: Keep>(machine: &mut Machine<K>, text: &[u8]) -> Result<(), ImageFault>

@@ -34,7 +34,7 @@ pub record NonVolatile : Type 0 where
   pub persistent : Entries Object
   pub indices : Entries NvIndex
 
--- the part of a record that is kept without power
+-- the non-volatile part of a record
 abbrev pub kept_of : Record → NonVolatile
 kept_of r = record {
   state = record {
@@ -55,7 +55,7 @@ kept_of r = record {
 abbrev pub nv_of : NonVolatile → NvContents
 nv_of kept = record { indices = kept.indices; max_count = kept.state.max_count }
 
--- the record of a device that kept this state, just after power came on
+-- the record of a device with this non-volatile state, just after power came on
 abbrev pub powered_on : NonVolatile → Record
 powered_on kept = record {
   fixed = record {

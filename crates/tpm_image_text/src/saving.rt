@@ -18,7 +18,7 @@ use tpm_mac::{HashAlg, digest_parts};
 use tpm_record::Keep;
 
 /// Writes the body of a version 2 image, followed by the digest, to an empty buffer. Returns the
-/// head, which belongs before the body.
+/// head, which must be put before the body.
 #[tactic(auto, unfolding(crate::specs::Image::image_text))]
 pub fn write_image<K: Keep>(keep: &K, text: &mut Text) -> Sink<10>
     requires { text.old ≡ [] }

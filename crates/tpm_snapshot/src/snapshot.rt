@@ -35,9 +35,9 @@ pub fn snapshot_into<K: Keep>(
     tpm_state_text::snapshot_into(machine.keep(), layer, buffer)
 }
 
-/// Replaces a machine just manufactured with all-zero random bytes by the machine that a state text
-/// encodes, without moving it. Returns the completing layer, or the first fault of the bytes. On
-/// error, the machine's state is unspecified.
+/// Replaces a machine just manufactured from all-zero random bytes with the machine that a state
+/// text encodes, without moving it. Returns the completing layer, or the first fault of the bytes.
+/// On error, the machine's state is unspecified.
 #[tactic(auto, using(crate::proofs::Restoring::new_again, crate::proofs::Restoring::has_follows))]
 pub fn restore_new<K: Keep>(
     machine: &mut Machine<K>,
@@ -59,7 +59,7 @@ pub fn restore_new<K: Keep>(
     fill(machine, text)
 }
 
-/// Replaces a new machine by the machine that a state text encodes. The contract does not mention
+/// Replaces a new machine with the machine that a state text encodes. The contract does not mention
 /// the device that wrote the state text.
 fn fill<K: Keep>(machine: &mut Machine<K>, text: &[u8]) -> Result<Option<Layer>, RestoreFault>
     requires { state_of K.record_of machine.old ≡ manufactured (replicate 256 0) }
@@ -116,7 +116,7 @@ fn made<K: Keep>(alloc: Global, text: &[u8]) -> Result<(Machine<K>, Option<Layer
     Ok((Machine::from_keep(keep), layer))
 }
 
-/// Replaces a machine by the machine that a state text encodes, and returns the completing layer.
+/// Replaces a machine with the machine that a state text encodes, and returns the completing layer.
 /// On error, the machine is unchanged.
 #[tactic(auto, using(crate::proofs::Restoring::into_again, crate::proofs::Restoring::has_follows))]
 pub fn restore_into<K: Keep>(
@@ -140,7 +140,7 @@ pub fn restore_into<K: Keep>(
     replace(machine, alloc, text)
 }
 
-/// Replaces a machine by the machine that a state text encodes. The contract does not mention the
+/// Replaces a machine with the machine that a state text encodes. The contract does not mention the
 /// device that wrote the state text.
 fn replace<K: Keep>(
     machine: &mut Machine<K>,

@@ -33,7 +33,7 @@ fn read_version<K: Keep>(
     }
 }
 
-/// Replaces a device just manufactured with all-zero random bytes by the device that a state text
+/// Replaces a device just manufactured from all-zero random bytes with the device that a state text
 /// encodes, without moving it. Returns the completing layer, or the first fault of the bytes. On
 /// error, the device's state is unspecified.
 pub fn restore_new<K: Keep>(keep: &mut K, text: &[u8]) -> Result<Option<Layer>, RestoreFault>
@@ -95,8 +95,8 @@ pub fn restored<K: Keep>(alloc: Global, text: &[u8]) -> Result<(K, Option<Layer>
     made(alloc, text)
 }
 
-/// Replaces a device by the device that a state text encodes, and returns the completing layer. On
-/// error, the device is unchanged. The new device is created next to the old one and then moved.
+/// Replaces a device with the device that a state text encodes, and returns the completing layer.
+/// On error, the device is unchanged. The new device is created next to the old one and then moved.
 pub fn restore_into<K: Keep>(
     keep: &mut K,
     alloc: Global,

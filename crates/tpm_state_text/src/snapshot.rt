@@ -21,7 +21,7 @@ pub const STATE_TEXT_LIMIT: usize = 36_195;
 pub type StateBody = Text;
 
 /// Writes the body of a state text, followed by the digest, to an empty buffer. Returns the head,
-/// which belongs before the body.
+/// which must be put before the body.
 #[tactic(auto, unfolding(crate::specs::State::state_text))]
 pub fn write_state<K: Keep>(keep: &K, layer: Option<&Layer>, text: &mut StateBody) -> Sink<10>
     requires { text.old ≡ [] }
