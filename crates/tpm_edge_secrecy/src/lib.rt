@@ -16,7 +16,7 @@ ghost use Rattle.tpm_edge_secrecy.specs.Opened.{OpenedDataNeedPolicy};
 /// The completing layer reveals which of ownerAuth, endorsementAuth and lockoutAuth are empty, and
 /// the contexts of objects that have secrets, which TPM2_ContextSave returns. It reveals no other
 /// secret of the device. If two devices differ only in secrets, such as authorization values, and
-/// agree on which of the three authorization values are empty, the layer has the same answers and
+/// agree on which of these three authorization values are empty, the layer has the same answers and
 /// the same state on both; only contexts of objects that have secrets may differ. A loaded context
 /// contains the same object on both devices. Therefore, if two devices differ only in secret data,
 /// an event that does not read these data reveals nothing about them with the layer either, except

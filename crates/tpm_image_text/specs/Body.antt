@@ -111,8 +111,8 @@ hierarchies_in text = do
 
 -- ---- lockout
 
--- the encoding of lockout: failedTries, maxTries, recoveryTime, lockoutRecovery, and whether
--- lockoutAuth is disabled
+-- the encoding of the lockout state: failedTries, maxTries, recoveryTime, lockoutRecovery, and
+-- whether lockoutAuth is disabled
 unfoldable pub lockout_text : LockoutFields → List ℕ
 lockout_text l =
     to_be_bytes w32 l.failed_tries ++ to_be_bytes w32 l.max_tries

@@ -32,8 +32,8 @@ pub fn write_image<K: Keep>(keep: &K, text: &mut Text) -> Sink<10>
     head
 }
 
-/// Writes a head, followed by the rest of the bytes, to the beginning of a buffer if both fit.
-/// Returns their total size in either case.
+/// Writes a head, followed by `text`, to the beginning of a buffer if both fit. Returns their total
+/// size in either case.
 pub fn put_front(head: &[u8], text: &[u8], room: &mut [u8]) -> usize
     requires { length head.now + length text.now < 2 ^ 32 }
     ensures { PutsFront (head.now ++ text.now) room.old result room.new }

@@ -129,7 +129,7 @@ head_text_many kind clock content =
     let c = length-append (head_line kind clock content ++ codes "# " ++ encode_lower content) (10 ∷ []) in
     omega (arith, line, a, b, c, length-encode_with lower_digits content)
 
--- If a mark was read from an input that begins with a head, it is the mark of that head.
+-- If a mark was read from input that begins with a head, it is the mark of that head.
 pub head_mark_stands : (kind : HeadKind) (clock : ℕ) (content mark text rest : List ℕ) → length mark ≡ 20 → AreBytes mark
     → take 77 text ≡ marked_line (head_word kind) mark (sum_from offset_basis mark) → text ≡ head_text kind clock content ++ rest
     → mark ≡ head_mark clock content

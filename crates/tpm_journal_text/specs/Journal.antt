@@ -62,8 +62,8 @@ pub record IsDamaged (sum : ℕ) (text : List ℕ) : Type 0 where
   pub not_torn : IsTorn sum text → ⊥
   pub no_entry : (e : PlainEntry) (rest : List ℕ) → IsEntry e → text ≡ entry_text sum e ++ rest → ⊥
 
--- The input begins with an entry of this size, and the checksum after it is `after`; or the input
--- is torn; or it is damaged.
+-- `Next` describes the input correctly: it begins with an entry of this size, and the checksum
+-- after the entry is `after`; or it is torn; or it is damaged.
 abbrev pub Finds : (sum : ℕ) → List ℕ → Next → Type 0
 Finds sum text (Whole entry size after) =
     IsEntry (plain_entry entry) × (size ≤ length text)
