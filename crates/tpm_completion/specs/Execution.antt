@@ -89,8 +89,8 @@ pub record ExecutesPlacing (can : Bool) (first : Seen) (object : Object) (placin
     pub executes : Executes can first.step.after (Placed object) placing
     pub history : After Follows first.step.after (Placed object) placing
 
--- The device places an object. Or memory runs out (`refused`), which is possible only if `can` is
--- true.
+-- Either the device places an object, or memory runs out (`refused`). The latter is possible only
+-- if `can` is true.
 abbrev pub PlacesIf : (can refused : Bool) → Seen → Object → Seen → Type 0
 PlacesIf can false first object seen =
     (placing : Stepped) × ExecutesPlacing can first object placing

@@ -107,8 +107,8 @@ probed c buffer response =
     record { response = refusal 0x84; after = c }
     else stands c response
 
--- the answer to a buffer for which the device returned this response; `was_told` says whether it is
--- a success
+-- the answer to a buffer for which the device returned this response; `was_told` says whether this
+-- response is a success
 abbrev pub reply_by : Record → Completion → (buffer response : List ℕ) → (was_told : Bool)
     → Result Command Short → Reply
 reply_by r c buffer response was_told (Ok command) = command_reply r c command response was_told

@@ -77,7 +77,7 @@ context_given c handle context = record {
   after = c;
 }
 
--- the reply with a new context of a session, which is then no longer loaded
+-- the reply with a new context of a session; the session is then no longer loaded
 abbrev pub session_numbered : Completion → Handle → Option ℕ → Reply
 session_numbered c handle (Some number) =
     context_given (with_session (counted c number) (place_named handle) number) handle number

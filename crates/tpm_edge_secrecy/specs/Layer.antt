@@ -131,9 +131,9 @@ pub record CompletesAlike (s : Secrecy) (saved : Bool) (x y : Seen) : Type 0 whe
 
 -- If two devices differ only in secret data, and no allocation fails, an event that does not read
 -- these data reveals nothing about them, with or without the layer, even if it loads an object from
--- its context. The only exception is the context of an object that has secret data, which is the
--- response to TPM2_ContextSave. If the event places an object, the other device may place an object
--- that differs in secret data.
+-- its context. The only exception is the response to TPM2_ContextSave of an object that has secret
+-- data. If the event places an object, the other device may place an object that differs in secret
+-- data.
 abbrev pub CompletedTellsNothing : Type 0
 CompletedTellsNothing =
     (indices : ℕ → Bool) (objects : Public → Bool) (one other : Record) (completes : Bool)

@@ -70,7 +70,7 @@ impl Version {
     }
 }
 
-/// Reads the limits in an image, which must be those of its version.
+/// Reads the limits in an image. They must be the limits of the image's version.
 #[tactic(auto, unfolding(crate::specs::Body::limits_in))]
 pub fn read_limits(version: Version, text: &mut Cursor) -> Result<(), Malformed>
     ensures { Reads (λ done. done) (limits_in version text.old) text.old result text.new }

@@ -1,4 +1,4 @@
--- Lines, which contain no line feed, and how bytes are split into lines.
+-- Lemmas about lines, which contain no line feed, and about splitting bytes into lines.
 use Rattle.std.proofs.Common.{◌≡◌, ℕ, ◌+◌, ◌==◌, Bool, false, cond, List, [], ◌∷◌, ◌++◌, Some, None, refl, sym, ap, ◌∙◌, inl, inr, arith}
 use Rattle.std.specs.Prelude.{slice_index}
 use Rattle.std.specs.List.{AllByRecursion, onto_first}

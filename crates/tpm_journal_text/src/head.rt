@@ -92,8 +92,8 @@ pub(crate) fn mark_of(clock: u64, front: &[u8], back: &[u8]) -> Sink<MARK_SIZE>
     mark
 }
 
-/// Writes the head for this clock and this content, which comes in two parts, to a buffer. Returns
-/// the size, and sets `sum` to the checksum of the head's mark.
+/// Writes the head for this clock and this content to a buffer. The content comes in two parts.
+/// Returns the size, and sets `sum` to the checksum of the head's mark.
 #[tactic(auto, using(crate::proofs::Pieces::hex_joined), unfolding(crate::specs::Head::head_text))]
 fn put_head(
     kind: HeadKind,

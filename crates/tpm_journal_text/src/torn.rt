@@ -1,4 +1,4 @@
-//! The part of an entry that a crash leaves, which may be followed by zeros.
+//! The part of an entry that a crash leaves. Zeros may follow it.
 
 ghost use Rattle.std.specs.Prelude.{◌≡◌, ◌==◌, ◌+◌, ◌≤◌, ◌<◌, ◌⊎◌, ◌↔◌, ◌++◌, ℕ, List, [], true, false, drop, get_or, length, replicate, take};
 ghost use Rattle.std.specs.List.{list_all};

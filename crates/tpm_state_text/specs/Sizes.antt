@@ -1,4 +1,4 @@
--- The largest sizes of the parts of a state text, in bytes, which follow from the limits of the
+-- The largest sizes of the parts of a state text, in bytes. They follow from the limits of the
 -- device.
 use Rattle.std.specs.Prelude.{ℕ, ◌+◌, ◌*◌}
 use Rattle.tpm_image_text.specs.Sizes.{body_size, object_fields_size}

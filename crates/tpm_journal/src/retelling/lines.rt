@@ -15,7 +15,7 @@ use tpm_hex::encode;
 use tpm_journal_text::Entry;
 use tpm_step::Outcome;
 
-/// The size of the first line of an entry, which contains its checksums.
+/// The size of the first line of an entry. This line contains the entry's checksums.
 const MARK_LINE_SIZE: usize = 72;
 
 /// The largest number of hex digits in a response.
