@@ -1,5 +1,5 @@
--- The state of the completing layer: the contexts that it made of a device's sessions. TPM 2.0
--- Library, Part 1, section 30 (context management).
+-- The state of the completing layer: its contexts of sessions. TPM 2.0 Library, Part 1, section 30
+-- (context management).
 use Rattle.std.specs.Prelude.{ℕ, get_or, is_some, map, replicate, if◌then◌else◌}
 use Rattle.tpm_bytes.specs.Numbers.{numbers_below}
 use Rattle.tpm_containers.specs.Slots.{at_place}

@@ -46,8 +46,8 @@ answered seen reply = record {
 }
 
 -- The device executes an event without the layer. If the device follows a history, after the event
--- it follows that history extended by the event. In the layer's state, only the contexts of
--- sessions that no longer exist are removed.
+-- it follows that history extended by the event. The layer's state only loses the contexts of
+-- sessions that no longer exist.
 pub record Passes (can : Bool) (c : Completion) (old : Record) (event : PlainEvent) (seen : Seen)
     : Type 0
   where

@@ -45,9 +45,9 @@ ticket_hierarchy asked message = if is_generated message then kind.Null else ask
 abbrev pub hash_check_tag : List ℕ
 hash_check_tag = to_be_bytes w16 0x8024
 
--- the digest of the ticket. It is empty for TPM_RH_NULL. For any other hierarchy, it is an HMAC of
--- the tag and the digest of the data, and the key is the hierarchy's proof. The standard does not
--- fix the HMAC's hash; this device uses SHA-256.
+-- the digest of the ticket: empty for TPM_RH_NULL. For another hierarchy, it is an HMAC of the tag
+-- and the digest of the data, with the hierarchy's proof as the key. The standard does not fix the
+-- HMAC's hash; this device uses SHA-256.
 abbrev pub ticket_digest : HierarchyHandle → (proof digest : List ℕ) → List ℕ
 ticket_digest kind.Null proof digest = []
 ticket_digest _ proof digest = hmac_of Sha256 proof (hash_check_tag ++ digest)

@@ -95,7 +95,7 @@ LayerSavesAlike =
 
 -- If two devices differ only in secrets, the layer is asked to load the same context on both, and
 -- the context contains the same object, or has the same fault. Here, the proofs of the hierarchies
--- are not secrets: they are equal on both devices.
+-- are not secrets.
 abbrev pub LayerLoadsAlike : Type 0
 LayerLoadsAlike =
     (s : Secrecy) (one other : Record) (c : Completion) (buffer response context : List ℕ)
@@ -175,8 +175,8 @@ CompletionsAlike s [] (f ∷ fs) = ⊥
 CompletionsAlike s (e ∷ es) [] = ⊥
 
 -- If two devices differ only in secret data, and have the same layer, they return the same
--- responses and rows until an event reads these data. Only contexts of objects that have secret
--- data may differ.
+-- responses and rows until an event reads these data. Only contexts of objects with secret data may
+-- differ.
 abbrev pub CompletedRunTellsNothing : Type 0
 CompletedRunTellsNothing =
     (indices : ℕ → Bool) (objects : Public → Bool) (one other : Record) (c : Completion)

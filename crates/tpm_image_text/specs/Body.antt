@@ -300,8 +300,8 @@ index_in text = do
   index ← passing is_index fields_of_index_in text
   Ok ((index.0.public.nv_index.number, index.0), index.1)
 
--- the total data size in the public areas of these NV indices, whether or not they have WRITTEN
--- set; below, whether it is within a limit
+-- the total data size of these NV indices, with or without WRITTEN; below, whether it is within a
+-- limit
 abbrev pub bytes_of : Entries NvIndex → ℕ
 bytes_of indices = sum_by (λ e. e.1.public.data_size) indices
 

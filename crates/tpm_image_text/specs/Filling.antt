@@ -10,8 +10,8 @@ use Rattle.tpm_image_text.specs.declared.fault.FillFault.{FillFault}
 use Rattle.tpm_image_text.specs.declared.fault.FillFault.TheVariants as unfilled
 use Rattle.tpm_image_text.specs.declared.fault.Malformed.{Malformed}
 
--- On success, the value was decoded from the bytes. Malformed is returned if the bytes are
--- malformed, and NoMemory if an allocation failed, whatever the bytes are.
+-- On success, the value was decoded from the bytes. On error, the bytes are malformed, or an
+-- allocation failed (NoMemory), whatever the bytes are.
 abbrev pub Fills : {X : Type 0}
     → Bool → Result (X × List ℕ) Malformed → X
     → Result (Unit {0}) FillFault → List ℕ → Type 0
@@ -25,8 +25,8 @@ AllBelow key [] = Unit {0}
 AllBelow key (e ∷ es) = (e.0 < key) × AllBelow key es
 
 -- On success, one entry was read and appended to the others: its key is at least `lowest`, and the
--- next key must be above it. Malformed is returned if the entry is malformed or does not fit (as
--- the argument `Misfits` defines), and NoMemory if an allocation failed.
+-- next key must be above it. On error, the entry is malformed or does not fit (`Misfits`), or an
+-- allocation failed (NoMemory).
 abbrev pub Appends : {X : Type 0}
     → Bool → Result ((ℕ × X) × List ℕ) Malformed → (lowest : ℕ) → (ℕ × X → Type 0)
     → (old : Entries X) → Result ℕ FillFault → (new : Entries X) → List ℕ → Type 0
@@ -59,8 +59,8 @@ Restores read old (Ok max_count) new rest =
 Restores read old (Err fault) new rest = read ≡ Err fault
 
 -- On success, the record is that of a device that was powered on with the encoded non-volatile
--- state. Malformed is returned if the bytes are malformed, and NoMemory if an allocation failed,
--- whatever the bytes are.
+-- state. On error, the bytes are malformed, or an allocation failed (NoMemory), whatever the bytes
+-- are.
 abbrev pub PowersOn : Bool → Result NonVolatile Malformed → Result (Unit {0}) FillFault
     → Record → Type 0
 PowersOn can read (Ok done) new = (kept : NonVolatile) × (read ≡ Ok kept) × (new ≡ powered_on kept)
@@ -68,8 +68,8 @@ PowersOn can read (Err unfilled.Malformed) new = read ≡ Err malformed
 PowersOn can read (Err unfilled.NoMemory) new = can ≡ true
 
 -- On success, the record is that of a device that was powered on with the non-volatile state at the
--- beginning of the bytes, and `rest` remains to be read. Malformed is returned if the bytes are
--- malformed, and NoMemory if an allocation failed, whatever the bytes are.
+-- beginning of the bytes, and `rest` remains to be read. On error, the bytes are malformed, or an
+-- allocation failed (NoMemory), whatever the bytes are.
 abbrev pub PowersOnFrom : Bool → Result (NonVolatile × List ℕ) Malformed
     → Result (Unit {0}) FillFault → Record → (rest : List ℕ) → Type 0
 PowersOnFrom can read (Ok done) new rest =
@@ -78,7 +78,7 @@ PowersOnFrom can read (Err unfilled.Malformed) new rest = read ≡ Err malformed
 PowersOnFrom can read (Err unfilled.NoMemory) new rest = can ≡ true
 
 -- On success, the result is the state of a device that was powered on with the encoded non-volatile
--- state. Malformed is returned if the bytes are malformed, and NoMemory if an allocation failed.
+-- state. On error, the bytes are malformed, or an allocation failed (NoMemory).
 abbrev pub Filled : {K : Type 0} → (K → Record) → Bool → Result NonVolatile Malformed
     → Result K FillFault → Type 0
 Filled record_of can read (Ok keep) =

@@ -104,7 +104,7 @@ abbrev pub retold_size : {form : Telling} {text : List ℕ} {held holds : Option
 retold_size told = length (starting_head told.starts) + told.followed.taken
 
 -- On success, the journal was converted to its end. On error, it was converted up to a fault; or
--- the input does not start a journal, and nothing was written; or the writer failed.
+-- the input starts no journal, and nothing was written; or the writer failed.
 abbrev pub RetellsJournal : Telling → List ℕ → (held : Option (List ℕ)) → (holds : Option (List ℕ))
     → Marks → Result (Unit {0}) RetellFault → Type 0
 RetellsJournal form text held holds marks (Ok done) = RetellsText form text held holds None

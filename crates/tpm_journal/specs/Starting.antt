@@ -86,9 +86,8 @@ abbrev pub IsStart : Result Start OpenFault → Result Journal OpenFault → (ne
 IsStart start (Ok journal) new = start ≡ Ok (record { journal = journal; device = new })
 IsStart start (Err why) new = start ≡ Err why
 
--- On success, the head of the input was opened: the result is the journal before its first entry,
--- its device, and the head's size. On error, the input does not start a journal, because of this
--- fault.
+-- On success, the result is the journal before its first entry, its device, and the head's size. On
+-- error, the input does not start a journal, because of this fault.
 abbrev pub StartsBy : List ℕ → Result Started OpenFault → (new : Record) → Type 0
 StartsBy text (Ok started) new =
     (rest : List ℕ)

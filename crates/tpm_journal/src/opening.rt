@@ -93,8 +93,8 @@ fn open_head<K: Keep>(machine: &mut Machine<K>, head: &Head) -> Result<Journal, 
     }
 }
 
-/// Opens the device from the head at the beginning of the bytes, in a machine just manufactured
-/// from all-zero random bytes. On error, the machine's state is unspecified.
+/// Opens the device from the head of a journal, in a machine just manufactured from all-zero random
+/// bytes. On error, the machine's state is unspecified.
 pub(crate) fn start<K: Keep>(machine: &mut Machine<K>, text: &[u8]) -> Result<Started, OpenFault>
     requires new { state_of K.record_of machine.old ≡ manufactured (replicate 256 0) }
     requires never_refused { K.can_refuse ≡ false }

@@ -252,8 +252,7 @@ front_lines_end sum e size is less place there =
       | inr last ↦ absurd (omega (arith, last, small, less))
     ]
 
--- If the lines of the input end where an entry's lines end, so do the lines of each prefix of the
--- input.
+-- If the lines of the input end where an entry's lines end, so do those of a prefix.
 pub lines_end_front : (mark front back : List ℕ) → LinesEnd mark (front ++ back) → LinesEnd mark front
 lines_end_front mark front back end place there =
     let at : get_or front (72 + place) 0 ≡ 10 = sym (get_or-drop 72 front place 0) ∙ there in
@@ -276,7 +275,7 @@ lines_end_zeros mark front count end place there =
 
 -- ---- lines that were split off
 
--- All line feeds in the lines after the line of a mark are at the offsets that the mark determines.
+-- All line feeds after the line of a mark are at the offsets that the mark determines.
 abbrev EndAt : (lines : List ℕ) → (drawn_end : ℕ) → Type 0
 EndAt lines drawn_end = (place : ℕ) → get_or lines place 0 ≡ 10 → (place ≡ 15) ⊎ ((place ≡ 21) ⊎ (place ≡ drawn_end))
 

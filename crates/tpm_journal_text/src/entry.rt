@@ -98,8 +98,8 @@ impl<'a> Entry<'a> {
         put(room, place, b"\n")
     }
 
-    /// Returns the random bytes for a line of the script. If the command drew none, they are a
-    /// single zero byte, since the line may not be empty.
+    /// Returns the random bytes for a script line, which may not be empty: a zero byte if the
+    /// command drew none.
     fn shown(&self) -> &[u8]
         ensures value { result.now ≡ shown self.now.drawn.now }
         ensures size { length result.now ≡ max 1 (length self.now.drawn.now) }

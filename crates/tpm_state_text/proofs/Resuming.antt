@@ -1,5 +1,5 @@
 -- The record of a restored device consists of the state that it keeps without power and the state
--- that a power cycle clears, both as the state text encodes them.
+-- that a power cycle clears, as the state text encodes them.
 use Rattle.std.proofs.Common.{◌≡◌, ℕ, Bool, List, Option, Result, Ok, refl, subst}
 use Rattle.tpm_image_text.specs.Body.{kept_in}
 use Rattle.tpm_image_text.specs.Filling.{Fills}

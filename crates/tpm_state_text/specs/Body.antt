@@ -109,6 +109,6 @@ body_in text = do
   layer ← optional_in layer_in device.1
   Ok (record { device = device.0; layer = layer.0 }, layer.1)
 
--- the state that the bytes of a body encode; bytes after it are malformed
+-- the state that a body encodes; bytes after it are malformed
 unfoldable pub state_of_body : List ℕ → Result WholeState Malformed
 state_of_body text = filling body_in text

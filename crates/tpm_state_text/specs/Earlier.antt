@@ -24,7 +24,7 @@ use Rattle.tpm_state_text.specs.declared.layer.Layer.{Layer}
 
 -- ---- the layer
 
--- Every number in a layer's state fits in 64 bits, and there is one slot for each object and each
+-- Every number in the layer's state fits in 64 bits, and there is one slot for each object and each
 -- session.
 pub record IsHeld (held : Held) : Type 0 where
   pub context : held.context < 2 ^ 64
@@ -88,7 +88,7 @@ earlier_body_in text = do
   layer ← optional_in earlier_layer_in device.1
   Ok (record { device = device.0; layer = layer.0 }, layer.1)
 
--- the state that the bytes of a body encode; bytes after it are malformed
+-- the state that a body encodes; bytes after it are malformed
 unfoldable pub earlier_state_of_body : List ℕ → Result EarlierState Malformed
 earlier_state_of_body text = filling earlier_body_in text
 

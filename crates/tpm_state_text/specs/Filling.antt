@@ -22,8 +22,7 @@ with_value places place None = places
 with_value places place (Some x) = slice_set places place (Some x)
 
 -- On success, the slot contains the value that the bytes encode, or stays free if they encode none.
--- Malformed is returned if the bytes are malformed, and NoMemory if an allocation failed, whatever
--- the bytes are.
+-- On error, the bytes are malformed, or an allocation failed (NoMemory), whatever the bytes are.
 abbrev pub FillsPlace : {X : Type 0}
     → Bool → Result (Option X × List ℕ) Malformed → (old : List (Option X)) → (place : ℕ)
     → Result (Unit {0}) FillFault → (new : List (Option X)) → List ℕ → Type 0
@@ -32,8 +31,8 @@ FillsPlace {X} can read old place (Ok done) new rest =
 FillsPlace can read old place (Err unfilled.Malformed) new rest = read ≡ Err malformed
 FillsPlace can read old place (Err unfilled.NoMemory) new rest = can ≡ true
 
--- On success, the device has the state that the body encodes, and its layer is returned. Malformed
--- is returned if the body is malformed, and NoMemory if an allocation failed, whatever the body is.
+-- On success, the device has the state that the body encodes, and its layer is returned. On error,
+-- the body is malformed, or an allocation failed (NoMemory), whatever the body is.
 abbrev pub FillsState : Bool → Result WholeState Malformed → Record
     → Result (Option Layer) FillFault → Type 0
 FillsState can read device (Ok layer) = read ≡ Ok (state_of device layer)
@@ -41,16 +40,15 @@ FillsState can read device (Err unfilled.Malformed) = read ≡ Err malformed
 FillsState can read device (Err unfilled.NoMemory) = can ≡ true
 
 -- On success, the new device has the state `read`, and its layer is returned. On error, the result
--- is the first fault of the bytes; or it is NoMemory, since an allocation failed, whatever the
--- bytes are.
+-- is the first fault of the bytes, or NoMemory if an allocation failed.
 abbrev pub RestoresNew : Bool → (read : Result WholeState StateFault) → Record
     → Result (Option Layer) RestoreFault → Type 0
 RestoresNew can read device (Ok layer) = read ≡ Ok (state_of device layer)
 RestoresNew can read device (Err (unrestored.Text fault)) = read ≡ Err fault
 RestoresNew can read device (Err unrestored.NoMemory) = can ≡ true
 
--- On success, the result is the device that the bytes encode, with its layer. On error, it is the
--- first fault of the bytes; or it is NoMemory, since an allocation failed, whatever the bytes are.
+-- On success, the result is the device that the bytes encode, with its layer. On error, the result
+-- is the first fault of the bytes, or NoMemory if an allocation failed.
 abbrev pub Restores : {K : Type 0} → (K → Record) → Bool → List ℕ
     → Result (K × Option Layer) RestoreFault → Type 0
 Restores record_of can text (Ok made) = state_of_text text ≡ Ok (state_of (record_of made.0) made.1)
@@ -65,7 +63,7 @@ RestoresAgain record_of can state (Err (unrestored.Text fault)) = ⊥
 RestoresAgain record_of can state (Err unrestored.NoMemory) = can ≡ true
 
 -- On success, the device has the state that the bytes encode, and its layer is returned. On error,
--- the device is unchanged, and the result is the first fault of the bytes, or NoMemory, since an
+-- the device is unchanged, and the result is the first fault of the bytes, or NoMemory if an
 -- allocation failed.
 abbrev pub RestoresInto : Bool → List ℕ → (old : Record) → Result (Option Layer) RestoreFault
     → (new : Record) → Type 0

@@ -11,7 +11,7 @@ use Rattle.tpm_image_text.specs.declared.fault.Malformed.{Malformed}
 use Rattle.tpm_types.specs.Limits.{session_limit}
 use Rattle.tpm_state_text.specs.declared.layer.Layer.{Layer}
 
--- Every number in a layer's state fits in 64 bits, and there is one slot for each session.
+-- Every number in the layer's state fits in 64 bits, and there is one slot for each session.
 pub record IsLayer (layer : Layer) : Type 0 where
   pub start : layer.start < 2 ^ 64
   pub count : layer.count < 2 ^ 64
