@@ -11,7 +11,7 @@ use Rattle.tpm_completion.specs.Completion.{session_context}
 use Rattle.tpm_completion.specs.declared.completion.Completion.{Completion}
 
 -- whether a session with this context number is saved (if `saved` is true) or loaded (if it is
--- false); the number 0 means that the session is loaded
+-- false); the number 0 means loaded
 abbrev pub is_in_state : (saved : Bool) → (context : ℕ) → Bool
 is_in_state true context = not (context == 0)
 is_in_state false context = context == 0

@@ -40,7 +40,7 @@ pub fn objects<K: Keep>(keep: &K, elements: &mut Elements)
 }
 
 /// Whether a session with this context number is saved (if `saved` is true) or loaded (if it is
-/// false). The number 0 means that the session is loaded.
+/// false). The number 0 means loaded.
 fn is_in_state(saved: bool, context: u64) -> bool
     ensures { result ≡ is_in_state saved context }
 {

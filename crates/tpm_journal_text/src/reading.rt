@@ -66,14 +66,14 @@ pub(crate) fn read_hex<'a>(text: &[u8], place: usize, room: &'a mut [u8]) -> Opt
     }
 }
 
-/// The number in the first four bytes of a mark: the milliseconds since the previous command.
+/// The elapsed milliseconds, in the first four bytes of a mark.
 fn u32_at(mark: &[u8; MARK_SIZE]) -> u32
     ensures { result ≡ from_be_bytes w32 (take 4 mark.now) }
 {
     u32::from_be_bytes([mark[0], mark[1], mark[2], mark[3]])
 }
 
-/// The number in the last eight bytes of a mark: the checksum of the response.
+/// The response's checksum, in the last eight bytes of a mark.
 fn u64_at(mark: &[u8; MARK_SIZE]) -> u64
     ensures { result ≡ from_be_bytes w64 (take 8 (drop 18 mark.now)) }
 {
