@@ -1,4 +1,4 @@
--- The client gets the device's response, except in a few named cases.
+-- The client gets the device's response, with two exceptions (`DeviceFirst`).
 use Rattle.std.proofs.Common.{◌≡◌, ℕ, ◌/◌, ◌^◌, ◌&&◌, ◌||◌, not, Bool, true, false, if◌then◌else◌, List, [], Option, None, Result, Ok, Err, refl, ap, sym, ◌∙◌}
 use Rattle.std.proofs.lemmas.Bool.{false≢true}
 use Rattle.std.specs.Prelude.{◌==◌}
@@ -36,7 +36,7 @@ and_right true b e = e
 either : {X : Type 0} (a b : Bool) (x y z : X) → a ≡ false → b ≡ false → (if a then x else (if b then y else z)) ≡ z
 either a b x y z e f = if_false a x (if b then y else z) e ∙ if_false b y z f
 
--- the layer lists no handles whose most significant byte is neither 02 nor 03
+-- the layer lists only handles whose most significant byte is 02 or 03
 no_handles : (r : Record) (c : Completion) (asked : Asked) (kind : ℕ) → ((kind == 0x02) || (kind == 0x03)) ≡ false → handles_told r c asked kind ≡ None
 no_handles r c asked kind none =
     either (kind == 0x02) (kind == 0x03) _ _ None (or_left (kind == 0x02) (kind == 0x03) none) (or_right (kind == 0x02) (kind == 0x03) none)

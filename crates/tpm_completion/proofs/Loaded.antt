@@ -15,7 +15,7 @@ use Rattle.tpm_context.specs.declared.head.ContextHead.{ContextHead}
 use Rattle.tpm_completion.specs.Loaded.{LoadsOnlyWhatWasMade, LoadsWhatWasSaved}
 use Rattle.tpm_completion.specs.Saving.{binding_of}
 
--- Two bindings agree in everything that matters for an object.
+-- Two bindings are equal as far as a context of this object is bound to them.
 record BindsAlike (a b : Binding) (o : Object) : Type 0 where
   start : b.start ≡ a.start
   reset_count : b.reset_count ≡ a.reset_count

@@ -1,4 +1,5 @@
--- The text of a list is the text written so far, followed by the text of the remaining elements.
+-- When a list is written, the bytes written so far, followed by the encodings of the remaining
+-- elements, are the whole encoding.
 use Rattle.std.proofs.Common.{arith, ◌≡◌, ℕ, zero, suc, ◌-◌, ◌≢◌, true, false, List, ◌∷◌, ◌++◌, filter, take, refl, ap, sym, ◌∙◌}
 use Rattle.std.proofs.lemmas.List.{append_assoc}
 use Rattle.std.proofs.lemmas.List.Concat.{flat_map-cons}

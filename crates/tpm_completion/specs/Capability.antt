@@ -59,7 +59,8 @@ own_before command.PcrRead = element 0x17c 0x17c ∷ element 0x17d 0x17d ∷ []
 own_before command.PolicyPassword = element 0x18a 0x18a ∷ []
 own_before _ = []
 
--- the elements for a command: the layer's own commands that are listed before it, and the command
+-- the element of a command, preceded by those of the layer's own commands that are listed just
+-- before it
 unfoldable pub commands_by : CommandCode → List Element
 commands_by code = own_before code ++ command_element code ∷ []
 
@@ -69,7 +70,7 @@ command_elements = flat_map commands_by all_codes
 -- ---- the answer
 
 -- the layer's list of the handles whose most significant byte is `kind`: loaded sessions for 02,
--- saved sessions for 03, otherwise none
+-- saved sessions for 03, None for other values
 abbrev pub handles_told : Record → Completion → Asked → (kind : ℕ) → Option (List ℕ)
 handles_told r c asked kind =
     if kind == 0x02 then

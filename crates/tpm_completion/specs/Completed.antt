@@ -11,7 +11,7 @@ use Rattle.tpm_completion.specs.Completion.{forgotten}
 use Rattle.tpm_completion.specs.Execution.{Seen, answered, asked_behind, opened_behind, placed_behind, reply_behind, unopened_behind}
 use Rattle.tpm_completion.specs.declared.completion.Completion.{Completion}
 
--- the effect of an event that the device alone executes
+-- the effect of an event that the device executes without the layer
 unfoldable pub passed : Completion → Record → PlainEvent → Seen
 passed c old event = record {
   step = step old event;
@@ -19,7 +19,7 @@ passed c old event = record {
   drawn = drawn_by old event (step old event).row.check;
 }
 
--- the effect of loading the object of a context, or of refusing the context, after the device
+-- the effect of loading the object in a context, or of refusing the context, after the device
 -- refused the command
 abbrev pub loaded_behind : Seen → Result Object ContextFault → Seen
 loaded_behind first (Ok object) = placed_behind first (step first.step.after (Placed object))

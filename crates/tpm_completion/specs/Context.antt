@@ -1,6 +1,6 @@
--- The context of a session: a token that names the slot where the session stays on the device. TPM
--- 2.0 Library, Part 2, section 14 (TPMS_CONTEXT: sequence, savedHandle, hierarchy, contextBlob),
--- and Part 1, section 30 (context management).
+-- The context of a session: a token that names the slot in which the session stays on the device.
+-- TPM 2.0 Library, Part 2, section 14 (TPMS_CONTEXT: sequence, savedHandle, hierarchy,
+-- contextBlob), and Part 1, section 30 (context management).
 use Rattle.std.specs.Prelude.{ℕ, not, Bool, false, List, [], ◌∷◌, ◌++◌, Result, Ok, Err}
 use Rattle.std.specs.Int.{w32, w64, to_be_bytes}
 use Rattle.std.specs.Str.{bytes_eq}
@@ -11,7 +11,7 @@ use Rattle.tpm_types.specs.declared.handle.Handle.{Handle}
 use Rattle.tpm_types.specs.Handle.{is_session, null_handle, numbered}
 use Rattle.tpm_completion.specs.declared.context.Token.{Token}
 
--- the size of a session's context
+-- the size of a session's context, in bytes
 abbrev pub session_context_size : ℕ
 session_context_size = 38
 
@@ -19,19 +19,19 @@ session_context_size = 38
 abbrev pub mark : List ℕ
 mark = 0x74 ∷ 0x70 ∷ 0x6d ∷ 0x73 ∷ 0x69 ∷ 0x6d ∷ 0x20 ∷ 0x31 ∷ []
 
--- the contextBlob of a token: the mark, the start of the layer, and the handle
+-- the contextBlob of a token: `mark`, the layer's start number, and the session's handle
 abbrev pub token_text : (start : ℕ) → Handle → List ℕ
 token_text start handle = mark ++ to_be_bytes w64 start ++ to_be_bytes w32 handle.number
 
--- the context of a token: the sequence is the token's number, the savedHandle its handle, and the
--- hierarchy TPM_RH_NULL
+-- the context of a token: its sequence is the token's number, its savedHandle is the token's
+-- handle, and its hierarchy is TPM_RH_NULL
 unfoldable pub context_text : (start : ℕ) → Token → List ℕ
 context_text start token =
     to_be_bytes w64 token.context ++ to_be_bytes w32 token.handle.number
     ++ to_be_bytes w32 null_handle.number ++ sized_text (token_text start token.handle)
 
--- the token in a context: its number comes first, and its handle after 26 more bytes. The bytes
--- must be exactly those of the token's context
+-- the token in a context: the number is in the first bytes, and the handle is 26 bytes after the
+-- number. The bytes must be exactly the token's context
 unfoldable pub token_at : (start : ℕ) → List ℕ → Result Token Short
 token_at start text = do
   context ← number_at w64 text

@@ -1,4 +1,4 @@
--- The client gets the device's response, except in a few named cases.
+-- The client gets the device's response, with two exceptions (`DeviceFirst`).
 use Rattle.std.specs.Prelude.{◌≡◌, ℕ, ◌/◌, ◌^◌, ◌==◌, ◌&&◌, ◌||◌, Bool, false, List, [], None, Result, Ok, Err}
 use Rattle.std.specs.Str.{bytes_eq}
 use Rattle.tpm_bytes.specs.declared.cursor.Short.{Short}

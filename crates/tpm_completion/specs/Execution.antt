@@ -21,8 +21,8 @@ use Rattle.tpm_completion.specs.Reply.{reply}
 use Rattle.tpm_completion.specs.Saving.{Reply, refused}
 use Rattle.tpm_completion.specs.declared.completion.Completion.{Completion}
 
--- the effect of an event: the response, and the device's row and new record; the layer's new state;
--- and how many random bytes the device's last event drew
+-- the effect of an event: the response; the device's row and new record; the layer's new state; and
+-- the number of random bytes that the device's last event drew
 pub record Seen : Type 0 where
   pub step : Stepped
   pub layer : Completion
@@ -45,9 +45,9 @@ answered seen reply = record {
   drawn = seen.drawn;
 }
 
--- The device alone executes an event. If the device follows a history, after the event it follows
--- that history extended by the event. The layer only forgets the contexts of sessions that no
--- longer exist.
+-- The device executes an event without the layer. If the device follows a history, after the event
+-- it follows that history extended by the event. The layer's state only loses the contexts of
+-- sessions that no longer exist.
 pub record Passes (can : Bool) (c : Completion) (old : Record) (event : PlainEvent) (seen : Seen)
     : Type 0
   where
@@ -78,19 +78,19 @@ placed_behind first placing =
       drawn = 0;
     }
 
--- the effect if memory for the object ran out: the response is MEMORY (904), and the state is
--- unchanged
+-- the effect if memory for the object ran out: the response is MEMORY (904), and the device and the
+-- layer are unchanged
 abbrev pub unplaced_behind : Seen → Seen
 unplaced_behind first = record (answered first (refused first.layer 0x904)) { drawn = 0 }
 
--- After a command's effect `first`, the device executes the event that places an object.
+-- After a command with the effect `first`, the device executes the event that places an object.
 pub record ExecutesPlacing (can : Bool) (first : Seen) (object : Object) (placing : Stepped) : Type 0
   where
     pub executes : Executes can first.step.after (Placed object) placing
     pub history : After Follows first.step.after (Placed object) placing
 
--- The device places an object. Or memory runs out (`refused`), which is possible only if `can` is
--- true.
+-- Either the device places an object, or memory runs out (`refused`). The latter is possible only
+-- if `can` is true.
 abbrev pub PlacesIf : (can refused : Bool) → Seen → Object → Seen → Type 0
 PlacesIf can false first object seen =
     (placing : Stepped) × ExecutesPlacing can first object placing

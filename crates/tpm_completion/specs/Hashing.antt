@@ -23,7 +23,7 @@ use Rattle.tpm_record.specs.Hierarchy.{secrets_of}
 use Rattle.tpm_record.specs.declared.hierarchy.Hierarchies.{Hierarchies}
 use Rattle.tpm_record.specs.rows.Rows.{all_read, parameter}
 
--- the hierarchy whose handle is at the beginning of a text, and the rest of the text
+-- the hierarchy whose handle is at the beginning of the bytes, and the remaining bytes
 unfoldable pub hierarchy_at : List ℕ → Result (HierarchyHandle × List ℕ) Rc
 hierarchy_at text = do
   number ← or_fault (number_at w32 text) (plain code.Insufficient)
@@ -45,9 +45,9 @@ ticket_hierarchy asked message = if is_generated message then kind.Null else ask
 abbrev pub hash_check_tag : List ℕ
 hash_check_tag = to_be_bytes w16 0x8024
 
--- the digest of the ticket: empty for TPM_RH_NULL, and otherwise an HMAC of the tag and the digest
--- of the data, whose key is the hierarchy's proof. The standard does not fix the HMAC's hash; this
--- device uses SHA-256.
+-- the digest of the ticket: empty for TPM_RH_NULL. For another hierarchy, it is an HMAC of the tag
+-- and the digest of the data, with the hierarchy's proof as the key. The standard does not fix the
+-- HMAC's hash; this device uses SHA-256.
 abbrev pub ticket_digest : HierarchyHandle → (proof digest : List ℕ) → List ℕ
 ticket_digest kind.Null proof digest = []
 ticket_digest _ proof digest = hmac_of Sha256 proof (hash_check_tag ++ digest)

@@ -12,7 +12,7 @@ use Rattle.tpm_completion.specs.declared.listing.Form.TheVariants as form
 abbrev pub element : (number told : ℕ) → Element
 element number told = record { number = number; told = told }
 
--- the text of an element in each form: Value, a handle or a command's attributes; Property, a
+-- the encoding of an element in each form: Value, a handle or a command's attributes; Property, a
 -- property and its value; Algorithm, an algorithm and its attributes; Selection, a property of
 -- PCRs, and three octets that select the PCRs with this property
 abbrev pub told_text : Form → Element → List ℕ
@@ -22,12 +22,12 @@ told_text form.Algorithm e = to_be_bytes w16 (e.number % 2 ^ 16) ++ to_be_bytes 
 told_text form.Selection e =
     to_be_bytes w32 e.number ++ to_be_bytes w8 3 ++ take 3 (to_le_bytes w32 e.told)
 
--- the text of at most `count` of the elements whose number is at least `from`
+-- the encoding of at most `count` of the elements whose number is at least `from`
 abbrev pub text_of : Form → (from count : ℕ) → List Element → List ℕ
 text_of form from count elements =
     flat_map (told_text form) (take count (filter (is_from from) elements))
 
--- the text of a list: whether the capability has more elements (moreData), the capability, the
+-- the encoding of a list: whether the capability has more elements (moreData), the capability, the
 -- number of elements, and the elements
 abbrev pub listing : Form → (capability from count : ℕ) → List Element → List ℕ
 listing form capability from count elements =

@@ -1,5 +1,5 @@
--- Which contexts of objects can be loaded: those that were saved since the start of the layer and
--- the last TPM Reset. TPM 2.0 Library, Part 1, section 30 (context management).
+-- Which contexts of objects can be loaded: those that were saved since both the layer's last start
+-- and the last TPM Reset. TPM 2.0 Library, Part 1, section 30 (context management).
 use Rattle.std.specs.Prelude.{◌≡◌, ◌⊎◌, ℕ, ◌<◌, ◌^◌, List, Ok}
 use Rattle.tpm_object.specs.Object.{IsObject}
 use Rattle.tpm_object.specs.declared.object.Object.{Object}
@@ -16,9 +16,9 @@ abbrev pub saved_context : Record → Completion → (number : ℕ) → Object �
 saved_context r c number object =
     object_context_text r.fixed.hierarchies (binding_of r c) number object
 
--- The context of an object, saved when the record was `r`, can still be loaded when it is `later`:
--- the object's hierarchy has the same proof, the layer the same start, and the device the same
--- count of TPM Resets. If the object has stClear, the count of TPM Restarts is the same too.
+-- The context of an object, saved when the record was `r`, can still be loaded when it is `later`.
+-- The proof of the object's hierarchy, the layer's start number and the device's count of TPM
+-- Resets are the same. If the object has stClear, so is the count of TPM Restarts.
 pub record StaysValid (r later : Record) (c d : Completion) (object : Object) : Type 0 where
   pub proof : proof_of later.fixed.hierarchies object.hierarchy
       ≡ proof_of r.fixed.hierarchies object.hierarchy
@@ -33,9 +33,9 @@ LoadsWhatWasSaved =
     → number < 2 ^ 64 → IsObject object → StaysValid r later c d object
     → object_opened later d (saved_context r c number object) ≡ Ok object
 
--- Unless the HMAC has a collision, a context can be loaded only with the proof, start and count of
--- TPM Resets with which it was made (for an object with stClear, also the count of TPM Restarts),
--- and loading it yields the object from which it was made.
+-- Unless the HMAC has a collision, a context can be loaded only with the proof, start number and
+-- count of TPM Resets with which it was made (for an object with stClear, also the count of TPM
+-- Restarts), and loading it yields the object from which it was made.
 abbrev pub LoadsOnlyWhatWasMade : Type 0
 LoadsOnlyWhatWasMade =
     (c : Making) (r : Record) (layer : Completion) (object : Object)

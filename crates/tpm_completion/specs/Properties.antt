@@ -23,7 +23,7 @@ use Rattle.tpm_completion.specs.declared.completion.Completion.{Completion}
 
 -- ---- what never changes
 
--- how many commands the layer adds to those of the device
+-- the number of commands that the layer adds to those of the device
 abbrev pub own_count : ℕ
 own_count = 7
 
@@ -111,13 +111,13 @@ permanent_attributes f =
 
 -- TPMA_STARTUP_CLEAR: phEnable, shEnable, ehEnable and phEnableNV, since no command disables a
 -- hierarchy; and orderly, if restartCount is not 0: the last TPM2_Startup was then a TPM Restart or
--- a TPM Resume, so that a TPM2_Shutdown preceded it
+-- a TPM Resume, and a TPM2_Shutdown preceded it
 abbrev pub startup_attributes : Fixed → ℕ
 startup_attributes f = 0xf + attribute_if (not (f.restart_count == 0)) 0x8000_0000
 
 -- ---- what is there, and what there is place for
 
--- how many sessions are saved (for `saved` true) or loaded (for false)
+-- the number of saved sessions if `saved` is true, otherwise of loaded sessions
 abbrev pub session_count : Record → Completion → (saved : Bool) → ℕ
 session_count r c saved = length (sessions_shown r c saved)
 
@@ -153,8 +153,8 @@ count_elements r c =
     ∷ element 0x20a (counter_count r.nv)  -- NV_COUNTERS
     ∷ []
 
--- the properties of features that the device does not have (a set of algorithms, curves, a wait
--- after a change of NV memory, an audit of commands), which are 0, and the parameters of lockout
+-- the properties of features that the device does not have, which are 0 (a set of algorithms,
+-- curves, a wait after a change of NV memory, an audit of commands); and the parameters of lockout
 abbrev pub lockout_elements : LockoutState → List Element
 lockout_elements lockout =
     element 0x20c 0  -- ALGORITHM_SET

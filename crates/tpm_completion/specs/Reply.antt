@@ -24,12 +24,12 @@ use Rattle.tpm_completion.specs.Testing.{incremental_row, test_parms_row, test_r
 use Rattle.tpm_completion.specs.declared.capability.Asked.{Asked}
 use Rattle.tpm_completion.specs.declared.completion.Completion.{Completion}
 
--- the reply with the device's own response
+-- the reply that leaves the device's response unchanged
 abbrev pub stands : Completion → List ℕ → Reply
 stands c response = record { response = response; after = c }
 
 -- whether the parameters of TPM2_StirRandom are valid: a buffer of at most 128 bytes, which are
--- ignored, and nothing after it
+-- ignored, with no bytes after it
 abbrev pub is_stirred : Result (List ℕ × List ℕ) SizedFault → Bool
 is_stirred (Ok bytes) = length bytes.1 == 0
 is_stirred (Err e) = false
@@ -46,7 +46,7 @@ save_asked r c response (Ok handle) =
     if length handle.1 == 0 then saved r c (numbered handle.0) else stands c response
 save_asked r c response (Err e) = stands c response
 
--- the reply with the result of a row, which is a success or a refusal
+-- the reply with the result of a command's row, which is a success or a refusal
 abbrev pub replied : Completion → Result (List ℕ) Refused → Reply
 replied c (Ok body) = record { response = success body; after = c }
 replied c (Err e) = refused c (rc_number e.rc)
@@ -67,7 +67,7 @@ abbrev pub load_asked : Record → Completion → (context response : List ℕ) 
 load_asked r c context response =
     if names_session context then loaded r c context else stands c response
 
--- the answer to a command that the device does not serve
+-- the layer's answer to a command that the device does not support
 abbrev pub served : Record → Completion → Command → (response : List ℕ) → Reply
 served r c command response =
     if command.code == 0x146 then stirred c command.parameters response
@@ -100,16 +100,15 @@ command_reply r c command response was_told =
     else stands c response))
 
 -- the answer to a TPM 1.2 command (tag 00C1). If the device refused it with BAD_TAG (1E) and tag
--- 00C4, the layer answers VALUE (84) with tag 8001, from which firmware learns that there is no TPM
--- 1.2
+-- 00C4, the layer answers VALUE (84) with tag 8001, which shows firmware that there is no TPM 1.2
 unfoldable pub probed : Completion → (buffer response : List ℕ) → Reply
 probed c buffer response =
     if (tag_of buffer == 0xc1) && bytes_eq response (framed 0xc4 0x1e []) then
     record { response = refusal 0x84; after = c }
     else stands c response
 
--- the answer to a buffer for which the device returned this response; `was_told` says whether it is
--- a success
+-- the answer to a buffer for which the device returned this response; `was_told` says whether this
+-- response is a success
 abbrev pub reply_by : Record → Completion → (buffer response : List ℕ) → (was_told : Bool)
     → Result Command Short → Reply
 reply_by r c buffer response was_told (Ok command) = command_reply r c command response was_told

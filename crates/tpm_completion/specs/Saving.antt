@@ -45,8 +45,8 @@ refused c code = record { response = refusal code; after = c }
 
 -- ---- TPM2_ContextSave of an object
 
--- the values to which an object's context is bound: the start of the layer, and the device's counts
--- of TPM Resets and TPM Restarts
+-- the values to which an object's context is bound: the layer's start number, and the device's
+-- counts of TPM Resets and TPM Restarts
 abbrev pub binding_of : Record → Completion → Binding
 binding_of r c = record {
   start = c.start;
@@ -77,7 +77,7 @@ context_given c handle context = record {
   after = c;
 }
 
--- the reply with a new context of a session, which is then no longer loaded
+-- the reply with a new context of a session; the session is then no longer loaded
 abbrev pub session_numbered : Completion → Handle → Option ℕ → Reply
 session_numbered c handle (Some number) =
     context_given (with_session (counted c number) (place_named handle) number) handle number
@@ -102,7 +102,7 @@ saved r c handle =
 
 -- ---- TPM2_ContextLoad of a session's context
 
--- the reply with the handle of a loaded context
+-- the reply to loading a context: the handle
 abbrev pub handle_given : Completion → Handle → Reply
 handle_given c handle =
     record { response = success (to_be_bytes w32 handle.number); after = c }
@@ -117,9 +117,9 @@ session_loaded r c token =
     else refused c 0x1cb
 
 -- the reply to TPM2_ContextLoad of a context that names a session. INTEGRITY for parameter 1 (1DF)
--- means that the context was not made since the start of this layer. HANDLE for parameter 1 (1CB)
+-- means that the context was not made since the layer's last start. HANDLE for parameter 1 (1CB)
 -- means that the session no longer exists, that another session has its slot, or that the session
--- was loaded since.
+-- has been loaded since the context was saved.
 abbrev pub loaded_by : Record → Completion → Result Token Short → Reply
 loaded_by r c (Ok token) = session_loaded r c token
 loaded_by r c (Err e) = refused c 0x1df

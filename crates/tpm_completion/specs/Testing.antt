@@ -16,7 +16,7 @@ use Rattle.tpm_record.specs.rows.Rows.{all_read, parameter}
 abbrev pub algorithm_limit : ℕ
 algorithm_limit = 64
 
--- the algorithms in the list at the beginning of a text, two bytes each, and the rest of the text
+-- the algorithms in the list at the beginning of the bytes, two bytes each, and the remaining bytes
 unfoldable pub algorithms_at : List ℕ → Result (List ℕ × List ℕ) Rc
 algorithms_at text = do
   count ← or_fault (number_at w32 text) (plain code.Insufficient)

@@ -8,7 +8,7 @@ ghost use Rattle.tpm_completion.specs.Answer.{is_refusal};
 use tpm_bytes::{append, is_equal};
 use tpm_step::Response;
 
-/// Replaces the device's response by one with this code and body, without sessions.
+/// Replaces the device's response with one that has this code and body, and no sessions.
 pub fn answer(code: u32, body: &[u8], text: &mut Response)
     requires { length body.now ≤ 600 }
     ensures { text.new.items ≡ framed 0x8001 code body.now }

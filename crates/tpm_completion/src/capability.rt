@@ -76,7 +76,7 @@ fn algorithms(elements: &mut Elements)
     elements.push(element(0x43, 0x202));
 }
 
-/// The element of a command that the device serves, with its attributes (TPMA_CC).
+/// The element of a command that the device supports, with its attributes (TPMA_CC).
 fn command(code: CommandCode) -> Element
     ensures { result ≡ command_element code }
 {
@@ -147,7 +147,7 @@ fn tell_sessions<K: Keep>(
     list(elements.as_slice(), Form::Value, 1, from, asked.count, text);
 }
 
-/// Writes the handles of sessions if the client asks for them. Otherwise, returns false.
+/// Writes the list of session handles if the client asks for it. Otherwise, returns false.
 fn tell_handles<K: Keep>(layer: &Completion, keep: &K, asked: Asked, text: &mut Listing) -> bool
     requires { text.old ≡ [] }
     ensures { Tells (handles_told (K.record_of keep.now) layer.now asked (asked.property / 2 ^ 24))

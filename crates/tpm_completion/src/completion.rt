@@ -15,15 +15,15 @@ pub struct Completion {
     pub start: u64,
     /// The sequence number of the last context, or 0 before the first.
     pub count: u64,
-    /// For each session, by its slot: the number of the context with which it was saved, or 0 if
-    /// it is loaded.
+    /// For each session, by its slot: the number of the context in which it was saved, or 0 if it
+    /// is loaded.
     pub sessions: [u64; 16],
 }
 
 impl Completion {
-    /// The state of the layer after a start, before it has saved any context. If each start has
-    /// another number, such as the time of the host's clock, contexts of earlier starts are not
-    /// loaded.
+    /// The state of a layer that started with this number, before it has saved any context. If each
+    /// start has a different number, such as the time of the host's clock, contexts of earlier
+    /// starts are not loaded.
     pub fn of_start(start: u64) -> Completion
         ensures { result ≡ new_completion start }
     {

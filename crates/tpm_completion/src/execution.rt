@@ -79,7 +79,7 @@ fn complete_if<K: Keep>(
     }
 }
 
-/// Lets the device alone execute an event.
+/// Executes an event on the device, without the layer.
 fn pass<K: Keep>(
     machine: &mut Machine<K>,
     layer: &mut Completion,

@@ -1,4 +1,5 @@
-//! TPM2_Hash: the digest of data, with a ticket which says that a restricted key may sign it.
+//! TPM2_Hash: the digest of data, with a ticket which says that a restricted key may sign the
+//! digest.
 
 ghost use Rattle.std.specs.Prelude.{◌≡◌, ◌≤◌, length};
 ghost use Rattle.tpm_bytes.specs.Reading.{Gives, Reads};

@@ -16,10 +16,10 @@ pub fn runs_follow()
     ensures { RunsFollow }
 {}
 
-/// Loading the context of an object yields the object that was saved, as long as the start of the
-/// layer, the proof of the object's hierarchy and the counts to which the object is bound have not
-/// changed. Unless the HMAC has a collision, a context can be loaded only with the start, proof and
-/// counts with which it was made.
+/// Loading the context of an object yields the object that was saved, as long as the layer's start
+/// number, the proof of the object's hierarchy and the counts to which the object is bound have not
+/// changed. Unless the HMAC has a collision, a context can be loaded only with the start number,
+/// proof and counts with which it was made.
 pub fn loading_laws()
     ensures again { LoadsWhatWasSaved }
     ensures only { LoadsOnlyWhatWasMade }

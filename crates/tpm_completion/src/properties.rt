@@ -21,7 +21,7 @@ use tpm_types::{
 };
 use tpm_types_nv::NvType;
 
-/// How many commands the layer adds to those of the device.
+/// The number of commands that the layer adds to those of the device.
 const OWN_COUNT: u32 = 7;
 
 /// The number of all commands.
@@ -129,7 +129,7 @@ fn startup_attributes(fixed: &Fixed) -> u32
     0xf + attribute_if(fixed.restart_count != 0, 0x8000_0000)
 }
 
-/// How many sessions are saved (for `saved` true) or loaded (for false).
+/// The number of saved sessions if `saved` is true, otherwise of loaded sessions.
 fn session_count<K: Keep>(layer: &Completion, keep: &K, saved: bool) -> u32
     ensures value { result ≡ session_count (K.record_of keep.now) layer.now saved }
     ensures small { result ≤ 64 }

@@ -35,7 +35,7 @@ fn is_stirred(parameters: &[u8]) -> bool
     }
 }
 
-/// Answers a command of TPM 1.2, with which firmware checks whether there is a TPM 1.2.
+/// Answers a command of TPM 1.2, which firmware sends to check whether there is a TPM 1.2.
 #[tactic(auto, unfolding(crate::specs::Reply::probed))]
 fn probe(layer: &Completion, buffer: &[u8], text: &mut Response)
     ensures { record { response = text.new.items; after = layer.now }
@@ -83,7 +83,7 @@ impl Completion {
         }
     }
 
-    /// Answers with the result of a row, which is a success or a refusal.
+    /// Answers with the result of a command's row, which is a success or a refusal.
     fn give(&self, row: Result<Body, Refused>, text: &mut Response)
         ensures { record { response = text.new.items; after = self.now }
             ≡ replied self.now row }
@@ -111,7 +111,7 @@ impl Completion {
         }
     }
 
-    /// Answers a command that the device does not serve.
+    /// Answers a command that the device does not support.
     fn serve<K: Keep>(&mut self, keep: &K, command: &PlainCommand, text: &mut Response)
         ensures { record { response = text.new.items; after = self.new }
             ≡ served (K.record_of keep.now) self.old (command_of command.now) text.old.items }
@@ -168,7 +168,7 @@ impl Completion {
         }
     }
 
-    /// Replaces the device's response in `text` by the layer's answer, or leaves it unchanged.
+    /// Replaces the device's response in `text` with the layer's answer, or leaves it unchanged.
     /// `was_told` says whether the device's response is a success.
     #[tactic(auto, unfolding(crate::specs::Reply::reply))]
     pub(crate) fn reply<K: Keep>(

@@ -47,7 +47,7 @@ impl Completion {
         }
     }
 
-    /// Answers with a context of this session that has this number.
+    /// Answers with the context of this session, with this number.
     fn give_context(&self, handle: Handle, context: u64, text: &mut Response)
         ensures { record { response = text.new.items; after = self.now }
             ≡ context_given self.now handle context }

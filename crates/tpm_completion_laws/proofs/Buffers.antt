@@ -1,5 +1,5 @@
 -- If the device does not support a command, it refuses the command with COMMAND_CODE, and the layer
--- parses it.
+-- parses the command.
 use Rattle.std.proofs.Common.{arith, ◌≡◌, ℕ, ◌+◌, ◌^◌, ◌<◌, ◌≤◌, ◌&&◌, Bool, true, false, ltb, List, ◌++◌, length, Option, Some, None, Result, Ok, Err, refl, sym, ap, ◌∙◌}
 use Rattle.std.specs.Prelude.{◌==◌, ◌||◌, not, ok_or, if◌then◌else◌}
 use Rattle.std.specs.Int.{w16, w32, to_be_bytes}
@@ -37,8 +37,8 @@ use Rattle.tpm_completion.specs.declared.completion.Completion.{Completion}
 
 -- ---- the device
 
--- If a command header is correct except for an unknown command code, its fault is the one for the
--- code.
+-- If only the command code of a header is wrong, the fault of the header is that of an unknown
+-- command code.
 lacked_by : (outside other_size : Bool) (named : Option Tag) (known : Option CommandCode) (tag : Tag) (rest : List ℕ) → outside ≡ false → named ≡ Some tag → other_size ≡ false → known ≡ None → (refused_if outside fault.Length >>= λ length_fits. ok_or named fault.Tag >>= λ tag. refused_if other_size fault.Size >>= λ size_is_length. ok_or known fault.Code >>= λ code. Ok (record { tag = tag; code = code }, rest)) ≡ (let done : Result (Header × List ℕ) HeaderFault = Err fault.Code in done)
 lacked_by outside other_size named known tag rest e0 e1 e2 e3 = rw (e0, e1, e2, e3) refl
 

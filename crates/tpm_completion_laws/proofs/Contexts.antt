@@ -63,7 +63,7 @@ token_once : (r later : Record) (c : Completion) (token : Token) → session_loa
     → session_loaded later (session_loaded r c token).after token ≡ refused (session_loaded r c token).after 0x1cb
 token_once r later c token accepted = session_once _ later c token accepted
 
--- no reply of the layer changes the start number of the layer
+-- no reply of the layer changes the layer's start number
 starts_if : (loads : Bool) (c : Completion) (token : Token) → (loaded_if loads c token).after.start ≡ c.start
 starts_if true c token = refl
 starts_if false c token = refl

@@ -1,4 +1,4 @@
--- No answer of the layer changes the start number of the layer.
+-- No answer of the layer changes the layer's start number.
 use Rattle.std.proofs.Common.{◌≡◌, ℕ, Bool, true, false, List, [], Option, Some, None, Result, Ok, Err, refl}
 use Rattle.std.specs.Prelude.{◌==◌, ◌&&◌, is_some, length, not, if◌then◌else◌}
 use Rattle.std.specs.Str.{bytes_eq}

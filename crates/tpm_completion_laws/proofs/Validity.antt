@@ -59,7 +59,8 @@ same_keeps old new same reset restart = record {
 
 -- ---- parts of the state
 
--- whether a successful command that changes this part of the state keeps the proofs and the counts
+-- whether the proofs and the counts stay unchanged when a successful command changes this part of
+-- the state
 keeps_counts : Part → Bool
 keeps_counts part.Beginning = false
 keeps_counts part.Cleared = false
@@ -121,7 +122,8 @@ stepped_keeps t locality random (Err e) is no_startup no_clear = same_keeps _ _ 
 
 -- ---- the layer
 
--- An effect leaves contexts valid: it keeps the proofs, the counts and the layer's start number.
+-- An effect leaves contexts valid: the proofs, the counts and the layer's start number are
+-- unchanged.
 record Leaves (r : Record) (c : Completion) (seen : Seen) : Type 0 where
   fixed : Keeps r.fixed seen.step.after.fixed
   start : seen.layer.start ≡ c.start

@@ -1,4 +1,4 @@
--- What the completing layer lists, and which commands it serves.
+-- The lists of the completing layer, and the commands that it serves.
 use Rattle.std.specs.Prelude.{◌≡◌, ℕ, ◌+◌, ◌-◌, ◌*◌, ◌^◌, ◌==◌, ◌&&◌, ◌||◌, nat_lt, Bool, true, false, List, [], ◌∷◌, ◌++◌, filter, length, map, if◌then◌else◌}
 use Rattle.std.specs.List.{flat_map, sum_by}
 use Rattle.tpm_bytes.specs.Numbers.{numbers_below}
@@ -83,9 +83,9 @@ PcrPropertiesHold =
 
 -- ---- counts
 
--- Loaded and saved sessions together are all sessions. The number of what exists and the number of
--- what is available add up to the limit: HR_LOADED and HR_LOADED_AVAIL, HR_ACTIVE and
--- HR_ACTIVE_AVAIL, and the transient objects and HR_TRANSIENT_AVAIL.
+-- Loaded and saved sessions together are all sessions. The number in use and the number available
+-- add up to the limit, for loaded sessions (HR_LOADED and HR_LOADED_AVAIL), for active sessions
+-- (HR_ACTIVE and HR_ACTIVE_AVAIL), and for transient objects (HR_TRANSIENT_AVAIL).
 pub record AddsUp (r : Record) (c : Completion) : Type 0 where
   pub all : active_count r c ≡ length (session_elements r)
   pub loaded : session_count r c false + (session_limit - session_count r c false) ≡ session_limit

@@ -32,8 +32,9 @@ pub fn object_laws()
 {}
 
 /// The layer serves only its own commands, and lists and counts each of them. Commands and
-/// properties are listed in ascending order. The numbers of what exists and of what is available
-/// add up to the device's limits. The listed properties of PCRs match how the device changes PCRs.
+/// properties are listed in ascending order. The numbers of used and of available sessions and
+/// objects add up to the device's limits. The listed properties of PCRs match how the device
+/// changes PCRs.
 #[inline(always)]
 pub fn list_laws()
     ensures own { ServesItsOwn }

@@ -93,7 +93,7 @@ same_bytes proof other m n h k key start sequence one =
     ∙ ap (λ (s : ℕ). cipher_bytes other n (record h { sequence = s })) sequence
     ∙ ap (λ (s : SavedHandle). cipher_bytes other n (record h { sequence = k.sequence; saved = s })) one
 
--- if two texts have the same ciphertext with the same key and IV, the texts are equal
+-- if two plaintexts have the same ciphertext with the same key and IV, they are equal
 same_plain : (proof other : List ℕ) (m n : ℕ) (h k : ContextHead) (plain text : List ℕ) → cipher_bytes proof m h ≡ cipher_bytes other n k
     → encrypted proof m h plain ≡ encrypted other n k text → plain ≡ text
 same_plain proof other m n h k plain text bytes e =
@@ -132,7 +132,7 @@ same_making c d is js key text =
       object = same_object c.object d.object is.object js.object plain;
     }
 
--- The keys and the texts are equal, or their HMACs collide.
+-- The keys and the messages are equal, or their HMACs collide.
 abbrev Alike : (key text other_key other_text : List ℕ) → Type 0
 Alike key text other_key other_text =
     ((key ≡ other_key) × (text ≡ other_text)) ⊎ Collides key text other_key other_text

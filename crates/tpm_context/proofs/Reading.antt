@@ -1,5 +1,4 @@
--- Reading a context: every context that was made can be read, and bytes that can be read are such a
--- context.
+-- Reading a context: bytes can be read exactly if they are a context that can be made.
 use Rattle.std.proofs.Common.{◌≡◌, ℕ, ◌^◌, ◌<◌, ◌≤◌, Bool, List, [], ◌∷◌, ◌++◌, length, Result, Ok, Err, refl, sym, ap, subst, ◌∙◌, append-nil, length-append, arith}
 use Rattle.std.specs.Prelude.{◌==◌, not, IfOk}
 use Rattle.std.specs.Str.{bytes_eq}
@@ -78,7 +77,7 @@ none_left (byte ∷ bytes) e = absurd (omega arith)
 sized_read : (limit : ℕ) (bytes : List ℕ) (x : List ℕ × List ℕ) → sized_at limit bytes ≡ Ok x → or_fault (sized_at limit bytes) fault.Size ≡ Ok x
 sized_read limit bytes x e = ap (λ (r : Result (List ℕ × List ℕ) SizedFault). or_fault r fault.Size) e
 
--- if a contextBlob was read from a text, the text consists of this blob in a sized buffer
+-- if a contextBlob was decoded from bytes, the bytes consist of this blob in a sized buffer
 pub blob_found : (text blob : List ℕ) → AreBytes text → blob_in text ≡ Ok blob → (text ≡ sized_text blob) × (length blob ≤ blob_size) × AreBytes blob
 unfolding blob_in
 blob_found text blob fits e =
@@ -208,7 +207,7 @@ context_found h b bytes text blob integrity cipher head o fits first second thir
 
 -- ---- what the code finds
 
--- a text that equals a list of bytes is itself a list of bytes
+-- if the plaintext equals a list of bytes, all its elements are bytes
 pub if_plain : (r : Result Object ContextFault) (found plain : List ℕ) → AreBytes found → found ≡ plain → IfOk r (λ object. AreBytes plain)
 if_plain (Ok o) found plain are same = subst AreBytes same are
 if_plain (Err e) found plain are same = tt

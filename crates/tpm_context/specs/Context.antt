@@ -82,8 +82,8 @@ parts_in blob = do
   whole ← refused_if (not (length parts.0 == 32)) fault.Size
   Ok parts
 
--- the object that a decrypted text encodes. No bytes may follow the object, and its hierarchy and
--- its stClear must be those of the head
+-- the object that a plaintext encodes. No bytes may follow the object, and its hierarchy and its
+-- stClear must be those of the head
 unfoldable pub object_in : ContextHead → (plain : List ℕ) → Result Object ContextFault
 object_in head plain = do
   object ← or_fault (object_fields_in plain) fault.Integrity

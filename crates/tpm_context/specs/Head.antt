@@ -63,7 +63,7 @@ head_of sequence object = record {
   hierarchy = object.hierarchy;
 }
 
--- the text of a head: the sequence number, the savedHandle and the hierarchy
+-- the encoding of a head: the sequence number, the savedHandle and the hierarchy
 abbrev pub head_text : ContextHead → List ℕ
 head_text h =
     to_be_bytes w64 h.sequence ++ to_be_bytes w32 (saved_number h.saved)
@@ -76,7 +76,7 @@ saved_at text = do
   one ← ok_or (saved_named number.0) fault.SavedHandle
   Ok (one, number.1)
 
--- reads the handle of a hierarchy
+-- decodes the handle of a hierarchy
 unfoldable pub hierarchy_at : List ℕ → Result (HierarchyHandle × List ℕ) ContextFault
 hierarchy_at text = do
   number ← or_fault (number_at w32 text) fault.Truncated

@@ -30,8 +30,7 @@ pub record Making : Type 0 where
 abbrev pub context_of : Making → List ℕ
 context_of c = context_text c.hierarchies c.binding c.sequence c.object
 
--- the HMAC key for the integrity value of a context; below, the text that the integrity value
--- covers
+-- the HMAC key for the integrity value of a context; below, the message that it covers
 abbrev pub key_of : Making → List ℕ
 key_of c = proof_of c.hierarchies c.object.hierarchy
 
@@ -67,7 +66,7 @@ pub record AreSame (c d : Making) : Type 0 where
   pub sequence : c.sequence ≡ d.sequence
   pub object : c.object ≡ d.object
 
--- Two HMACs with SHA-256 are equal, although their keys or their texts differ.
+-- Two HMACs with SHA-256 are equal, although their keys or their messages differ.
 pub record Collides (key text other_key other_text : List ℕ) : Type 0 where
   pub differ : (key ≡ other_key) × (text ≡ other_text) → ⊥
   pub same : hmac_of Sha256 key text ≡ hmac_of Sha256 other_key other_text
@@ -79,7 +78,8 @@ abbrev pub OpensAgain : Type 0
 OpensAgain =
     (c : Making) → IsMaking c → opened c.hierarchies c.binding (context_of c) ≡ Ok c.object
 
--- Two contexts with the same integrity value are the same (`AreSame`), or the HMAC has a collision.
+-- Unless the HMAC has a collision, two contexts with the same integrity value have the same object,
+-- sequence number, proof, start number and counts (`AreSame`).
 abbrev pub IntegrityMeans : Type 0
 IntegrityMeans =
     (c d : Making) → IsMaking c → IsMaking d
@@ -95,7 +95,7 @@ made_with h b object c =
     record { hierarchies = h; binding = b; sequence = c.sequence; object = object }
 
 -- The integrity value of a context equals the one that a reader with these hierarchies and this
--- binding computes, although the key or the covered text differs.
+-- binding computes, although the key or the covered message differs.
 abbrev pub CollidesFor : Hierarchies → Binding → Making → Type 0
 CollidesFor h b c =
     Collides (key_of c) (covered_text c.binding c)

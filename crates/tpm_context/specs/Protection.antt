@@ -16,9 +16,9 @@ use Rattle.tpm_context.specs.declared.head.SavedHandle.TheVariants as saved
 abbrev pub context_label : List ℕ
 context_label = 0x43 ∷ 0x4f ∷ 0x4e ∷ 0x54 ∷ 0x45 ∷ 0x58 ∷ 0x54 ∷ []
 
--- KDFa's contextV: the savedHandle, then the start number of the layer. The standard has only the
--- savedHandle. This device adds the start number, because the layer counts contexts from 1 again at
--- each start
+-- KDFa's contextV: the savedHandle, then the start number of the completing layer. The standard has
+-- only the savedHandle. This device adds the start number, because the layer counts contexts from 1
+-- again at each start
 abbrev pub context_party : (start : ℕ) → ContextHead → List ℕ
 context_party start head =
     to_be_bytes w32 (saved_number head.saved) ++ to_be_bytes w64 start
@@ -37,7 +37,7 @@ cipher_key bytes = take 16 bytes
 abbrev pub cipher_iv : List ℕ → List ℕ
 cipher_iv bytes = drop 16 bytes
 
--- a text encrypted for a context; below, a text decrypted from a context
+-- a plaintext encrypted for a context; below, a ciphertext decrypted from a context
 abbrev pub encrypted : (proof : List ℕ) → (start : ℕ) → ContextHead → (plain : List ℕ) → List ℕ
 encrypted proof start head plain =
     let bytes : List ℕ = cipher_bytes proof start head in
@@ -56,19 +56,19 @@ restart_bound b saved.StClear = b.restart_count
 
 -- the fields that the integrity value covers before the encrypted object. Part 1, section 30.3,
 -- requires resetCount, restartCount for an object with stClear, sequence and savedHandle. This
--- device adds the start number of the layer, and a 0 as restartCount for an object without stClear,
--- so that two contexts with different fields have different texts
+-- device adds the start number of the completing layer, and a 0 as restartCount for an object
+-- without stClear, so that two contexts with different fields have different encodings
 abbrev pub bound_text : Binding → ContextHead → List ℕ
 bound_text b head =
     to_be_bytes w64 b.start ++ to_be_bytes w32 b.reset_count
     ++ to_be_bytes w32 (restart_bound b head.saved)
     ++ to_be_bytes w64 head.sequence ++ to_be_bytes w32 (saved_number head.saved)
 
--- the text that the integrity value covers
+-- the message that the integrity value covers
 abbrev pub protected_text : Binding → ContextHead → (cipher : List ℕ) → List ℕ
 protected_text b head cipher = bound_text b head ++ cipher
 
--- the integrity value: HMAC(SHA-256, the proof of the hierarchy, the covered text)
+-- the integrity value: HMAC(SHA-256, the proof of the hierarchy, the covered message)
 unfoldable pub integrity_of : (proof : List ℕ)
     → Binding → ContextHead → (cipher : List ℕ) → List ℕ
 integrity_of proof b head cipher = hmac_of Sha256 proof (protected_text b head cipher)

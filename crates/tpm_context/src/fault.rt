@@ -9,7 +9,7 @@ use tpm_types::{Rc, ResponseCode};
 /// faults are checked.
 #[derive(Clone, Copy, PartialEq, Eq)]
 pub enum ContextFault {
-    /// The bytes end before the context does: TPM_RC_INSUFFICIENT.
+    /// The context is truncated: TPM_RC_INSUFFICIENT.
     Truncated,
     /// The savedHandle is not that of an object: TPM_RC_HANDLE.
     SavedHandle,

@@ -125,7 +125,7 @@ impl ContextHead {
         })
     }
 
-    /// Returns the text of the head.
+    /// Returns the encoding of the head.
     pub(crate) fn text(self) -> Sink<HEAD_SIZE>
         ensures text { result ≡ head_text self }
         ensures size { length result ≡ HEAD_SIZE }

@@ -4,7 +4,7 @@ ghost use Rattle.tpm_context.specs.Meaning.{IntegrityMeans, OpensAgain, OpensOnl
 
 /// Opening a context returns the object from which it was made. Unless the HMAC has a collision,
 /// two contexts with the same integrity value have the same object and sequence number, and were
-/// made with the same proof, start number and counts. A proof only: it has no effect at run time.
+/// made with the same proof, start number and counts. The function does nothing at run time.
 #[inline(always)]
 #[tactic(auto, using(crate::proofs::ContextLaws::opens_again, crate::proofs::ContextLaws::integrity_means))]
 pub fn context_laws()
@@ -14,7 +14,7 @@ pub fn context_laws()
 
 /// Unless the HMAC has a collision, a context opens only with the proof, start number and counts
 /// with which it was made. Therefore, it opens with another start number or another resetCount only
-/// if the HMAC has a collision. A proof only: it has no effect at run time.
+/// if the HMAC has a collision. The function does nothing at run time.
 #[inline(always)]
 #[tactic(auto, using(crate::proofs::ContextLaws::opens_only_as_made, crate::proofs::ContextLaws::refuses_another_binding))]
 pub fn binding_laws()

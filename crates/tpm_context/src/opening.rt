@@ -60,7 +60,7 @@ fn parts_in<'a>(blob: &'a [u8]) -> Result<BlobParts<'a>, ContextFault>
     })
 }
 
-/// Returns the object in a decrypted text; the object must match the head.
+/// Returns the object that a plaintext encodes; the object must match the head.
 #[tactic(auto, unfolding(crate::specs::Context::object_in))]
 fn object_in(head: ContextHead, plain: &[u8]) -> Result<Object, ContextFault>
     ensures value { result ≡ object_in head plain.now }

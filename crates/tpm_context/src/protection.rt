@@ -45,7 +45,7 @@ fn context_party(start: u64, head: ContextHead) -> Sink<12>
 }
 
 /// Returns the cipher of the context with this head, derived from the proof of its hierarchy and
-/// from the start of the layer.
+/// from the layer's start number.
 #[tactic(auto, unfolding(crate::specs::Protection::cipher_bytes))]
 fn context_cipher(proof: &[u8; 32], start: u64, head: ContextHead) -> ContextCipher
     ensures key { result.cipher ≡ cipher_key (cipher_bytes proof.now start head) }
@@ -63,7 +63,7 @@ fn context_cipher(proof: &[u8; 32], start: u64, head: ContextHead) -> ContextCip
     cipher_from(&bytes)
 }
 
-/// Encrypts a text in place.
+/// Encrypts a plaintext in place.
 pub(crate) fn encrypt(proof: &[u8; 32], start: u64, head: ContextHead, text: &mut [u8])
     ensures { text.new ≡ encrypted proof.now start head text.old }
 {
@@ -71,7 +71,7 @@ pub(crate) fn encrypt(proof: &[u8; 32], start: u64, head: ContextHead, text: &mu
     by.cipher.cfb_encrypt(&by.iv, text);
 }
 
-/// Decrypts a text in place.
+/// Decrypts a ciphertext in place.
 pub(crate) fn decrypt(proof: &[u8; 32], start: u64, head: ContextHead, text: &mut [u8])
     ensures { text.new ≡ decrypted proof.now start head text.old }
 {

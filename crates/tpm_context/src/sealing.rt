@@ -15,7 +15,7 @@ use tpm_record::Hierarchies;
 use tpm_types::Octets;
 use tpm_types_object::Sensitive;
 
-/// The largest size of an object's text, in bytes. The constant after it is the largest size of a
+/// The largest size of an encoded object, in bytes. The constant after it is the largest size of a
 /// contextBlob.
 pub(crate) const OBJECT_SIZE: usize = 326;
 
@@ -24,7 +24,7 @@ pub(crate) const BLOB_SIZE: usize = 34 + OBJECT_SIZE;
 /// The largest size of an object's context, in bytes.
 pub const CONTEXT_SIZE: usize = HEAD_SIZE + 2 + BLOB_SIZE;
 
-/// Writes the text of an object, as in an image.
+/// Writes an object, encoded as in an image.
 #[tactic(auto, unfolding(tpm_image_text::specs::Body::object_fields_text))]
 fn write_object(object: &Object, text: &mut Sink<OBJECT_SIZE>)
     requires { text.old ≡ [] }
@@ -44,9 +44,9 @@ fn write_object(object: &Object, text: &mut Sink<OBJECT_SIZE>)
     text.append_sized(sensitive.text().as_slice());
 }
 
-/// Writes the context of an object. After one start of the layer, no two contexts may have the same
-/// sequence number, since they would be encrypted with the same key and IV. Contexts of different
-/// starts have different keys.
+/// Writes the context of an object. Contexts with the same start number must have different
+/// sequence numbers, since they would otherwise be encrypted with the same key and IV. Contexts
+/// with different start numbers have different keys.
 #[tactic(auto, unfolding(crate::specs::Context::context_text))]
 pub fn seal(
     hierarchies: &Hierarchies,

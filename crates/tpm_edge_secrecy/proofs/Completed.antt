@@ -133,7 +133,7 @@ module _ (indices : ℕ → Bool) (objects : Public → Bool) where
 
   -- ---- an event
 
-  -- an event that equals a command except for secrets is that command
+  -- an event that equals a command except in secrets is that command
   same_command : (buffer : List ℕ) (locality elapsed : ℕ) (random : List ℕ) (also : PlainEvent) → EventsAlike s (Given buffer locality elapsed random) also → Given buffer locality elapsed random ≡ also
   same_command buffer locality elapsed random (Given others from later bytes) same = same
   same_command buffer locality elapsed random Cycled same = absurd cc

@@ -147,8 +147,8 @@ same_reply saved a b same = record {
   after = ap (λ (x : Reply). x.after) same;
 }
 
--- the replies that a condition selects on both devices are alike, if those of the first branch are
--- alike and those of the second branch are equal
+-- if the first branches of a condition are alike on both devices, and the second branches are
+-- equal, the selected replies are alike
 then_alike : (b saved : Bool) (x y z w : Reply) → RepliesAlike saved x y → z ≡ w → RepliesAlike (b && saved) (if b then x else z) (if b then y else w)
 then_alike true saved x y z w chosen left = chosen
 then_alike false saved x y z w chosen left = same_reply false z w left
@@ -177,7 +177,8 @@ counted_elements permanent startup indices loaded active objects persistent coun
     ∷ element 0x20a counters
     ∷ []
 
--- Two devices differ only in secrets, and agree on which authorization values are empty.
+-- Context: two devices that differ only in secrets, and agree on which authorization values are
+-- empty.
 module _ (s : Secrecy) (one other : Record) (differ : DifferInSecrets s one other) (alike : SetAlike one other) where
   -- a function that does not depend on a device's secrets has the same value for both devices
   through : {X : Type 0} (f : Record → X) → ((r : Record) → f (without_secrets s r) ≡ f r) → f one ≡ f other

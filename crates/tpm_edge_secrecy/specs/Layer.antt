@@ -94,8 +94,8 @@ LayerSavesAlike =
     → saves_secret s one c buffer response ≡ saves_secret s other c buffer response
 
 -- If two devices differ only in secrets, the layer is asked to load the same context on both, and
--- the context contains the same object, or has the same fault. The proofs of the hierarchies do not
--- count as secrets.
+-- the context contains the same object, or has the same fault. Here, the proofs of the hierarchies
+-- are not secrets.
 abbrev pub LayerLoadsAlike : Type 0
 LayerLoadsAlike =
     (s : Secrecy) (one other : Record) (c : Completion) (buffer response context : List ℕ)
@@ -131,9 +131,9 @@ pub record CompletesAlike (s : Secrecy) (saved : Bool) (x y : Seen) : Type 0 whe
 
 -- If two devices differ only in secret data, and no allocation fails, an event that does not read
 -- these data reveals nothing about them, with or without the layer, even if it loads an object from
--- its context. The only exception is the context of an object that has secret data, which is the
--- response to TPM2_ContextSave. If the event places an object, the other device may place an object
--- that differs in secret data.
+-- its context. The only exception is the response to TPM2_ContextSave of an object that has secret
+-- data. If the event places an object, the other device may place an object that differs in secret
+-- data.
 abbrev pub CompletedTellsNothing : Type 0
 CompletedTellsNothing =
     (indices : ℕ → Bool) (objects : Public → Bool) (one other : Record) (completes : Bool)
@@ -174,8 +174,9 @@ CompletionsAlike s (e ∷ es) (f ∷ fs) =
 CompletionsAlike s [] (f ∷ fs) = ⊥
 CompletionsAlike s (e ∷ es) [] = ⊥
 
--- If two devices differ only in secret data, and have the same layer, they answer alike until an
--- event reads these data, except with contexts of objects that have secret data.
+-- If two devices differ only in secret data, and have the same layer, they return the same
+-- responses and rows until an event reads these data. Only contexts of objects with secret data may
+-- differ.
 abbrev pub CompletedRunTellsNothing : Type 0
 CompletedRunTellsNothing =
     (indices : ℕ → Bool) (objects : Public → Bool) (one other : Record) (c : Completion)

@@ -13,7 +13,8 @@ use Rattle.tpm_step.specs.History.{AcceptedCommand, Done, History, recorded}
 use Rattle.tpm_step.specs.Step.{Stepped}
 use Rattle.tpm_types_object.specs.declared.public.Public.{Public}
 
--- the history of the device in a journal's head, extended by what the journal's entries executed
+-- the history of the device in a journal's head, extended by the executions of the journal's
+-- entries
 abbrev pub journal_history : (text : List ℕ) (opened : Opened) (new : Record)
     → IsJournal text opened new → History → History
 journal_history text opened new is history =
@@ -21,8 +22,8 @@ journal_history text opened new is history =
     (run_of_all false is.reads.start.journal is.reads.start.device
     is.reads.replays.repeats.performances opened.journal new is.reads.replays.repeats.leads)
 
--- A text was opened as a journal, and the device in its head follows a history. (For an image, this
--- is the device after a power cycle.) After any executions on the opened device, the next execution
+-- A journal was opened, and the device in its head follows a history. (For an image, this is the
+-- device after a power cycle.) After any executions on the opened device, the next execution
 -- reveals nothing about sealed data, or is recorded as an accepted command that reads such data
 -- (`ReadsSealed`). Unless the hash is broken, a policy session of that command satisfied the
 -- object's policy, if the object has no userWithAuth and its authPolicy is the digest of a policy.

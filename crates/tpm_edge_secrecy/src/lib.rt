@@ -14,10 +14,10 @@ ghost use Rattle.tpm_edge_secrecy.specs.Layer.{LayerLoadsAlike, LayerSavesAlike}
 ghost use Rattle.tpm_edge_secrecy.specs.Opened.{OpenedDataNeedPolicy};
 
 /// The completing layer reveals which of ownerAuth, endorsementAuth and lockoutAuth are empty, and
-/// the contexts of objects that have secrets, which TPM2_ContextSave returns. It reveals nothing
-/// else that the device keeps secret. If two devices differ only in secrets, such as authorization
-/// values, and agree on which of these values are empty, the layer has the same answers and the
-/// same state on both; only contexts of objects that have secrets may differ. A loaded context
+/// the contexts of objects that have secrets, which TPM2_ContextSave returns. It reveals no other
+/// secret of the device. If two devices differ only in secrets, such as authorization values, and
+/// agree on which of these three authorization values are empty, the layer has the same answers and
+/// the same state on both; only contexts of objects that have secrets may differ. A loaded context
 /// contains the same object on both devices. Therefore, if two devices differ only in secret data,
 /// an event that does not read these data reveals nothing about them with the layer either, except
 /// the context of an object that has secrets. The same holds for a list of events, even after such
@@ -35,8 +35,8 @@ pub fn layer_laws()
 /// A device was opened from a journal. Each execution on it reveals nothing about data that objects
 /// seal, or is an accepted command that reads such data. Unless the hash is broken, that command
 /// satisfied the object's policy, if the object has no userWithAuth and its authPolicy is the
-/// digest of a policy. The history consists of the history of the device in the journal's head,
-/// what the journal's entries executed, and what was executed since.
+/// digest of a policy. The history consists of the history of the device in the journal's head, the
+/// executions of the journal's entries, and the executions since then.
 #[inline(always)]
 pub fn opened_laws()
     ensures { OpenedDataNeedPolicy }

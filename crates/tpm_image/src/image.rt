@@ -56,13 +56,13 @@ pub fn save_into<K: Keep>(machine: &Machine<K>, room: &mut [u8]) -> usize
 }
 
 /// Opens a device from its image in either version. The result is the saved device after a power
-/// cycle, or the first fault in the order of [`ImageFault`]; NoMemory is returned only if the
-/// text is an image.
+/// cycle, or the first fault in the order of [`ImageFault`]; NoMemory is returned only if the bytes
+/// are an image.
 pub fn open<K: Keep>(alloc: Global, text: &[u8]) -> Result<Machine<K>, ImageFault>
     // The result is the opened device, or the first fault.
     ensures exact { Opens (state_of K.record_of) (K.empty_can_refuse || K.can_refuse) text.now
         result }
-    // A text that can be opened is an image of the device in some version, within that version's
+    // Bytes that can be opened are an image of the device in some version, within that version's
     // limits.
     ensures found { IfOk result (λ machine. (version : Version) × (kept : NonVolatile)
         × IsNonVolatile kept × IsImage version kept text.now
@@ -101,9 +101,9 @@ fn open_device<K: Keep>(alloc: Global, text: &[u8]) -> Result<Machine<K>, ImageF
     }
 }
 
-/// Opens a device from its image, in either version, in a machine just manufactured with all-zero
-/// random bytes. The machine must never run out of memory. The device is the same as with [`open`],
-/// and is not moved. On error, the machine is unspecified.
+/// Opens a device from its image, in either version, in a machine just manufactured from all-zero
+/// random bytes. `K` must be a type that never runs out of memory. The device is the same as with
+/// [`open`], and is not moved. On error, the machine's state is unspecified.
 pub fn open_into<K: Keep>(machine: &mut Machine<K>, text: &[u8]) -> Result<(), ImageFault>
     requires new { state_of K.record_of machine.old ≡ manufactured (replicate 256 0) }
     requires never_refused { K.can_refuse ≡ false }

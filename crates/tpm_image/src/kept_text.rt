@@ -1,5 +1,5 @@
-//! The state that a device keeps without power, except for Clock, as a text. If anything except
-//! Clock has changed, the texts differ.
+//! The state that a device keeps without power, except for Clock, as bytes. If anything except
+//! Clock has changed, the bytes differ.
 
 ghost use Rattle.std.specs.Prelude.{◌≡◌, List, [], not, ℕ};
 ghost use Rattle.std.specs.Str.{bytes_eq};
@@ -13,7 +13,7 @@ use tpm_machine::Machine;
 use tpm_record::Keep;
 
 /// The state that a device keeps without power, except for Clock. In contracts, the value is its
-/// text.
+/// encoding.
 #[derive(Drop)]
 pub struct KeptText {
     text: Text,
@@ -26,15 +26,14 @@ impl Model for KeptText {
 }
 
 impl KeptText {
-    /// The empty text, which differs from the text of every device.
+    /// The empty encoding, which differs from that of every device.
     pub fn none() -> KeptText
         ensures { result ≡ [] }
     {
         KeptText { text: Text::new() }
     }
 
-    /// Replaces the text with the text of this device, and returns whether the new text differs
-    /// from the old one.
+    /// Replaces the stored encoding with that of this device, and returns whether the two differ.
     pub fn renew<K: Keep>(&mut self, machine: &Machine<K>) -> bool
         ensures text { self.new ≡ kept_text (state_of K.record_of machine.now) }
         ensures told { result ≡ not (bytes_eq self.old
@@ -48,8 +47,8 @@ impl KeptText {
     }
 }
 
-/// Writes the text of the state that a device keeps without power, except for Clock, to the
-/// beginning of a buffer, if it fits. Returns the size of the text in either case.
+/// Writes the encoding of the state that a device keeps without power, except for Clock, to the
+/// beginning of a buffer, if it fits. Returns the size of the encoding in either case.
 pub fn kept_into<K: Keep>(machine: &Machine<K>, room: &mut [u8]) -> usize
     ensures { PutsFront (kept_text (state_of K.record_of machine.now)) room.old result room.new }
 {

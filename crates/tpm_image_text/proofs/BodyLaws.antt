@@ -30,7 +30,8 @@ stored version kept is within = record { ascends = is.nv.ascends; few = within.f
 pub within_device : (kept : NonVolatile) → IsNonVolatile kept → IsWithin Two kept
 within_device kept is = record { few = is.nv.few; small = is.nv.small }
 
--- NV indices that an image of some version can store are valid contents of the device's NV memory
+-- if an image of some version can store these NV indices, they are valid contents of the device's
+-- NV memory
 indices_is : (version : Version) (kept : NonVolatile) → kept.state.max_count < 2 ^ 64 → AreStored version kept.indices → IsContents (nv_of kept)
 indices_is version kept count are = record { ascends = are.ascends; few = omega (arith, are.few, indices_within version); small = omega (arith, are.small, space_within version); indices = are.each; max_count = count }
 

@@ -88,7 +88,7 @@ made_of {A} {B} {E} {text} {Is} {at} made given {Are} to from law = record {
 -- ---- decoding a whole text
 
 module _ {A : Type 0} {text : A → List ℕ} {Is : A → Type 0} {at : List ℕ → Result (A × List ℕ) Malformed} (law : Spelled text Is at) where
-  -- if no bytes of a text are left over, the decoder consumed the whole text
+  -- if no bytes are left over, the decoder consumed all of the bytes
   all_taken : (bytes front left : List ℕ) → bytes ≡ front ++ left → (length left == 0) ≡ true → bytes ≡ front
   all_taken bytes front [] parts none = parts ∙ append-nil front
   all_taken bytes front (byte ∷ left) parts none = absurd (omega (arith, eqb-true _ _ none))

@@ -1,5 +1,5 @@
--- The frame of a text: decoding returns a body exactly if the text is that body in its frame. A
--- truncated text is refused.
+-- Frames: decoding returns a body exactly if the bytes are that body in its frame. Truncated bytes
+-- are refused.
 use Rattle.std.proofs.Common.{◌≡◌, ℕ, ◌+◌, ◌-◌, ◌^◌, ◌<◌, ◌≤◌, Bool, true, false, Option, Some, None, List, ◌++◌, length, take, drop, Result, Ok, Err, refl, sym, ap, subst, ◌∙◌, append_assoc, arith, length-append}
 use Rattle.std.specs.Prelude.{◌==◌, nat_lt, not, ok_or}
 use Rattle.std.specs.Int.{w16, w32, to_be_bytes}
@@ -18,7 +18,7 @@ use Rattle.tpm_types.proofs.Spelled.{rest_fits}
 use Rattle.tpm_image_text.specs.Frame.{Format, before_digest, digest_bytes, digest_of, digested_text, framed_in, head_bytes, head_in, image_format, length_of, number_of, within_frame, word_of}
 use Rattle.tpm_image_text.proofs.VersionLaws.{number_small, numbered-again, numbered-is}
 
--- A number names a version of a format exactly if it is the number of that version.
+-- A number decodes to a version of a format exactly if it is the number of that version.
 pub record AreNumbered {V E : Type 0} (format : Format V E) : Type 0 where
   pub is : (n : ℕ) (version : V) → format.numbered n ≡ Some version → n ≡ format.number version
   pub again : (version : V) → format.numbered (format.number version) ≡ Some version
@@ -30,7 +30,7 @@ image_numbered = record { is = numbered-is; again = numbered-again; small = numb
 abbrev whole_of : List ℕ → ℕ
 whole_of body = head_bytes + length body + digest_bytes
 
--- the part of a text between the head and the digest
+-- the part of the bytes between the head and the digest
 abbrev inner : List ℕ → List ℕ
 inner text = drop head_bytes (before_digest text)
 
@@ -146,7 +146,7 @@ module _ {V E : Type 0} (format : Format V E) where
         let parts : text ≡ digested_text before = sym (take-append-drop place text) ∙ ap (λ (l : List ℕ). before ++ l) (sym is.1.digest) in
         subst (λ (s : V × List ℕ). (text ≡ framed_in format s.0 s.1) × AreBytes s.1) is.2 (parts ∙ ap digested_text front, fits_behind before (AreBytes-take place text fits) head_bytes)
 
-    -- the size of a truncated text differs from the size in its head
+    -- the size of truncated bytes differs from the size in their head
     other_length : (version : V) (whole : ℕ) (rest : List ℕ) → whole < 2 ^ 32 → (let text = head_in format version whole ++ rest in head_bytes + digest_bytes ≤ length text → length text < whole → within_frame format text ≡ Err format.whole)
     unfolding within_frame
     other_length version whole rest small long less =

@@ -1,5 +1,5 @@
--- Images: decoding returns a non-volatile state exactly if the text is its image. No proper prefix
--- of an image is an image.
+-- Images: decoding returns a non-volatile state exactly if the bytes are its image. No proper
+-- prefix of an image is an image.
 use Rattle.std.proofs.Common.{◌≡◌, ℕ, ◌+◌, ◌<◌, ◌≤◌, List, length, take, Result, Ok, Err, refl, ap, ◌∙◌, arith}
 use Rattle.std.specs.Prelude.{◌↔◌}
 use Rattle.std.proofs.lemmas.List.{length-take}

@@ -32,7 +32,7 @@ no_space contents size few full =
     rest true is none = none
     rest false is none = absurd cc
 
--- if there is no space for the next index, the text is malformed
+-- if there is no space for the next index, the bytes are malformed
 pub entries_full : (limit : ℕ) (at : List ℕ → Result ((ℕ × NvIndex) × List ℕ) Malformed) (count place low : ℕ) (so_far : Entries NvIndex) (text : List ℕ) → place < count → IfOk (at text) (λ x. limit < bytes_of so_far + x.0.1.public.data_size) → (entries_left at count place low so_far text >>= with_space limit) ≡ Err malformed
 unfolding entries_left entries_from
 entries_full limit at count place low so_far text below full = rw left (by (at text) full)

@@ -1,4 +1,4 @@
--- Lemmas about opening an image: how the frame and the body of the text determine the result.
+-- Lemmas about opening an image: how the frame and the body of the bytes determine the result.
 use Rattle.std.proofs.Common.{◌≡◌, ℕ, Bool, true, false, List, length, Option, Some, None, Result, Ok, Err, refl}
 use Rattle.std.specs.Prelude.{◌==◌, is_ok, nat_lt, not, ok_or, take}
 use Rattle.std.specs.Str.{bytes_eq}
@@ -36,7 +36,7 @@ module _ {M : Type 0} (record_of : M → Record) (can : Bool) where
   unframed text fault.NoMemory is = absurd (frame_fits text is)
   unframed text f is = rw is refl
 
--- if the body of a framed text encodes a state, the text is an image
+-- if the body in a frame encodes a state, the framed bytes are an image
 pub is_image : (text : List ℕ) (version : Version) (body : List ℕ) → framed_body text ≡ Ok (version, body) → is_ok (body_of version body) ≡ true → (kept : NonVolatile) × (image_of text ≡ Ok kept)
 is_image text version body framed ok = rw framed (by (body_of version body) ok)
   where

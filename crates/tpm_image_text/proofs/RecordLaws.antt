@@ -58,7 +58,7 @@ kept_alike r s is are same =
         body_again Two (kept_but_clock r) kept (within_device (kept_but_clock r) kept)
 
 module _ {M : Type 0} (record_of : M → Record) (can : Bool) (text : List ℕ) where
-  -- a text that opens is an image of the opened device's non-volatile state
+  -- bytes that can be opened are an image of the opened device's non-volatile state
   pub opened_found : (result : Result M ImageFault) → AreBytes text → Opens record_of can text result → IfOk result (λ machine. (version : Version) × (kept : NonVolatile) × IsNonVolatile kept × IsImage version kept text × (record_of machine ≡ powered_on kept))
   opened_found (Ok machine) fits opens =
       let t = image_taken text opens.0 fits opens.1 in

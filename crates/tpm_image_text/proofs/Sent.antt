@@ -1,4 +1,4 @@
--- If a text is appended in two parts, and either of them is cut off, a prefix of the whole text is
+-- If bytes are appended in two parts, and either of them is cut off, a prefix of the bytes is
 -- appended.
 use Rattle.std.proofs.Common.{ℕ, List, ◌++◌, Option, Some, None, ap, ◌∙◌, append_assoc, sym}
 use Rattle.std.specs.Io.KnownBytes.{Appends}

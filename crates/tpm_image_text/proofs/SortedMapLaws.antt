@@ -1,4 +1,4 @@
--- Entries in an image: what follows if their keys ascend, and the properties of each entry.
+-- Lemmas about entries whose keys ascend, and about properties of each entry.
 use Rattle.std.proofs.Common.{◌≡◌, ℕ, ◌+◌, ◌<◌, Bool, true, false, [], ◌∷◌, refl, arith}
 use Rattle.std.specs.Prelude.{◌&&◌, nat_le}
 use Rattle.std.specs.List.{AllByRecursion}
@@ -14,7 +14,8 @@ pub both : (a b : Bool) → a ≡ true → b ≡ true → (a && b) ≡ true
 both a b first second = rw (first, second) refl
 
 module _ {X : Type 0} where
-  -- if keys ascend and the first is at least a bound above this key, all of them are above this key
+  -- if keys ascend, and the first is at least a bound that is above this key, all keys are above
+  -- this key
   all_above : (key low : ℕ) (es : Entries X) → key < low → ascend_from low es ≡ true → AllAbove key es
   all_above key low [] less ascend = tt
   all_above key low (e ∷ es) less ascend =

@@ -83,7 +83,7 @@ kind_number Nothing = 0
 kind_number Clear = 1
 kind_number (State values) = 2
 
--- the text of a saved state after the byte for its kind
+-- the encoding of a saved state after the byte for its kind
 behind_kind : SavedState → List ℕ
 behind_kind Nothing = []
 behind_kind Clear = []

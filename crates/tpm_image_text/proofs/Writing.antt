@@ -1,5 +1,5 @@
--- Lemmas about writing elements one after another. At each point, the text so far, followed by the
--- encodings of the elements that remain, is the whole text.
+-- Lemmas about writing elements one after another. At each point, the bytes written so far,
+-- followed by the encodings of the remaining elements, are the final output.
 use Rattle.tpm_image_text.specs.Sizes.{text_size}
 use Rattle.std.proofs.Math.Nat.{mul-le-mul_left}
 use Rattle.std.proofs.Common.{arith, ◌*◌, ◌^◌, ◌≤◌, ◌≡◌, ℕ, ◌+◌, ◌<◌, List, ◌++◌, length, drop, get_or, sym, ap, ◌∙◌, append_assoc, refl}
@@ -7,7 +7,7 @@ use Rattle.std.specs.List.{flat_map}
 use Rattle.std.proofs.lemmas.List.{drop_more}
 use Rattle.std.proofs.lemmas.List.Concat.{flat_map-cons}
 
--- writing one more element does not change the resulting whole text
+-- writing one more element does not change the final output
 pub written_more : {X : Type 0} (text_of : X → List ℕ) (text new whole : List ℕ) (xs : List X) (i : ℕ) (d : X) → i < length xs → new ≡ text ++ text_of (get_or xs i d) → text ++ flat_map text_of (drop i xs) ≡ whole → new ++ flat_map text_of (drop (i + 1) xs) ≡ whole
 written_more text_of text new whole xs i d below more so_far =
     let x = get_or xs i d in
@@ -18,7 +18,7 @@ written_more text_of text new whole xs i d below more so_far =
     ∙ ap (λ (l : List _). text ++ flat_map text_of l) (sym (drop_more xs i d below))
     ∙ so_far
 
--- writing five texts one after another writes their concatenation
+-- writing five encodings one after another writes their concatenation
 pub five_written : (t a b c d e p q r s u : List ℕ) → a ≡ t ++ p → b ≡ a ++ q → c ≡ b ++ r → d ≡ c ++ s → e ≡ d ++ u → e ≡ t ++ (p ++ (q ++ (r ++ (s ++ u))))
 five_written t a b c d e p q r s u first second third fourth fifth = rw (fifth, fourth, third, second, first) (simp append_assoc refl)
 

@@ -42,7 +42,7 @@ use Rattle.tpm_image_text.specs.declared.version.Version.TheVariants.{One, Two}
 
 -- ---- the limits
 
--- the text of the limits: nothing in version 1; in version 2, the largest number of NV indices
+-- the encoding of the limits: nothing in version 1; in version 2, the largest number of NV indices
 -- and the largest size of their data
 unfoldable pub limits_text : Version → List ℕ
 limits_text One = []
@@ -63,7 +63,7 @@ limits_in Two text = do
 
 -- ---- the hierarchies
 
--- the text of a seed and a proof, of 32 bytes each
+-- the encoding of a seed and a proof, of 32 bytes each
 abbrev pub secrets_text : Secrets → List ℕ
 secrets_text s = s.seed ++ s.proof
 
@@ -73,7 +73,7 @@ secrets_in text = do
   proof ← bytes_in 32 seed.1
   Ok (record { seed = seed.0; proof = proof.0 }, proof.1)
 
--- the text of a hierarchy: its authorization value, its seed and its proof
+-- the encoding of a hierarchy: its authorization value, its seed and its proof
 abbrev pub hierarchy_text : Hierarchy → List ℕ
 hierarchy_text h = sized_text h.auth_value ++ secrets_text h.secrets
 
@@ -83,8 +83,8 @@ hierarchy_in text = do
   secrets ← secrets_in auth_value.1
   Ok (record { auth_value = auth_value.0; secrets = secrets.0 }, secrets.1)
 
--- the text of all hierarchies: the owner, endorsement, platform and null hierarchies, followed by
--- lockoutAuth; the authorization value of the null hierarchy is empty
+-- the encoding of all hierarchies: the owner, endorsement, platform and null hierarchies, followed
+-- by lockoutAuth; the authorization value of the null hierarchy is empty
 unfoldable pub hierarchies_text : Hierarchies → List ℕ
 hierarchies_text h =
     hierarchy_text h.owner ++ hierarchy_text h.endorsement ++ hierarchy_text h.platform
@@ -111,8 +111,8 @@ hierarchies_in text = do
 
 -- ---- lockout
 
--- the text of lockout: failedTries, maxTries, recoveryTime, lockoutRecovery, and whether
--- lockoutAuth is disabled
+-- the encoding of the lockout state: failedTries, maxTries, recoveryTime, lockoutRecovery, and
+-- whether lockoutAuth is disabled
 unfoldable pub lockout_text : LockoutFields → List ℕ
 lockout_text l =
     to_be_bytes w32 l.failed_tries ++ to_be_bytes w32 l.max_tries
@@ -139,12 +139,12 @@ lockout_in text = do
 
 -- ---- the state that a TPM2_Shutdown saved
 
--- the text of PCRs 0 to 15: their values in the SHA-1 bank, then those in the SHA-256 bank
+-- the encoding of PCRs 0 to 15: their values in the SHA-1 bank, then those in the SHA-256 bank
 abbrev pub values_text : SavedValues → List ℕ
 values_text values =
     flat_map (λ value. value) values.sha1 ++ flat_map (λ value. value) values.sha256
 
--- reads the values of sixteen PCRs, each with the given size
+-- decodes the values of sixteen PCRs, each with the given size
 unfoldable pub bank_in : ℕ → List ℕ → Result (List (List ℕ) × List ℕ) Malformed
 bank_in size text = many_at (bytes_in size) 16 text
 
@@ -154,8 +154,8 @@ values_in text = do
   sha256 ← bank_in 32 sha1.1
   Ok (record { sha1 = sha1.0; sha256 = sha256.0 }, sha256.1)
 
--- the text of the state that a TPM2_Shutdown saved: one byte, which is 0 for nothing, 1 for CLEAR
--- and 2 for STATE; a 2 is followed by the values that STATE saves
+-- the encoding of the state that a TPM2_Shutdown saved: one byte, which is 0 for nothing, 1 for
+-- CLEAR and 2 for STATE; a 2 is followed by the values that STATE saves
 unfoldable pub saved_text : SavedState → List ℕ
 saved_text Nothing = to_be_bytes w8 0
 saved_text Clear = to_be_bytes w8 1
@@ -166,7 +166,7 @@ saved_values_in text = do
   values ← values_in text
   Ok (State values.0, values.1)
 
--- reads the saved state, after the byte for its kind
+-- decodes the saved state, after the byte for its kind
 abbrev pub saved_by_kind : ℕ → List ℕ → Result (SavedState × List ℕ) Malformed
 saved_by_kind kind text =
     if kind == 0 then Ok (Nothing, text)
@@ -189,7 +189,7 @@ sensitive_of o = record {
   sensitive = o.sensitive;
 }
 
--- the text of an object: its hierarchy; then its qualified Name, its public area and its
+-- the encoding of an object: its hierarchy; then its qualified Name, its public area and its
 -- sensitive area, each in a sized buffer
 unfoldable pub object_fields_text : Object → List ℕ
 object_fields_text o =
@@ -197,18 +197,18 @@ object_fields_text o =
     ++ sized_text o.qualified_name
     ++ sized_text (public_text o.public) ++ sized_text (sensitive_text (sensitive_of o))
 
--- the text of a persistent object: its handle, followed by the object
+-- the encoding of a persistent object: its handle, followed by the object
 unfoldable pub object_text : ℕ × Object → List ℕ
 object_text e = to_be_bytes w32 e.0 ++ object_fields_text e.1
 
--- reads the handle of a persistent object
+-- decodes the handle of a persistent object
 unfoldable pub handle_in : List ℕ → Result (Handle × List ℕ) Malformed
 handle_in text = do
   number ← number_in w32 text
   named ← refused_if (not (is_persistent (numbered number.0))) malformed
   Ok (numbered number.0, number.1)
 
--- reads the hierarchy of an object
+-- decodes the hierarchy of an object
 unfoldable pub object_hierarchy_in : List ℕ → Result (HierarchyHandle × List ℕ) Malformed
 object_hierarchy_in text = do
   number ← number_in w32 text
@@ -258,8 +258,8 @@ abbrev pub ascend_from : {X : Type 0} → ℕ → Entries X → Bool
 ascend_from low [] = true
 ascend_from low (e ∷ es) = nat_le low e.0 && ascend_from (e.0 + 1) es
 
--- the text of the persistent objects, in ascending order of handle; only reading checks the limit
--- on their number
+-- the encoding of the persistent objects, in ascending order of handle; only reading checks the
+-- limit on their number
 unfoldable pub objects_text : Entries Object → List ℕ
 objects_text objects = counted_text object_text objects
 
@@ -268,14 +268,14 @@ objects_in text = passing (ascend_from 0) (counted_in persistent_limit object_in
 
 -- ---- NV indices
 
--- the text of an NV index: its public area (which contains the handle), its authorization value
+-- the encoding of an NV index: its public area (which contains the handle), its authorization value
 -- and its data, each in a sized buffer
 unfoldable pub index_text : ℕ × NvIndex → List ℕ
 index_text e =
     sized_text (nv_public_text e.1.public) ++ sized_text e.1.auth_value ++ sized_text e.1.bytes
 
--- the size of an NV index's data: the size in its public area if the index is written, otherwise
--- 0
+-- the size of an NV index's data: the size in its public area if the index has WRITTEN set,
+-- otherwise 0
 abbrev pub data_size : NvPublic → ℕ
 data_size p = if has p.attributes attribute.Written then p.data_size else 0
 
@@ -300,14 +300,15 @@ index_in text = do
   index ← passing is_index fields_of_index_in text
   Ok ((index.0.public.nv_index.number, index.0), index.1)
 
--- the total data size of these NV indices, written or not; below, whether it is within a limit
+-- the total data size of these NV indices, with or without WRITTEN; below, whether it is within a
+-- limit
 abbrev pub bytes_of : Entries NvIndex → ℕ
 bytes_of indices = sum_by (λ e. e.1.public.data_size) indices
 
 abbrev pub have_space : (limit : ℕ) → Entries NvIndex → Bool
 have_space limit indices = nat_le (bytes_of indices) limit
 
--- the text of the NV indices, in ascending order of handle; only reading checks the version's
+-- the encoding of the NV indices, in ascending order of handle; only reading checks the version's
 -- limits on their number and their data
 unfoldable pub indices_text : Entries NvIndex → List ℕ
 indices_text indices = counted_text index_text indices
@@ -319,9 +320,9 @@ indices_in version text =
 
 -- ---- the whole body
 
--- the text of the fixed part: the hierarchies, whether TPM2_Clear is refused, lockout, Clock, the
--- counts of TPM Resets and TPM Restarts, the largest value that a counter ever had, and the saved
--- state
+-- the encoding of the fixed part: the hierarchies, whether TPM2_Clear is refused, lockout, Clock,
+-- the counts of TPM Resets and TPM Restarts, the largest value that an NV counter ever had, and the
+-- saved state
 unfoldable pub state_text : KeptState → List ℕ
 state_text s =
     hierarchies_text s.hierarchies ++ yes_no_text s.disable_clear ++ lockout_text s.lockout
@@ -354,7 +355,7 @@ state_in text = do
     saved.1,
   )
 
--- the text of a body: the limits, the fixed part, the persistent objects and the NV indices
+-- the encoding of a body: the limits, the fixed part, the persistent objects and the NV indices
 unfoldable pub image_body_text : Version → NonVolatile → List ℕ
 image_body_text version kept =
     limits_text version ++ state_text kept.state ++ objects_text kept.persistent
@@ -371,6 +372,6 @@ kept_in version text = do
     indices.1,
   )
 
--- the non-volatile state in a body, which must take up all of the bytes
+-- the non-volatile state that a body encodes; bytes after it are malformed
 unfoldable pub body_of : Version → List ℕ → Result NonVolatile Malformed
 body_of version text = filling (kept_in version) text

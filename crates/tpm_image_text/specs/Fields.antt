@@ -1,5 +1,5 @@
 -- The fields of an image: how each is encoded and decoded. A field that is truncated, or contains a
--- value that is not allowed, is malformed, whatever fault other readers return for the same field.
+-- value that is not allowed, is malformed, whatever fault other decoders return for the same field.
 use Rattle.std.specs.Prelude.{ℕ, ◌==◌, nat_lt, not, Bool, true, false, List, ◌++◌, length, Result, Ok}
 use Rattle.std.specs.Int.{Width, w8, w16, to_be_bytes}
 use Rattle.std.specs.List.{flat_map}
@@ -14,13 +14,13 @@ use Rattle.tpm_image_text.specs.declared.fault.Malformed.{Malformed}
 abbrev pub malformed : Malformed
 malformed = record {}
 
--- reads a field, and turns every fault into `malformed`
+-- decodes a field, and turns every fault into `malformed`
 abbrev pub in_body : {X E : Type 0}
     → (List ℕ → Result (X × List ℕ) E)
     → List ℕ → Result (X × List ℕ) Malformed
 in_body at text = or_fault (at text) malformed
 
--- reads a value that must pass a test
+-- decodes a value that must pass a test
 abbrev pub passing : {X : Type 0}
     → (X → Bool)
     → (List ℕ → Result (X × List ℕ) Malformed)
@@ -30,7 +30,7 @@ passing test at text = do
   passed ← refused_if (not (test x.0)) malformed
   Ok x
 
--- reads a value that must take up the whole text
+-- decodes a value that must take up all of the bytes
 abbrev pub filling : {X : Type 0}
     → (List ℕ → Result (X × List ℕ) Malformed)
     → List ℕ → Result X Malformed
@@ -59,11 +59,11 @@ yes_no_in text = in_body yes_no_at text
 abbrev pub bytes_in : ℕ → List ℕ → Result (List ℕ × List ℕ) Malformed
 bytes_in count text = in_body (bytes_at count) text
 
--- reads a sized buffer of at most the given size
+-- decodes a sized buffer of at most the given size
 abbrev pub buffer_in : ℕ → List ℕ → Result (List ℕ × List ℕ) Malformed
 buffer_in limit text = in_body (buffer_at limit) text
 
--- whether a value does not end with a zero byte; `auth_value_in` reads an authorization value: a
+-- whether a value does not end with a zero byte; `auth_value_in` decodes an authorization value: a
 -- sized buffer of at most 32 bytes, without a zero byte at its end
 abbrev pub is_trimmed : List ℕ → Bool
 is_trimmed value = bytes_eq (trimmed value) value
@@ -73,11 +73,11 @@ auth_value_in text = passing is_trimmed (buffer_in 32) text
 
 -- ---- lists
 
--- the text of a list: the number of its elements, followed by each element
+-- the encoding of a list: the number of its elements, followed by each element
 abbrev pub counted_text : {X : Type 0} → (X → List ℕ) → List X → List ℕ
 counted_text text_of things = to_be_bytes w16 (length things) ++ flat_map text_of things
 
--- reads a list of at most the given number of elements
+-- decodes a list of at most the given number of elements
 abbrev pub counted_in : {X : Type 0}
     → (most : ℕ)
     → (List ℕ → Result (X × List ℕ) Malformed)

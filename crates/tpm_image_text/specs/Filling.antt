@@ -1,4 +1,4 @@
--- The results of calls that read the state of a device from a text, and the state after them.
+-- The results of calls that decode the state of a device, and the state after them.
 use Rattle.std.specs.Prelude.{◌≡◌, ℕ, ◌+◌, ◌<◌, ◌≤◌, Bool, true, List, [], ◌∷◌, ◌++◌, Result, Ok, Err, IfOk}
 use Rattle.tpm_containers.specs.SortedMap.{Entries}
 use Rattle.tpm_lockout.specs.Lockout.{restored}
@@ -10,8 +10,8 @@ use Rattle.tpm_image_text.specs.declared.fault.FillFault.{FillFault}
 use Rattle.tpm_image_text.specs.declared.fault.FillFault.TheVariants as unfilled
 use Rattle.tpm_image_text.specs.declared.fault.Malformed.{Malformed}
 
--- The value was read from the text; or the text is malformed; or an allocation failed, in which
--- case the text may be anything.
+-- On success, the value was decoded from the bytes. On error, the bytes are malformed, or an
+-- allocation failed (NoMemory), whatever the bytes are.
 abbrev pub Fills : {X : Type 0}
     → Bool → Result (X × List ℕ) Malformed → X
     → Result (Unit {0}) FillFault → List ℕ → Type 0
@@ -24,9 +24,9 @@ abbrev pub AllBelow : {X : Type 0} → ℕ → Entries X → Type 0
 AllBelow key [] = Unit {0}
 AllBelow key (e ∷ es) = (e.0 < key) × AllBelow key es
 
--- One entry was read and appended to the others: its key is at least `lowest`, and the next key
--- must be above it. Or the entry is malformed, or it does not fit, as `Misfits` defines. Or an
--- allocation failed.
+-- On success, one entry was read and appended to the others: its key is at least `lowest`, and the
+-- next key must be above it. On error, the entry is malformed or does not fit (`Misfits`), or an
+-- allocation failed (NoMemory).
 abbrev pub Appends : {X : Type 0}
     → Bool → Result ((ℕ × X) × List ℕ) Malformed → (lowest : ℕ) → (ℕ × X → Type 0)
     → (old : Entries X) → Result ℕ FillFault → (new : Entries X) → List ℕ → Type 0
@@ -49,8 +49,8 @@ with_state fixed state = record fixed {
   restart_count = state.restart_count;
 }
 
--- The non-volatile state was restored to the fixed part of a record, and the result is the largest
--- value that a counter ever had; or the text is malformed.
+-- On success, the non-volatile state was restored to the fixed part of a record, and the result is
+-- the largest value that an NV counter ever had. On error, the bytes are malformed.
 abbrev pub Restores : Result (KeptState × List ℕ) Malformed
     → Fixed → Result ℕ Malformed → Fixed → List ℕ → Type 0
 Restores read old (Ok max_count) new rest =
@@ -58,17 +58,18 @@ Restores read old (Ok max_count) new rest =
     × (max_count ≡ state.max_count)
 Restores read old (Err fault) new rest = read ≡ Err fault
 
--- The record became that of a device that was powered on with the non-volatile state in the text;
--- or the text is malformed; or an allocation failed, in which case the text may be anything.
+-- On success, the record is that of a device that was powered on with the encoded non-volatile
+-- state. On error, the bytes are malformed, or an allocation failed (NoMemory), whatever the bytes
+-- are.
 abbrev pub PowersOn : Bool → Result NonVolatile Malformed → Result (Unit {0}) FillFault
     → Record → Type 0
 PowersOn can read (Ok done) new = (kept : NonVolatile) × (read ≡ Ok kept) × (new ≡ powered_on kept)
 PowersOn can read (Err unfilled.Malformed) new = read ≡ Err malformed
 PowersOn can read (Err unfilled.NoMemory) new = can ≡ true
 
--- The record became that of a device that was powered on with the non-volatile state at the
--- beginning of the text, and `rest` remains to be read; or the text is malformed; or an allocation
--- failed, in which case the text may be anything.
+-- On success, the record is that of a device that was powered on with the non-volatile state at the
+-- beginning of the bytes, and `rest` remains to be read. On error, the bytes are malformed, or an
+-- allocation failed (NoMemory), whatever the bytes are.
 abbrev pub PowersOnFrom : Bool → Result (NonVolatile × List ℕ) Malformed
     → Result (Unit {0}) FillFault → Record → (rest : List ℕ) → Type 0
 PowersOnFrom can read (Ok done) new rest =
@@ -76,8 +77,8 @@ PowersOnFrom can read (Ok done) new rest =
 PowersOnFrom can read (Err unfilled.Malformed) new rest = read ≡ Err malformed
 PowersOnFrom can read (Err unfilled.NoMemory) new rest = can ≡ true
 
--- The result is the state of a device that was powered on with the non-volatile state in the text;
--- or the text is malformed; or an allocation failed.
+-- On success, the result is the state of a device that was powered on with the encoded non-volatile
+-- state. On error, the bytes are malformed, or an allocation failed (NoMemory).
 abbrev pub Filled : {K : Type 0} → (K → Record) → Bool → Result NonVolatile Malformed
     → Result K FillFault → Type 0
 Filled record_of can read (Ok keep) =

@@ -1,5 +1,5 @@
--- The frame of an image, and of any text that encodes a device: a head before the body, and a
--- digest after both. The formats are specific to this device.
+-- The frame of an image, and of a state text: a head before the body, and a digest after both. The
+-- formats are specific to this device.
 use Rattle.std.specs.Prelude.{ℕ, ◌+◌, ◌-◌, ◌==◌, nat_lt, not, List, [], ◌∷◌, ◌++◌, length, take, drop}
 use Rattle.std.specs.Prelude.{ok_or, Option, Result, Ok}
 use Rattle.std.specs.Int.{w16, w32, from_be_bytes, to_be_bytes}
@@ -12,8 +12,8 @@ use Rattle.tpm_image_text.specs.declared.fault.ImageFault.{ImageFault}
 use Rattle.tpm_image_text.specs.declared.fault.ImageFault.TheVariants as fault
 use Rattle.tpm_image_text.specs.declared.version.Version.{Version}
 
--- a format of framed texts: the last letter of its magic word, the numbers of its versions, and
--- its faults in the order of the checks; `whole` is the fault of a wrong length
+-- a format of framed bytes: the last letter of its magic word, the numbers of its versions, and its
+-- faults in the order of the checks; `whole` is the fault of a wrong length
 pub record Format (V E : Type 0) : Type 0 where
   pub letter : ℕ
   pub number : V → ℕ
@@ -24,11 +24,11 @@ pub record Format (V E : Type 0) : Type 0 where
   pub whole : E
   pub digest : E
 
--- the magic word at the beginning of a framed text: TPM and the letter of the format
+-- the magic word at the beginning of a frame: TPM and the letter of the format
 abbrev pub word_of : ℕ → List ℕ
 word_of letter = 0x54 ∷ 0x50 ∷ 0x4d ∷ letter ∷ []
 
--- the head of a text: the magic word, the number of the version, and the size of the whole text
+-- the head of a frame: the magic word, the number of the version, and the size of the whole frame
 abbrev pub head_in : {V E : Type 0} → Format V E → V → (whole : ℕ) → List ℕ
 head_in format version whole =
     word_of format.letter
@@ -40,7 +40,7 @@ head_bytes = 10
 abbrev pub digest_bytes : ℕ
 digest_bytes = 32
 
--- a text followed by its digest
+-- bytes followed by their digest
 abbrev pub digested_text : List ℕ → List ℕ
 digested_text text = text ++ hash_of Sha256 text
 
@@ -51,21 +51,21 @@ framed_in format version body =
 
 -- ---- the parts of a framed text, by their offsets
 
--- the version's number in the head of a text
+-- the version's number in the head of a frame
 abbrev pub number_of : List ℕ → ℕ
 number_of text = from_be_bytes w16 (take 2 (drop 4 text))
 
 abbrev pub length_of : List ℕ → ℕ
 length_of text = from_be_bytes w32 (take 4 (drop 6 text))
 
--- the part of a text before the digest; below, the digest
+-- the part of a frame before the digest; below, the digest
 abbrev pub before_digest : List ℕ → List ℕ
 before_digest text = take (length text - digest_bytes) text
 
 abbrev pub digest_of : List ℕ → List ℕ
 digest_of text = drop (length text - digest_bytes) text
 
--- the version and the body of a framed text, or the first fault of the frame
+-- the version and the body in a frame, or the first fault of the frame
 unfoldable pub within_frame : {V E : Type 0} → Format V E → List ℕ → Result (V × List ℕ) E
 within_frame format text = do
   long ← refused_if (nat_lt (length text) (head_bytes + digest_bytes)) format.short

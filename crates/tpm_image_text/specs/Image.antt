@@ -20,12 +20,12 @@ pub record IsWithin (version : Version) (kept : NonVolatile) : Type 0 where
   pub few : length kept.indices ≤ index_limit version
   pub small : bytes_of kept.indices ≤ space_limit version
 
--- The text is the image of a non-volatile state in this version, and the state fits the limits of
+-- The bytes are the image of a non-volatile state in this version, and the state fits the limits of
 -- the version.
 abbrev pub IsImage : Version → NonVolatile → List ℕ → Type 0
 IsImage version kept text = IsWithin version kept × (text ≡ image_text version kept)
 
--- the non-volatile state that an image encodes, or the first fault of the text: Short, Magic,
+-- the non-volatile state that an image encodes, or the first fault of the bytes: Short, Magic,
 -- Version, Length, Digest, Body
 abbrev pub image_of : List ℕ → Result NonVolatile ImageFault
 image_of text = do

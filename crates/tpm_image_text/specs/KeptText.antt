@@ -13,6 +13,6 @@ with_clock clock kept = record kept { state = record kept.state { clock = clock 
 abbrev pub kept_but_clock : Record → NonVolatile
 kept_but_clock r = with_clock 0 (kept_of r)
 
--- the text of a record's non-volatile state, with Clock set to 0
+-- the encoding of a record's non-volatile state, with Clock set to 0
 abbrev pub kept_text : Record → List ℕ
 kept_text r = image_body_text Two (kept_but_clock r)

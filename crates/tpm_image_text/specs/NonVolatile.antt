@@ -16,7 +16,7 @@ use Rattle.tpm_record.specs.declared.hierarchy.Hierarchies.{Hierarchies}
 
 -- the fixed part of a non-volatile state: the hierarchies; whether TPM2_Clear is refused; failed
 -- tries, their parameters and whether lockoutAuth is disabled; Clock and the counts of TPM Resets
--- and TPM Restarts; the largest value that a counter ever had; and the state that the last
+-- and TPM Restarts; the largest value that an NV counter ever had; and the state that the last
 -- TPM2_Shutdown saved
 pub record KeptState : Type 0 where
   pub hierarchies : Hierarchies
@@ -34,7 +34,7 @@ pub record NonVolatile : Type 0 where
   pub persistent : Entries Object
   pub indices : Entries NvIndex
 
--- the part of a record that is kept without power
+-- the non-volatile part of a record
 abbrev pub kept_of : Record → NonVolatile
 kept_of r = record {
   state = record {
@@ -51,11 +51,11 @@ kept_of r = record {
   indices = r.nv.indices;
 }
 
--- the NV indices, with the largest value that a counter ever had
+-- the NV indices, with the largest value that an NV counter ever had
 abbrev pub nv_of : NonVolatile → NvContents
 nv_of kept = record { indices = kept.indices; max_count = kept.state.max_count }
 
--- the record of a device that kept this state, just after power came on
+-- the record of a device with this non-volatile state, just after power came on
 abbrev pub powered_on : NonVolatile → Record
 powered_on kept = record {
   fixed = record {

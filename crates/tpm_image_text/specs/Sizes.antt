@@ -2,7 +2,7 @@
 use Rattle.std.specs.Prelude.{ℕ, ◌+◌, ◌*◌}
 use Rattle.tpm_types.specs.Limits.{nv_index_limit, nv_space_limit, persistent_limit}
 
--- the largest size of the limits, which is their size in version 2
+-- the largest encoded size of the limits: their size in version 2
 abbrev pub limits_size : ℕ
 limits_size = 6
 

@@ -22,7 +22,7 @@ use tpm_lockout::Lockout;
 use tpm_nv::Indices;
 use tpm_record::{Fixed, Keep};
 
-/// Reads the fixed part of a body, and returns the largest value that a counter ever had.
+/// Reads the fixed part of a body, and returns the largest value that an NV counter ever had.
 #[tactic(auto, unfolding(crate::specs::Body::state_in))]
 fn read_state(fixed: &mut Fixed, text: &mut Cursor) -> Result<u64, Malformed>
     ensures { Restores (state_in text.old) fixed.old result fixed.new text.new }
@@ -38,8 +38,8 @@ fn read_state(fixed: &mut Fixed, text: &mut Cursor) -> Result<u64, Malformed>
     Ok(max_count)
 }
 
-/// Reads the state that a device keeps without power from the beginning of a text of the given
-/// version, into a new `Keep`.
+/// Decodes the state that a device keeps without power, in the given version, from the beginning of
+/// the input into a new `Keep`.
 #[tactic(auto, unfolding(crate::specs::Body::kept_in))]
 pub fn read_kept<K: Keep>(
     version: Version,

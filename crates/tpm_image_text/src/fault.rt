@@ -3,20 +3,20 @@
 /// The reasons why bytes are not an image, in the order of the checks.
 #[derive(Clone, Copy, PartialEq, Eq)]
 pub enum ImageFault {
-    /// The text is shorter than 42 bytes, the size of the head and the digest together.
+    /// The input is shorter than 42 bytes, the size of the head and the digest together.
     Short,
-    /// The text does not begin with TPMI.
+    /// The input does not begin with TPMI.
     Magic,
-    /// The version of the text is neither 1 nor 2.
+    /// The version in the head is neither 1 nor 2.
     Version,
-    /// The size of the text differs from the size in its head.
+    /// The size of the input differs from the size in its head.
     Length,
     /// The last 32 bytes are not the SHA-256 digest of the bytes before them.
     Digest,
     /// The bytes between the head and the digest do not encode a state within the limits of the
     /// version.
     Body,
-    /// The text is an image, but an allocation failed.
+    /// The input is an image, but an allocation failed.
     NoMemory,
 }
 
@@ -24,7 +24,7 @@ pub enum ImageFault {
 #[derive(Clone, Copy, PartialEq, Eq)]
 pub struct Malformed;
 
-/// Why the state of a device could not be read from a text.
+/// Why the state of a device could not be decoded.
 #[derive(Clone, Copy, PartialEq, Eq)]
 pub enum FillFault {
     Malformed,

@@ -32,7 +32,7 @@ pub fn head(body_bytes: usize) -> Sink<10>
     head
 }
 
-/// Returns the version and the body of a framed text, or the first fault of the frame.
+/// Returns the version and the body in a frame, or the first fault of the frame.
 #[tactic(auto, unfolding(crate::specs::Frame::within_frame))]
 pub fn framed_body(text: &[u8]) -> Result<(Version, &[u8]), ImageFault>
     ensures value { Gives (λ framed. (framed.0, framed.1.now)) (framed_body text.now) result }

@@ -32,7 +32,7 @@ struct Index<'a> {
     bytes: &'a [u8],
 }
 
-/// The size of an index's data, which is 0 until the index is written.
+/// The size of an index's data, which is 0 until the index has WRITTEN set.
 fn data_size(public: &NvPublic) -> usize
     ensures { result ≡ data_size public.now }
 {
@@ -87,9 +87,9 @@ fn read_index<'a>(text: &mut Cursor<'a>) -> Result<Index<'a>, Malformed>
     })
 }
 
-/// Reads an index and adds it to the others, if the NV memory has room for it. Handles are stored
-/// in ascending order: the handle of the index must be at least `lowest`. Returns the lowest
-/// handle that the next index may have.
+/// Reads an index and adds it to the others, if it fits into the NV memory. Handles are stored in
+/// ascending order: the handle of the index must be at least `lowest`. Returns the lowest handle
+/// that the next index may have.
 #[tactic(auto, using(crate::proofs::Appending::appended, crate::proofs::IndicesLaws::no_space))]
 fn add_index<N: Indices>(indices: &mut N, lowest: u64, text: &mut Cursor) -> Result<u64, FillFault>
     requires below { AllBelow lowest (N.contents indices.old).indices }
@@ -142,7 +142,7 @@ fn add_indices<N: Indices>(
 }
 
 /// Reads the NV indices, within the limits of a version, into a device that has none. Does not
-/// change the largest value that a counter ever had.
+/// change the largest value that an NV counter ever had.
 #[tactic(auto, unfolding(crate::specs::Body::indices_in))]
 pub fn read_indices<N: Indices>(
     version: Version,

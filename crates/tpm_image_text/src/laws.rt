@@ -14,8 +14,8 @@ ghost use Rattle.tpm_record.specs.Record.{Record};
 
 /// Every device has an image in version 2. The image of a device, in either version, determines the
 /// non-volatile state, and does not exceed the largest size. Powering on with the non-volatile
-/// state of a device results in the same device as a power cycle. A proof only: it has no effect at
-/// run time.
+/// state of a device results in the same device as a power cycle. The function does nothing at run
+/// time.
 #[inline(always)]
 #[tactic(auto, using(crate::proofs::RecordLaws::record_image, crate::proofs::RecordLaws::record_again, crate::proofs::RecordLaws::record_small, crate::proofs::ImageLaws::powered_again))]
 pub fn image_laws()

@@ -1,4 +1,4 @@
-//! Reads the state of a device from a text, and finds the fault of a text.
+//! Decodes the state of a device, and finds the fault of bytes that do not encode one.
 
 ghost use Rattle.std.specs.Prelude.{◌≡◌, ◌||◌, Err, is_ok, true};
 ghost use Rattle.tpm_image_text.specs.Body.{body_of};
@@ -27,8 +27,8 @@ pub fn fill<K: Keep>(alloc: Global, version: Version, body: &[u8]) -> Result<K, 
     Ok(keep)
 }
 
-/// Whether a body of the given version encodes a state. The call reads the body into a
-/// `SlotKeep`, which never runs out of memory.
+/// Whether a body of the given version encodes a state. The call decodes the body into a
+/// `SlotKeep`, whose memory never runs out.
 pub fn is_body(alloc: Global, version: Version, body: &[u8]) -> bool
     ensures { result ≡ is_ok (body_of version body.now) }
 {
@@ -38,8 +38,8 @@ pub fn is_body(alloc: Global, version: Version, body: &[u8]) -> bool
     }
 }
 
-/// Returns the fault to report if opening a text ran out of memory: the first fault of the text, or
-/// NoMemory if the text is an image. The call itself allocates no memory.
+/// Returns the fault to report if opening an image ran out of memory: the first fault of the bytes,
+/// or NoMemory if they are an image. The call itself allocates no memory.
 #[inline(never)]
 pub fn fault_of(alloc: Global, text: &[u8]) -> ImageFault
     ensures { Opens (λ (r : Record). r) true text.now (Err result) }

@@ -1,4 +1,4 @@
-//! Writes the text of an image into a buffer or to a writer.
+//! Writes an image into a buffer or to a writer.
 
 ghost use Rattle.std.specs.Prelude.{◌≡◌, ◌+◌, ◌<◌, ◌^◌, ◌++◌, [], OnErr, OnOk, length, true};
 ghost use Rattle.std.specs.Io.KnownBytes.{Appends};
@@ -17,8 +17,8 @@ use tpm_bytes::{Sink, Tap};
 use tpm_mac::{HashAlg, digest_parts};
 use tpm_record::Keep;
 
-/// Writes the body of a version 2 image, followed by the digest, to an empty text. Returns the
-/// head, which belongs before the body.
+/// Writes the body of a version 2 image, followed by the digest, to an empty buffer. Returns the
+/// head, which must be put before the body.
 #[tactic(auto, unfolding(crate::specs::Image::image_text))]
 pub fn write_image<K: Keep>(keep: &K, text: &mut Text) -> Sink<10>
     requires { text.old ≡ [] }
@@ -32,7 +32,7 @@ pub fn write_image<K: Keep>(keep: &K, text: &mut Text) -> Sink<10>
     head
 }
 
-/// Writes a head, followed by a text, to the beginning of a buffer if both fit. Returns their total
+/// Writes a head, followed by `text`, to the beginning of a buffer if both fit. Returns their total
 /// size in either case.
 pub fn put_front(head: &[u8], text: &[u8], room: &mut [u8]) -> usize
     requires { length head.now + length text.now < 2 ^ 32 }
@@ -48,7 +48,7 @@ pub fn put_front(head: &[u8], text: &[u8], room: &mut [u8]) -> usize
     size
 }
 
-/// Writes the head of an image, followed by the rest of its text.
+/// Writes the head of an image, followed by the rest of the image.
 pub fn send<D: Write>(tap: &mut Tap<D>, head: &[u8], text: &[u8]) -> Result<(), SaveFault>
     ensures written { OnOk result (Appends (D.contents (device_of tap.old))
         (D.contents (device_of tap.new)) (head.now ++ text.now)) }

@@ -16,8 +16,8 @@ use tpm_types::{NV_INDEX_LIMIT, NV_SPACE_LIMIT};
 /// A version of an image.
 #[derive(Clone, Copy, PartialEq, Eq)]
 pub enum Version {
-    /// Version 1 can be read but is no longer written. Its images contain at most 32 NV indices,
-    /// with at most 8,192 bytes of data.
+    /// Version 1 is read but no longer written. Its images contain at most 32 NV indices, with at
+    /// most 8,192 bytes of data.
     One,
     /// Version 2 states the device's limits: the largest number of NV indices and the largest size
     /// of their data.
@@ -70,7 +70,7 @@ impl Version {
     }
 }
 
-/// Reads the limits in an image, which must be those of its version.
+/// Reads the limits in an image. They must be the limits of the image's version.
 #[tactic(auto, unfolding(crate::specs::Body::limits_in))]
 pub fn read_limits(version: Version, text: &mut Cursor) -> Result<(), Malformed>
     ensures { Reads (λ done. done) (limits_in version text.old) text.old result text.new }

@@ -1,4 +1,4 @@
--- Executing the journal of a live device again yields that device.
+-- Executing the journal of a running device again yields that device.
 use Rattle.std.proofs.Common.{◌≡◌, ℕ, ◌+◌, false, List, [], ◌∷◌, ◌++◌, length, map, drop, Option, Some, None, Result, Ok, Err, refl, ap, sym, subst, ◌∙◌, append_assoc, append-nil}
 use Rattle.std.specs.List.{AllByRecursion}
 use Rattle.std.proofs.lemmas.List.{length-take-le, take-append-drop}
@@ -91,8 +91,8 @@ same_run before old (one ∷ performances) after new layer mid leads answers =
           ∙ ap (λ (l : List ℕ). one.entry.answered ∷ l) next.2,
     )
 
--- if the device gives the recorded answers, the execution of a text with a torn end has no fault
--- and reaches the last complete entry
+-- if the device gives the recorded answers, executing entries with a torn end has no fault and
+-- reaches the last complete entry
 ended : (fault : Option FollowFault) (sum : ℕ) (sums said : List ℕ) (more : List PlainEntry) (rest left : List ℕ)
     → AnswersAre fault sums said → sums ≡ said → EndsIn fault sum left → left ≡ entries_text sum more ++ rest
     → AllByRecursion IsEntry more → IsTorn (sum_after_all sum more) rest → (fault ≡ None) × (more ≡ [])
@@ -138,7 +138,7 @@ followed_again before old layer final new entries rest text followed after repla
 
 -- ---- opened again
 
--- a text does not begin with two different heads
+-- the input does not begin with two different heads
 one_head : (text : List ℕ) (kind other : HeadKind) (clock time : ℕ) (content bytes rest behind : List ℕ) → BeginsWith text kind clock content rest
     → BeginsWith text other time bytes behind → (kind ≡ other) × (clock ≡ time) × (content ≡ bytes)
 one_head text kind other clock time content bytes rest behind begins others =
@@ -153,7 +153,7 @@ module _ (kind : HeadKind) (clock : ℕ) (content : List ℕ) (start : Start) (e
     (begins : BeginsWith text kind clock content (entries_text start.journal.sum entries ++ rest))
     (are : AllByRecursion IsEntry entries) (cut : IsTorn (sum_after_all start.journal.sum entries) rest)
     (answers : Answers start.journal.layer start.device entries layer final) where
-  -- a function of a head has the same value for two heads at the beginning of one text
+  -- a function of a head has the same value for two heads at the beginning of the same input
   same_of : {X : Type 0} (f : HeadKind → ℕ → List ℕ → X) (other : HeadKind) (time : ℕ) (bytes behind : List ℕ) → BeginsWith text other time bytes behind
       → f kind clock content ≡ f other time bytes
   same_of f other time bytes behind others =

@@ -13,7 +13,8 @@ use Rattle.tpm_journal.specs.State.{journal_after}
 use Rattle.tpm_journal.specs.declared.following.FollowFault.{FollowFault}
 use Rattle.tpm_journal.specs.declared.journal.Journal.{Journal}
 
--- the device's executions for these entries end in the record that the device has after the entries
+-- the device's executions of these entries result in the record that the device has after the
+-- entries
 run_leads_all : (can : Bool) (before : Journal) (old : Record) (performances : List Performance) (after : Journal) (new : Record)
     (leads : LeadsBy can before old performances after new) → Leads can old (run_of_all can before old performances after new leads) new
 run_leads_all can before old [] after new leads = leads.1

@@ -18,7 +18,7 @@ use Rattle.tpm_journal.proofs.Again.{lives_again}
 use Rattle.tpm_journal.proofs.Drawing.{asked_draws_none, behind_within, draws_within, no_more_drawn}
 
 -- passing an event to the device has the same effect with other random bytes, if the device then
--- executes it in the same way and draws as many bytes
+-- executes it in the same way and draws the same number of bytes
 passes_with : (layer : Completion) (old : Record) (event other : PlainEvent) (seen : Seen) → Passes false layer old event seen
     → Executes false old other seen.step → drawn_by old other seen.step.row.check ≡ drawn_by old event seen.step.row.check
     → Passes false layer old other seen
@@ -95,7 +95,8 @@ ignores layer old c seen executed =
     (sym (length-take-le seen.drawn c.random few))
     (executed_again c.completes layer old c.buffer c.locality c.elapsed c.random seen executed)
 
--- executing the entries of a live device and its layer again leads to the same layer and record
+-- executing the entries of a running device and its layer again results in the same layer and
+-- record
 pub lives_alike : (layer : Completion) (old : Record) (entries : List PlainEntry) (after : Completion) (new : Record)
     → Lives layer old entries after new → Answers layer old entries after new
 lives_alike = lives_again ignores

@@ -1,4 +1,4 @@
--- How a text is read as a journal.
+-- How the input is read as a journal.
 use Rattle.std.proofs.Common.{◌≡◌, ℕ, Bool, false, List, ◌++◌, length, drop, take, Result, Ok, Err, ap, sym, subst, ◌∙◌}
 use Rattle.std.proofs.lemmas.List.{drop_at, length-take-le, take_at, take-append-drop}
 use Rattle.tpm_record.specs.Record.{Record}
@@ -27,7 +27,8 @@ begins text head is = record {
   is = sym (take-append-drop head.size text) ∙ ap (λ (l : List ℕ). l ++ drop head.size text) is.is;
 }
 
--- if the head of a text can be opened, it starts a journal, and its size is the size that was read
+-- if the head at the beginning of the input can be opened, it starts a journal, and its size is the
+-- decoded size
 pub started : (text : List ℕ) (head : Head) (start : Start) → IsHeadOf text head → start_by head.kind head.clock head.content.now ≡ Ok start
     → (rest : List ℕ) × (starts : Starts text start rest) × (head.size ≡ length (starting_head starts))
 started text head start is opened = (
@@ -79,7 +80,7 @@ not_opened text (fault.Follow why) new not = absurd not
 
 -- ---- the rest
 
--- a text consists of the head that starts its journal, and the rest
+-- the input consists of the head that starts its journal, and the rest
 pub split_head : (text : List ℕ) (start : Start) (rest : List ℕ) (size : ℕ) (starts : Starts text start rest) → size ≡ length (starting_head starts)
     → (take size text ≡ starting_head starts) × (drop size text ≡ rest)
 split_head text start rest size starts is = (

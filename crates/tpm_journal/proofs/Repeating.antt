@@ -39,7 +39,8 @@ take_further n m text within =
     ∙ ap (λ (l : List ℕ). l ++ drop n (take (n + m) text)) front
     ∙ ap (λ (l : List ℕ). take n text ++ l) (drop-take n m text)
 
--- an entry executed at the beginning of a text is also executed at the beginning of any equal text
+-- an entry executed at the beginning of the input is also executed at the beginning of any equal
+-- input
 pub performs_at : (can : Bool) (before : Journal) (old : Record) (left text : List ℕ) (size : ℕ) (one : Performance) (after : Journal)
     (Holds : ℕ → ℕ → Type 0) → left ≡ text → Performs can before old left size one after Holds → Performs can before old text size one after Holds
 performs_at can before old left text size one after Holds is p = rw (← is) p

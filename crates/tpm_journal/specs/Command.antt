@@ -25,7 +25,8 @@ given c = Given c.buffer c.locality c.elapsed c.random
 abbrev pub elapsed_of : (now time : ℕ) → ℕ
 elapsed_of now time = min (now - time) (2 ^ 32 - 1)
 
--- the command in a buffer, which is truncated to at most the largest size that an entry can record
+-- the command in a buffer; a longer buffer is truncated to the largest size that an entry can
+-- record
 abbrev pub command_at : (buffer : List ℕ) (locality elapsed : ℕ) (completes : Bool)
     (random : List ℕ) → Command
 command_at buffer locality elapsed completes random = record {

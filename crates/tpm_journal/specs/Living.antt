@@ -1,4 +1,4 @@
--- Commands that a live device executes, and how their entries are executed again.
+-- Commands that a running device executes, and how their entries are executed again.
 use Rattle.std.specs.Prelude.{◌≡◌, false, List, [], ◌∷◌}
 use Rattle.tpm_completion.specs.Execution.{Seen}
 use Rattle.tpm_completion.specs.declared.completion.Completion.{Completion}

@@ -1,4 +1,4 @@
--- The result of opening a text as a journal.
+-- The result of opening bytes as a journal.
 use Rattle.std.specs.Prelude.{◌≡◌, ℕ, ◌+◌, false, List, length, Result, Ok, Err, Some, None}
 use Rattle.tpm_completion.specs.declared.completion.Completion.{Completion}
 use Rattle.tpm_journal_text.specs.Entry.{PlainEntry}
@@ -13,7 +13,7 @@ use Rattle.tpm_journal.specs.declared.opening.OpenFault.{OpenFault}
 use Rattle.tpm_journal.specs.declared.opening.OpenFault.TheVariants as fault
 use Rattle.tpm_journal.specs.declared.opening.Opened.{Opened}
 
--- The text begins with a head that starts a journal. The device and the layer in that head executed
+-- The bytes begin with a head that starts a journal. The device and the layer in that head executed
 -- the entries after it, with this result.
 pub record Reads (text : List ℕ) (followed : Followed) (journal : Journal) (new : Record) : Type 0 where
   pub start : Start
@@ -21,7 +21,7 @@ pub record Reads (text : List ℕ) (followed : Followed) (journal : Journal) (ne
   pub starts : Starts text start rest
   pub replays : Replays false start.journal start.device rest followed journal new
 
--- A text is a journal: its device and the layer above it executed exactly the entries after its
+-- The bytes are a journal: its device and the layer above it executed exactly the entries after its
 -- head. Nothing follows these entries, except perhaps an incomplete entry after a crash.
 pub record IsJournal (text : List ℕ) (opened : Opened) (new : Record) : Type 0 where
   pub followed : Followed
@@ -29,8 +29,8 @@ pub record IsJournal (text : List ℕ) (opened : Opened) (new : Record) : Type 0
   pub whole : followed.fault ≡ None
   pub size : opened.taken ≡ length (starting_head reads.starts) + followed.taken
 
--- The text was opened as a journal. Or it does not start a journal because of this fault. Or its
--- entries were executed up to this fault.
+-- On success, the bytes are a journal. On error, they do not start one because of this fault, or
+-- their entries were executed up to this fault.
 abbrev pub OpensJournal : List ℕ → Result Opened OpenFault → Record → Type 0
 OpensJournal text (Ok opened) new = IsJournal text opened new
 OpensJournal text (Err fault.NoJournal) new = StartsNot text fault.NoJournal

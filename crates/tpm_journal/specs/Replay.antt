@@ -1,4 +1,4 @@
--- Executing the entries of a text again.
+-- Executing the entries of a journal again.
 use Rattle.std.specs.Prelude.{◌≡◌, ◌≢◌, ℕ, ◌≤◌, Bool, List, [], ◌∷◌, ◌++◌, drop, length, map, take, Option, Some, None}
 use Rattle.std.specs.List.{AllByRecursion}
 use Rattle.tpm_completion.specs.Execution.{Seen}
@@ -34,7 +34,8 @@ abbrev pub answer_said : Performance → ℕ
 answer_said one = one.entry.answered
 
 -- Executing these entries again, one after another and each with the layer if the entry says so,
--- changes the first journal and record to the last ones. `can` says whether an allocation can fail.
+-- changes the journal and the record from the first pair to the second. `can` says whether an
+-- allocation can fail.
 abbrev pub LeadsBy : (can : Bool) → Journal → Record → List Performance → Journal → Record → Type 0
 LeadsBy can before old [] after new = (after ≡ before) × (new ≡ old)
 LeadsBy can before old (one ∷ performances) after new =
@@ -42,7 +43,7 @@ LeadsBy can before old (one ∷ performances) after new =
     × LeadsBy can (journal_after before one.entry one.seen.layer) one.seen.step.after performances
     after new
 
--- everything that the device executed for these entries
+-- all executions of the device for these entries
 abbrev pub run_of_all : (can : Bool) (before : Journal) (old : Record)
     (performances : List Performance) (after : Journal) (new : Record)
     → LeadsBy can before old performances after new → List Execution
@@ -61,14 +62,14 @@ AnswersAre (Some Otherwise) sums said =
     (front : List ℕ) × (sum : ℕ) × (other : ℕ) × (sums ≡ front ++ sum ∷ [])
     × (said ≡ front ++ other ∷ []) × (sum ≢ other)
 
--- What follows the executed entries: a torn text if there was no fault, a damaged text if the fault
--- is damage, and any text if the device answered differently.
+-- What follows the executed entries: torn input if there was no fault, damaged input if the fault
+-- is damage, and any bytes if the device answered differently.
 abbrev pub EndsIn : Option FollowFault → (sum : ℕ) → (left : List ℕ) → Type 0
 EndsIn None sum left = IsTorn sum left
 EndsIn (Some Damaged) sum left = IsDamaged sum left
 EndsIn (Some Otherwise) sum left = Unit {0}
 
--- A device, with its layer, executed exactly the entries at the beginning of a text, one after
+-- A device, with its layer, executed exactly the entries at the beginning of the input, one after
 -- another. This changed the journal from `before` to `after`, and the record from `old` to `new`.
 pub record Repeats (can : Bool) (before : Journal) (old : Record) (text : List ℕ) (taken : ℕ)
     (fault : Option FollowFault) (after : Journal) (new : Record) : Type 0
@@ -80,7 +81,7 @@ pub record Repeats (can : Bool) (before : Journal) (old : Record) (text : List �
     pub leads : LeadsBy can before old performances after new
     pub answers : AnswersAre fault (map response_sum performances) (map answer_said performances)
 
--- A device executed the entries of a text, with this result.
+-- A device executed the entries in the input, with this result.
 pub record Replays (can : Bool) (before : Journal) (old : Record) (text : List ℕ)
     (followed : Followed) (after : Journal) (new : Record) : Type 0
   where
@@ -89,7 +90,7 @@ pub record Replays (can : Bool) (before : Journal) (old : Record) (text : List �
 
 -- ---- executing a single entry again
 
--- The entry at the beginning of a text was executed again. `Holds` relates the checksum of its
+-- The entry at the beginning of the input was executed again. `Holds` relates the checksum of its
 -- response to the checksum in the entry.
 pub record Performs (can : Bool) (before : Journal) (old : Record) (text : List ℕ) (size : ℕ)
     (one : Performance) (after : Journal) (Holds : ℕ → ℕ → Type 0) : Type 0
@@ -101,7 +102,8 @@ pub record Performs (can : Bool) (before : Journal) (old : Record) (text : List 
     pub answer : Holds (response_sum one) (answer_said one)
     pub journal : after ≡ journal_after before one.entry one.seen.layer
 
--- The result of processing the beginning of a text. If an entry was executed, `seen` is its effect.
+-- The result of processing the beginning of the input. If an entry was executed, `seen` is its
+-- effect.
 abbrev pub Does : Bool → Journal → Record → List ℕ → Deed → (after : Journal) → Seen → Type 0
 Does can before old text (deed.Executed entry size) after seen =
     Performs can before old text size (record { entry = plain_entry entry; seen = seen }) after
@@ -116,7 +118,7 @@ Does can before old text deed.Damaged after seen =
 
 -- ---- texts followed to their end
 
--- The text ended without a fault, and all of these entries were executed. The resulting layer and
+-- The input ended without a fault, and all of these entries were executed. The resulting layer and
 -- record are `layer` and `final`.
 pub record IsFollowedWhole (before : Journal) (entries : List PlainEntry) (layer : Completion)
     (final : Record) (followed : Followed) (after : Journal) (new : Record) : Type 0

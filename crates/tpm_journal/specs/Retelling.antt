@@ -21,7 +21,7 @@ use Rattle.tpm_journal.specs.declared.retelling.RetellFault.TheVariants.{Open, F
 use Rattle.tpm_journal.specs.declared.retelling.Telling.{Telling}
 use Rattle.tpm_journal.specs.declared.retelling.Telling.TheVariants.{Script, Answers}
 
--- the text that describes how an event was answered: `completed` if the completing layer was on,
+-- the words that describe how an event was answered: `completed` if the completing layer was on,
 -- otherwise the trace
 abbrev pub words_of : (completes : Bool) → PlainEvent → Row → (response : List ℕ) → List ℕ
 words_of true event row response = codes "completed"
@@ -47,13 +47,13 @@ lines_with words e = codes "# " ++ words ++ 10 ∷ [] ++ (setting_lines e ++ exe
 abbrev pub answer_lines : (words response : List ℕ) → List ℕ
 answer_lines words response = words ++ 10 ∷ [] ++ encode_lower response ++ 10 ∷ []
 
--- the text for an entry that was executed again: the script lines that execute its command, or its
--- answer
+-- the output for an entry that was executed again: the script lines that execute its command, or
+-- its answer
 abbrev pub retold : Telling → Performance → List ℕ
 retold Script one = lines_with (comment_of one) one.entry
 retold Answers one = answer_lines (comment_of one) one.seen.step.response
 
--- the text for an entry, given its comment, its response and its own text in the journal
+-- the output for an entry, given its comment, its response and its own lines in the journal
 abbrev pub retold_by : Telling → (words response own : List ℕ) → List ℕ
 retold_by Script words response own = codes "# " ++ words ++ 10 ∷ [] ++ drop mark_line_size own
 retold_by Answers words response own = answer_lines words response
@@ -63,7 +63,7 @@ abbrev pub retold_head : Telling → (head : List ℕ) → List ℕ
 retold_head Script head = head
 retold_head Answers head = []
 
--- Exactly the entries at the beginning of a text were executed again, one after another, and the
+-- Exactly the entries at the beginning of the input were executed again, one after another, and the
 -- script lines or the answer of each were written.
 pub record Retells (form : Telling) (can : Bool) (before : Journal) (old : Record) (text : List ℕ)
     (held : Option (List ℕ)) (holds : Option (List ℕ)) (taken : ℕ) (fault : Option FollowFault)
@@ -72,8 +72,8 @@ pub record Retells (form : Telling) (can : Bool) (before : Journal) (old : Recor
     pub repeats : Repeats can before old text taken fault after new
     pub told : Appends held holds (flat_map (retold form) repeats.performances)
 
--- The entries of a text were executed again, with this result, and the script lines or the answer
--- of each were written.
+-- The entries in the input were executed again, with this result, and the script lines or the
+-- answer of each were written.
 pub record RetellsEntries (form : Telling) (can : Bool) (before : Journal) (old : Record) (text : List ℕ)
     (held : Option (List ℕ)) (holds : Option (List ℕ)) (followed : Followed) (after : Journal)
     (new : Record) : Type 0
@@ -81,7 +81,7 @@ pub record RetellsEntries (form : Telling) (can : Bool) (before : Journal) (old 
     pub replays : Replays can before old text followed after new
     pub told : Appends held holds (flat_map (retold form) replays.repeats.performances)
 
--- The text begins with a head that starts a journal. The output for the head and for each executed
+-- The input begins with a head that starts a journal. The output for the head and for each executed
 -- entry was written. `fault` is the reason if execution stopped early.
 pub record RetellsText (form : Telling) (text : List ℕ) (held : Option (List ℕ)) (holds : Option (List ℕ))
     (fault : Option FollowFault) : Type 0
@@ -103,8 +103,8 @@ abbrev pub retold_size : {form : Telling} {text : List ℕ} {held holds : Option
     {fault : Option FollowFault} → RetellsText form text held holds fault → ℕ
 retold_size told = length (starting_head told.starts) + told.followed.taken
 
--- The journal was converted to its end. Or it was converted up to a fault. Or the text does not
--- start a journal, and nothing was written. Or the writer failed.
+-- On success, the journal was converted to its end. On error, it was converted up to a fault; or
+-- the input starts no journal, and nothing was written; or the writer failed.
 abbrev pub RetellsJournal : Telling → List ℕ → (held : Option (List ℕ)) → (holds : Option (List ℕ))
     → Marks → Result (Unit {0}) RetellFault → Type 0
 RetellsJournal form text held holds marks (Ok done) = RetellsText form text held holds None

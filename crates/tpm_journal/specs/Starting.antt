@@ -45,14 +45,14 @@ abbrev pub start_by : HeadKind → (clock : ℕ) → (content : List ℕ) → Re
 start_by Image clock content = start_by_image clock content (image_of content)
 start_by State clock content = start_by_state clock content (current_state_of_text content)
 
--- The text is a head of this kind with this clock and content, followed by the rest.
+-- The input is a head of this kind with this clock and content, followed by the rest.
 pub record BeginsWith (text : List ℕ) (kind : HeadKind) (clock : ℕ) (content rest : List ℕ)
     : Type 0
   where
     pub has : HasHead kind clock content
     pub is : text ≡ head_text kind clock content ++ rest
 
--- The text consists of a head that starts this journal, and the rest.
+-- The input consists of a head that starts this journal, and the rest.
 pub record Starts (text : List ℕ) (start : Start) (rest : List ℕ) : Type 0 where
   pub kind : HeadKind
   pub clock : ℕ
@@ -60,18 +60,18 @@ pub record Starts (text : List ℕ) (start : Start) (rest : List ℕ) : Type 0 w
   pub begins : BeginsWith text kind clock content rest
   pub is : start_by kind clock content ≡ Ok start
 
--- the text of the head that starts a journal
+-- the encoding of the head that starts a journal
 abbrev pub starting_head : {text : List ℕ} {start : Start} {rest : List ℕ} → Starts text start rest
     → List ℕ
 starting_head starts = head_text starts.kind starts.clock starts.content
 
--- The text begins with a head that cannot start a journal because of this fault.
+-- The input begins with a head that cannot start a journal because of this fault.
 abbrev pub HoldsFault : List ℕ → OpenFault → Type 0
 HoldsFault text why =
     (kind : HeadKind) × (clock : ℕ) × (content : List ℕ) × (rest : List ℕ)
     × BeginsWith text kind clock content rest × (start_by kind clock content ≡ Err why)
 
--- The text does not start a journal: it has no head, or the content of its head has this fault.
+-- The input does not start a journal: it has no head, or the content of its head has this fault.
 abbrev pub StartsNot : List ℕ → OpenFault → Type 0
 StartsNot text fault.NoJournal =
     (kind : HeadKind) (clock : ℕ) (content rest : List ℕ) → BeginsWith text kind clock content rest
@@ -86,8 +86,8 @@ abbrev pub IsStart : Result Start OpenFault → Result Journal OpenFault → (ne
 IsStart start (Ok journal) new = start ≡ Ok (record { journal = journal; device = new })
 IsStart start (Err why) new = start ≡ Err why
 
--- Opening the head of a text returned the journal and the device at its start, and the head's size.
--- Or the text does not start a journal, because of this fault.
+-- On success, the result is the journal before its first entry, its device, and the head's size. On
+-- error, the input does not start a journal, because of this fault.
 abbrev pub StartsBy : List ℕ → Result Started OpenFault → (new : Record) → Type 0
 StartsBy text (Ok started) new =
     (rest : List ℕ)

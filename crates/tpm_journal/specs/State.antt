@@ -18,13 +18,14 @@ journal_of sum clock = record { sum = sum; time = clock; layer = new_completion 
 abbrev pub journal_begun : (clock : ℕ) → (image : List ℕ) → Journal
 journal_begun clock image = journal_of (head_sum clock image) clock
 
--- the layer in a state, or a new layer if the state has none; the start number of a new layer is
--- the checksum of the head
+-- the layer in the state of a device, or a new layer if it has none; the start number of a new
+-- layer is the checksum of the head
 abbrev pub layer_in : (sum : ℕ) → Option Layer → Completion
 layer_in sum None = new_completion sum
 layer_in sum (Some layer) = completion_of (Some layer)
 
--- the journal after a head with this checksum and clock, whose state text contains this layer
+-- the journal after a head with this checksum and clock, if the state text in the head contains
+-- this layer
 abbrev pub journal_resumed : (sum clock : ℕ) → Option Layer → Journal
 journal_resumed sum clock layer = record { sum = sum; time = clock; layer = layer_in sum layer }
 
@@ -36,7 +37,8 @@ abbrev pub time_after_all : (time : ℕ) → List PlainEntry → ℕ
 time_after_all time [] = time
 time_after_all time (e ∷ entries) = time_after_all (time_after time e.elapsed) entries
 
--- the journal after one entry, and below after several; `layer` is the layer's state after them
+-- the journal after one entry; below, after several entries. `layer` is the layer's state after
+-- them
 abbrev pub journal_after : Journal → PlainEntry → (layer : Completion) → Journal
 journal_after j e layer =
     record { sum = sum_after j.sum e; time = time_after j.time e.elapsed; layer = layer }

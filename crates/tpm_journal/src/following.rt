@@ -1,4 +1,4 @@
-//! Executes the entries of a text again, on a device with its completing layer.
+//! Executes the entries of a journal again, on a device with its completing layer.
 
 ghost use Rattle.std.specs.Prelude.{◌≡◌, ◌≤◌, length};
 ghost use Rattle.tpm_completion.specs.Execution.{seen_of};
@@ -15,16 +15,17 @@ use tpm_record::Keep;
 use tpm_step::{Event, Outcome};
 use tpm_types::Locality;
 
-/// The reasons why the execution of a text's entries stopped early.
+/// The reasons why the execution of entries stopped early.
 #[derive(Clone, Copy, PartialEq, Eq)]
 pub enum FollowFault {
-    /// The text continues neither with an entry nor with a part of one that a crash left.
+    /// The input continues neither with an entry nor with a part of an entry that a crash could
+    /// leave.
     Damaged,
     /// The device's answer to the last entry differs from the one recorded in the entry.
     Otherwise,
 }
 
-/// The result of executing the entries of a text.
+/// The result of executing entries.
 #[derive(Clone, Copy, PartialEq, Eq)]
 pub struct Followed {
     /// The total size of the executed entries, in bytes.
@@ -32,16 +33,16 @@ pub struct Followed {
     pub fault: Option<FollowFault>,
 }
 
-/// The result of processing the beginning of a text.
+/// The result of processing the beginning of the input.
 #[derive(Clone, Copy)]
 pub(crate) enum Deed<'a> {
-    /// An entry of `size` bytes of text was executed, and the answer matches the recorded one.
+    /// An entry of `size` bytes was executed, and the answer matches the recorded one.
     Executed { entry: Entry<'a>, size: usize },
-    /// An entry of `size` bytes of text was executed, but the answer differs from the recorded one.
+    /// An entry of `size` bytes was executed, but the answer differs from the recorded one.
     Otherwise { entry: Entry<'a>, size: usize },
-    /// The text is torn: it is shorter than an entry, not counting zeros at its end.
+    /// The input is torn: it is shorter than an entry, not counting zeros at its end.
     Torn,
-    /// The text is damaged.
+    /// The input is damaged.
     Damaged,
 }
 
@@ -77,8 +78,8 @@ fn padded(drawn: &[u8]) -> [u8; 256]
 }
 
 impl Journal {
-    /// Executes the entry at the beginning of a text. Decodes the entry into `bytes`, and encodes
-    /// it again in `room` to compare it with the text.
+    /// Executes the entry at the beginning of the input. Decodes the entry into `bytes`, and
+    /// encodes it again in `room` to compare it with the input.
     pub(crate) fn follow_one<'a, K: Keep>(
         &mut self,
         machine: &mut Machine<K>,
@@ -105,7 +106,7 @@ impl Journal {
         }
     }
 
-    /// Executes the entries of a text that continues this journal.
+    /// Executes the entries in input that continues this journal.
     pub fn follow<K: Keep>(
         &mut self,
         machine: &mut Machine<K>,

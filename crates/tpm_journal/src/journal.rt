@@ -61,7 +61,8 @@ impl Journal {
         }
     }
 
-    /// The journal after a head with this checksum and clock, whose state text contains this layer.
+    /// The journal after a head with this checksum and clock, if the state text in the head
+    /// contains this layer.
     pub(crate) fn resumed(sum: u64, clock_ms: u64, layer: Option<&Layer>) -> Journal
         ensures { result ≡ journal_resumed sum clock_ms (option_copied layer.entry) }
     {
@@ -106,10 +107,10 @@ impl Journal {
         size
     }
 
-    /// Restarts the text of the journal: writes a head with the whole state of the device and the
-    /// completing layer to the beginning of a buffer. Returns the size of the head. If the buffer
-    /// is too small, the call has no effect. The device and the layer are unchanged. No time is
-    /// lost if `clock_ms` is the journal's own time.
+    /// Restarts the journal: writes a head with the whole state of the device and the completing
+    /// layer to the beginning of a buffer. Returns the size of the head. If the buffer is too
+    /// small, the call has no effect. The device and the layer are unchanged. No time is lost if
+    /// `clock_ms` is the journal's own time.
     pub fn checkpoint<K: Keep>(
         &mut self,
         machine: &Machine<K>,
@@ -168,7 +169,7 @@ impl Journal {
             take result room.new ≡ entry_text self.old.sum (entry_of c seen) }
         ensures fits { result ≤ length room.new }
 
-        // The written bytes are the text of an entry, and can be read again.
+        // The written bytes encode an entry, and can be read again.
         ensures entry { let c = command_at buffer.now (locality_number locality)
             (elapsed_of now_ms self.old.time) completes random.now in
             let seen = seen_of K.record_of machine.new self.new.layer outcome.new in
@@ -196,8 +197,8 @@ impl Journal {
     }
 }
 
-/// The layer in a state, or a new layer if the state has none. The start number of a new layer is
-/// the checksum of the head.
+/// The layer in the state of a device, or a new layer if it has none. The start number of a new
+/// layer is the checksum of the head.
 fn layer_in(sum: u64, layer: Option<&Layer>) -> Completion
     ensures { result ≡ layer_in sum (option_copied layer.entry) }
 {
@@ -231,7 +232,7 @@ fn put_head(
     size
 }
 
-/// Writes the image of a device: returns its header, and appends the rest to an empty text.
+/// Writes the image of a device: returns its header, and appends the rest to an empty buffer.
 fn write_image<K: Keep>(machine: &Machine<K>, text: &mut Text) -> Sink<10>
     requires { text.old ≡ [] }
     ensures image { result ++ text.new

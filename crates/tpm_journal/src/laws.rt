@@ -31,7 +31,7 @@ ghost use Rattle.tpm_record.specs.Record.{Record};
 ghost use Rattle.tpm_state_text.specs.Body.{IsWholeState, WholeState};
 ghost use Rattle.tpm_state_text.specs.State.{state_text};
 
-/// Executing the entries of a live device and its layer again yields the same answers, layer and
+/// Executing the entries of a running device and its layer again yields the same answers, layer and
 /// record. Random bytes that a command did not draw have no effect.
 #[inline(always)]
 #[tactic(auto, using(crate::proofs::Ignoring::lives_alike))]
@@ -40,8 +40,8 @@ pub fn living_laws()
         (new : Record) → Lives layer old entries after new → Answers layer old entries after new }
 {}
 
-/// If a text consists of entries and perhaps an incomplete entry after a crash, and the device and
-/// its layer give the recorded answers, exactly the complete entries are executed again.
+/// If the input consists of entries and perhaps an incomplete entry after a crash, and the device
+/// and its layer give the recorded answers, exactly the complete entries are executed again.
 #[inline(always)]
 pub fn following_laws()
     ensures { (before : Journal) (old : Record) (layer : Completion) (final new : Record)
@@ -74,8 +74,8 @@ pub fn starting_laws()
         ≡ Ok (record { journal = checkpointed j clock r; device = r }) }
 {}
 
-/// If a text consists of a head that starts a journal, entries, and perhaps an incomplete entry
-/// after a crash, and the device and its layer give the recorded answers, opening the text yields
+/// If the input consists of a head that starts a journal, entries, and perhaps an incomplete entry
+/// after a crash, and the device and its layer give the recorded answers, opening the input yields
 /// the device and the layer after all complete entries.
 #[inline(always)]
 #[tactic(auto, using(crate::proofs::Again::opened_again))]
@@ -92,8 +92,8 @@ pub fn opening_laws()
         new }
 {}
 
-/// Opening a checkpoint of a live device, followed by the entries of the commands that the device
-/// and its layer executed since, yields this device and layer.
+/// Opening a checkpoint of a running device, followed by the entries of the commands that the
+/// device and its layer executed since, yields this device and layer.
 #[inline(always)]
 #[tactic(auto, using(crate::proofs::Starts::checkpoint_opened))]
 pub fn checkpoint_laws()

@@ -5,12 +5,12 @@
 //!
 //! [`Journal`] is the state of a journal apart from the device: the checksum of its marks, its
 //! time, and the completing layer, which restarts at each head that does not contain its state. A
-//! journal begins at a power cycle, executes commands and writes their entries, executes the
-//! entries of a text again, and is opened from a text. An entry says whether the layer was on, and
-//! contains the random bytes that its command drew. Other random bytes have no effect, as
-//! [`draw_laws`] says. The opened device and layer executed exactly the answered commands.
-//! [`retell`] converts a journal to a script, or to its device's answers, and writes it to a
-//! writer. The crate does no other input or output: all texts are in the caller's memory.
+//! journal begins at a power cycle, executes commands and writes their entries, executes its
+//! entries again, and is opened from bytes. An entry says whether the layer was on, and contains
+//! the random bytes that its command drew. Other random bytes have no effect, as [`draw_laws`]
+//! says. The opened device and layer executed exactly the answered commands. [`retell`] converts a
+//! journal to a script, or to its device's answers, and writes it to a writer. The crate does no
+//! other input or output: all bytes are in the caller's memory.
 
 pub mod draw_laws;
 pub mod following;

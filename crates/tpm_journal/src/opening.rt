@@ -19,10 +19,10 @@ use tpm_snapshot::resume_new;
 use tpm_state_text::RestoreFault;
 use tpm_step::Outcome;
 
-/// The reasons why a text could not be opened as a journal.
+/// The reasons why bytes could not be opened as a journal.
 #[derive(Clone, Copy, PartialEq, Eq)]
 pub enum OpenFault {
-    /// The text does not begin with a head.
+    /// The bytes do not begin with a head.
     NoJournal,
     /// The head contains no image from which this device can be opened.
     Image(ImageFault),
@@ -63,8 +63,8 @@ fn open_image<K: Keep>(machine: &mut Machine<K>, head: &Head) -> Result<Journal,
     }
 }
 
-/// Restores the device from the state text in a head, in a new machine. A text of version 1 is
-/// refused, because an earlier completing layer answered the entries after it.
+/// Restores the device from the state text in a head, in a new machine. A state text of version 1
+/// is refused, because an earlier completing layer answered the entries after it.
 fn open_state<K: Keep>(machine: &mut Machine<K>, head: &Head) -> Result<Journal, OpenFault>
     requires new { state_of K.record_of machine.old ≡ manufactured (replicate 256 0) }
     requires never_refused { K.can_refuse ≡ false }
@@ -79,7 +79,7 @@ fn open_state<K: Keep>(machine: &mut Machine<K>, head: &Head) -> Result<Journal,
 }
 
 /// Opens the device from a head, in a new machine. Returns the journal of the head. On error, the
-/// machine is unspecified.
+/// machine's state is unspecified.
 fn open_head<K: Keep>(machine: &mut Machine<K>, head: &Head) -> Result<Journal, OpenFault>
     requires new { state_of K.record_of machine.old ≡ manufactured (replicate 256 0) }
     requires never_refused { K.can_refuse ≡ false }
@@ -93,8 +93,8 @@ fn open_head<K: Keep>(machine: &mut Machine<K>, head: &Head) -> Result<Journal, 
     }
 }
 
-/// Opens the device from the head of a text, in a machine just manufactured with all-zero random
-/// bytes. On error, the machine is unspecified.
+/// Opens the device from the head of a journal, in a machine just manufactured from all-zero random
+/// bytes. On error, the machine's state is unspecified.
 pub(crate) fn start<K: Keep>(machine: &mut Machine<K>, text: &[u8]) -> Result<Started, OpenFault>
     requires new { state_of K.record_of machine.old ≡ manufactured (replicate 256 0) }
     requires never_refused { K.can_refuse ≡ false }
@@ -113,8 +113,8 @@ pub(crate) fn start<K: Keep>(machine: &mut Machine<K>, text: &[u8]) -> Result<St
     }
 }
 
-/// Opens a device and its completing layer from their journal, in a machine just manufactured with
-/// all-zero random bytes. On error, the machine is unspecified.
+/// Opens a device and its completing layer from their journal, in a machine just manufactured from
+/// all-zero random bytes. On error, the machine's state is unspecified.
 pub fn open<K: Keep>(
     machine: &mut Machine<K>,
     text: &[u8],

@@ -48,7 +48,7 @@ pub enum RetellFault {
     Write,
 }
 
-/// Converts a journal: opens the device from its head in a machine just manufactured with all-zero
+/// Converts a journal: opens the device from its head in a machine just manufactured from all-zero
 /// random bytes, and executes its entries again. An incomplete entry at the end was never answered,
 /// and is not converted.
 pub fn retell<K: Keep, W: Write>(
@@ -84,7 +84,7 @@ pub fn retell<K: Keep, W: Write>(
     }
 }
 
-/// Executes the entries of a text that continues a journal, and converts each.
+/// Executes the entries in input that continues a journal, and converts each.
 fn retell_entries<K: Keep, W: Write>(
     form: Telling,
     journal: &mut Journal,

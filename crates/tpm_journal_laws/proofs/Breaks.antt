@@ -1,4 +1,4 @@
--- Lines, which contain no line feed, and how a text is split into lines.
+-- Lemmas about lines, which contain no line feed, and about splitting bytes into lines.
 use Rattle.std.proofs.Common.{◌≡◌, ℕ, ◌+◌, ◌==◌, Bool, false, cond, List, [], ◌∷◌, ◌++◌, Some, None, refl, sym, ap, ◌∙◌, inl, inr, arith}
 use Rattle.std.specs.Prelude.{slice_index}
 use Rattle.std.specs.List.{AllByRecursion, onto_first}
@@ -8,7 +8,7 @@ use Rattle.std.proofs.lemmas.Bool.{cases_lt}
 use Rattle.std.proofs.lemmas.List.{get_or_past}
 use Rattle.tpmsim_script.specs.Line.{lines_of}
 
--- The text contains no line feed.
+-- The bytes contain no line feed.
 abbrev pub Unbroken : List ℕ → Type 0
 Unbroken text = AllByRecursion (λ byte. (byte == 10) ≡ false) text
 
@@ -16,7 +16,7 @@ pub unbroken_joined : (front back : List ℕ) → Unbroken front → Unbroken ba
 unbroken_joined [] back f b = b
 unbroken_joined (byte ∷ front) back f b = (f.0, unbroken_joined front back f.1 b)
 
--- The first line of a text is the text before the first line feed.
+-- The first line of a text ends before the first line feed.
 pub line_first : (line rest : List ℕ) → Unbroken line → lines_of (line ++ 10 ∷ rest) ≡ line ∷ lines_of rest
 line_first [] rest h = refl
 line_first (byte ∷ line) rest h =

@@ -155,7 +155,7 @@ entry_split sum e rest =
     lines_grouped (mark_line sum (mark_of e)) (codes "wait ") (ten_digits e.elapsed) (10 ∷ []) (codes "loc ") ((48 + e.locality) ∷ [])
     (codes "entropy ") (encode_lower (shown e.drawn)) (codes "cmd ") (encode_lower e.buffer) rest
 
--- splitting the text of an entry into lines yields these five lines
+-- splitting an encoded entry into lines yields these five lines
 pub entry_lines : (sum : ℕ) (e : PlainEntry) (rest : List ℕ) → lines_of (entry_text sum e ++ rest)
     ≡ mark_front entry_word (mark_of e) (sum_from sum (mark_of e)) ∷ wait_line e ∷ loc_line e ∷ entropy_line e ∷ cmd_line e ∷ lines_of rest
 entry_lines sum e rest =
@@ -208,7 +208,7 @@ unfolding head_text content_line
 head_split kind clock content rest =
     head_grouped (marked_line (head_word kind) (head_mark clock content) (head_sum clock content)) (codes "# ") (encode_lower content) (10 ∷ []) rest
 
--- splitting the text of a head into lines yields these two lines
+-- splitting an encoded head into lines yields these two lines
 pub head_lines : (kind : HeadKind) (clock : ℕ) (content rest : List ℕ) → lines_of (head_text kind clock content ++ rest)
     ≡ mark_front (head_word kind) (head_mark clock content) (head_sum clock content) ∷ content_line content ∷ lines_of rest
 head_lines kind clock content rest =

@@ -1,4 +1,4 @@
--- The time of a journal follows the clock.
+-- The time of a journal follows the host's clock.
 use Rattle.std.proofs.Common.{◌≡◌, ℕ, ◌+◌, ◌-◌, ◌^◌, ◌<◌, ◌≤◌, [], ◌∷◌, refl, arith}
 use Rattle.tpm_journal.specs.Command.{elapsed_of}
 use Rattle.tpm_journal.specs.State.{time_after}
@@ -13,7 +13,7 @@ reaches time now ahead near small = omega (arith, ahead, near, small)
 pub goes_with_clock : GoesWithClock
 goes_with_clock j now buffer locality completes random seen ahead near small = reaches j.time now ahead near small
 
--- the journal's time after a command is not later than the latest clock
+-- the journal's time after a command is at most the latest time of the host's clock
 within : (time now latest : ℕ) → time ≤ latest → latest < 2 ^ 64 → now ≤ latest → time_after time (elapsed_of now time) ≤ latest
 within time now latest before small is = omega (arith, before, small, is)
 

@@ -1,4 +1,4 @@
--- What a device executed from a damaged journal.
+-- Which entries of a damaged journal a device executes.
 use Rattle.std.specs.Prelude.{ℕ, Bool, List, take, Some, None}
 use Rattle.tpm_record.specs.Record.{Record}
 use Rattle.tpm_journal.specs.Replay.{Replays}

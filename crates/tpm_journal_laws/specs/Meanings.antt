@@ -27,7 +27,7 @@ abbrev pub entries_meanings : List PlainEntry → (rest : List (Option Meaning))
 entries_meanings [] rest = rest
 entries_meanings (e ∷ entries) rest = entry_meanings e (entries_meanings entries rest)
 
--- The lines of an entry mean what the entry says, whatever follows.
+-- The lines of an entry have the meanings in `entry_meanings`, whatever follows.
 abbrev pub EntryMeansIt : Type 0
 EntryMeansIt = (sum : ℕ) (e : PlainEntry) (rest : List ℕ) → IsEntry e
     → meanings_of (entry_text sum e ++ rest) ≡ entry_meanings e (meanings_of rest)
@@ -38,7 +38,8 @@ HeadMeansNothing = (kind : HeadKind) (clock : ℕ) (content rest : List ℕ)
     → meanings_of (head_text kind clock content ++ rest)
     ≡ Some DoesNothing ∷ Some DoesNothing ∷ meanings_of rest
 
--- A journal that consists of a head and entries means what its entries say, one after another.
+-- If a journal consists of a head and entries, its lines have the meanings of the entries, one
+-- after another.
 abbrev pub JournalMeansIt : Type 0
 JournalMeansIt = (kind : HeadKind) (clock : ℕ) (content : List ℕ) (entries : List PlainEntry)
     → AllByRecursion IsEntry entries

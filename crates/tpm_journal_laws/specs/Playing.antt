@@ -17,7 +17,7 @@ use Rattle.tpmsim_script.specs.Script.{at_first, play, printed_response, repeate
 abbrev pub scripted : PlainEntry → PlainEvent
 scripted e = Given e.buffer e.locality e.elapsed (repeated (shown e.drawn))
 
--- what a device prints for entries, one after another: each response, as a line of hex
+-- the output for entries executed one after another: each response, as a line of hex
 abbrev pub printed_answers : Record → List PlainEntry → List ℕ
 printed_answers r [] = []
 printed_answers r (e ∷ entries) =

@@ -14,8 +14,9 @@ ghost use Rattle.tpm_journal_laws.specs.Playing.{JournalPlays, PlaysAsExecuted};
 ghost use Rattle.tpm_journal_laws.specs.Times.{BeginsAtClock, GoesWithClock, TellsNoTimeTwice};
 
 /// The line of an entry's mark has no effect. The lines after it wait for the entry's milliseconds,
-/// set its locality and the random bytes that it drew, and execute its buffer. The lines of a head
-/// have no effect. Therefore, a whole journal means what its entries say, one after another.
+/// set its locality and the random bytes that its command drew, and execute its buffer. The lines
+/// of a head have no effect. Therefore, a whole journal means what its entries say, one after
+/// another.
 #[inline(always)]
 #[tactic(auto, using(crate::proofs::Meanings::entry_means_it, crate::proofs::Meanings::head_means_nothing, crate::proofs::Meanings::journal_means_it))]
 pub fn meaning_laws()
@@ -25,8 +26,8 @@ pub fn meaning_laws()
 {}
 
 /// If the content of its head has at most 32,767 bytes, a journal can be played as a script to its
-/// end, which prints the device's responses to its entries. If an entry contains the bytes that its
-/// command drew, its lines execute the command as it was originally executed.
+/// end. The script prints the device's responses to the entries. If an entry contains the bytes
+/// that its command drew, its lines execute the command as it was originally executed.
 #[inline(always)]
 #[tactic(auto, using(crate::proofs::Playing::journal_plays, crate::proofs::Executing::plays_as_executed))]
 pub fn playing_laws()

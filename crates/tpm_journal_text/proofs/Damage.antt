@@ -1,4 +1,4 @@
--- If a text is long enough for an entry but does not begin with one, it is damaged. A torn text
+-- If the input is long enough for an entry but does not begin with one, it is damaged. A torn input
 -- does not begin with an entry.
 use Rattle.std.proofs.Common.{◌≡◌, ℕ, zero, suc, ◌-◌, ◌<◌, ◌≤◌, inl, inr, List, [], ◌∷◌, ◌++◌, length, take, replicate, get_or, refl, ap, subst, sym, ◌∙◌, append_assoc, arith, length-append}
 use Rattle.std.specs.Prelude.{codes}
@@ -14,14 +14,14 @@ use Rattle.tpm_journal_text.proofs.LineFeeds.{lines_end_zeros}
 use Rattle.tpm_journal_text.proofs.Pieces.{line_same}
 use Rattle.tpm_journal_text.proofs.Standing.{entry_text_many, line_stands, mark_bytes, mark_line_many, mark_many, stands}
 
--- If the part before the zeros of a torn text begins with a mark's line, so does the whole text.
+-- If the part before the zeros of a torn input begins with a mark's line, so does the whole input.
 pub torn_line : (sum : ℕ) (text mark : List ℕ) (torn : IsTorn sum text) → BeginsWithMark sum mark torn.front → take 72 text ≡ mark_line sum mark
 torn_line sum text mark torn begins =
     let long : 72 ≤ length torn.front =
     omega (arith, ap length begins.line, mark_line_many sum mark begins.count, length-take 72 torn.front) in
     ap (take 72) torn.is ∙ take-append-le 72 torn.front (replicate torn.zeros 0) long ∙ begins.line
 
--- If a text is long enough for the line of a mark but does not begin with one, it is damaged.
+-- If the input is long enough for the line of a mark but does not begin with one, it is damaged.
 pub no_line : (sum : ℕ) (text : List ℕ) → (HasFewer 72 text → ⊥)
     → ((mark : List ℕ) → length mark ≡ 26 → AreBytes mark → take 72 text ≡ mark_line sum mark → ⊥) → IsDamaged sum text
 no_line sum text long none = record {
@@ -32,14 +32,14 @@ no_line sum text long none = record {
   no_entry = λ e rest is t. none (mark_of e) (mark_many e) (mark_bytes e) (line_stands sum e text rest t);
 }
 
--- If a text begins with the lines of two marks, the marks are equal.
+-- If the input begins with the lines of two marks, the marks are equal.
 pub same_mark : (sum : ℕ) (text mark other : List ℕ) → length mark ≡ 26 → AreBytes mark → take 72 text ≡ mark_line sum mark
     → length other ≡ 26 → AreBytes other → take 72 text ≡ mark_line sum other → mark ≡ other
 same_mark sum text mark other many are line other_many other_are other_line =
     line_same entry_word mark other (sum_from sum mark) (sum_from sum other) are other_are (many ∙ sym other_many) (sym line ∙ other_line)
 
--- If a text begins with the line of a mark and is long enough for an entry with this mark, but does
--- not begin with such an entry, it is damaged.
+-- If the input begins with the line of a mark and is long enough for an entry with this mark, but
+-- does not begin with such an entry, it is damaged.
 pub no_entry_with : (sum : ℕ) (text mark : List ℕ) → length mark ≡ 26 → AreBytes mark → take 72 text ≡ mark_line sum mark
     → (HasFewer (entry_size mark) text → ⊥)
     → ((e : PlainEntry) (rest : List ℕ) → Stands e mark text → text ≡ entry_text sum e ++ rest → ⊥) → IsDamaged sum text
@@ -64,7 +64,7 @@ zero_at zero place = refl
 zero_at (suc zeros) zero = refl
 zero_at (suc zeros) (suc place) = zero_at zeros place
 
--- The line feed at the end of a line is not one of the zeros at the end of a text.
+-- The line feed at the end of a line is not one of the zeros at the end of the input.
 pub line_feed_is_no_zero : (front : List ℕ) (zeros : ℕ) (line rest : List ℕ) → length front ≤ length line
     → line ++ (10 ∷ rest) ≡ front ++ replicate zeros 0 → ⊥
 line_feed_is_no_zero front zeros line rest le same =
@@ -73,7 +73,7 @@ line_feed_is_no_zero front zeros line rest le same =
     ∙ get_or-append_right front (replicate zeros 0) (length line) 0 le ∙ zero_at zeros (length line - length front) in
     absurd (omega (arith, ten))
 
--- the text of an entry without its last line feed
+-- an encoded entry without its last line feed
 pub without_end : (sum : ℕ) → PlainEntry → List ℕ
 without_end sum e =
     (mark_line sum (mark_of e) ++ setting_lines e) ++ (codes "entropy " ++ encode_lower (shown e.drawn) ++ codes "\ncmd " ++ encode_lower e.buffer)
@@ -103,8 +103,8 @@ torn_is_no_entry sum e rest text is t torn =
     line_feed_is_no_zero torn.front torn.zeros (without_end sum e) rest (omega (arith, less, end, a, b, size))
     (sym (ends_a_line sum e rest) ∙ sym t ∙ torn.is)
 
--- If a text begins with the line of a mark and is shorter than the mark's entry, it does not begin
--- with an entry.
+-- If the input begins with the line of a mark and is shorter than the mark's entry, it does not
+-- begin with an entry.
 few_is_no_entry : (sum : ℕ) (e : PlainEntry) (rest text mark : List ℕ) → IsEntry e → text ≡ entry_text sum e ++ rest → mark ≡ mark_of e
     → HasFewer (entry_size mark) text → ⊥
 few_is_no_entry sum e rest text mark is t same has =
@@ -117,7 +117,7 @@ few_is_no_entry sum e rest text mark is t same has =
     line_feed_is_no_zero has.front has.zeros (without_end sum e) rest (omega (arith, fewer, sizes, end, a, b, size))
     (sym (ends_a_line sum e rest) ∙ sym t ∙ has.is)
 
--- If a text begins with the line of a mark and is shorter than the mark's entry, and one of its
+-- If the input begins with the line of a mark and is shorter than the mark's entry, and one of its
 -- lines does not end where a line of that entry ends, it is damaged.
 pub lines_end_otherwise : (sum : ℕ) (text mark : List ℕ) → BeginsWithMark sum mark text → (HasFewer 72 text → ⊥) → HasFewer (entry_size mark) text
     → (LinesEnd mark text → ⊥) → IsDamaged sum text

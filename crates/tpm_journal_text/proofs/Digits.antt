@@ -29,7 +29,7 @@ none_left [] [] e f = refl
 none_left [] (b ∷ bytes) e f = absurd cc
 none_left (d ∷ digits) bytes e f = absurd cc
 
--- If no line feed follows the hex digits of a content, the text does not begin with a line of that
+-- If no line feed follows the hex digits of a content, the input does not begin with a line of that
 -- content.
 pub end_missing : {X : Type 0} (text digits image end : List ℕ) (found : Option X) → text ≡ codes "# " ++ digits
     → digits ≡ encode_lower image ++ end → IfNone found ((rest : List ℕ) → end ≡ 10 ∷ [] ++ rest → ⊥)

@@ -1,4 +1,4 @@
--- The parts of a head are at the expected offsets in its mark and in its text.
+-- The parts of a head are at the expected offsets in its mark and in its encoding.
 use Rattle.std.proofs.Common.{◌≡◌, ℕ, ◌*◌, ◌≤◌, List, [], ◌∷◌, ◌++◌, length, take, drop, get_or, Bool, true, false, refl, ap, sym, ◌∙◌, append_assoc, arith, length-append}
 use Rattle.std.specs.Prelude.{codes}
 use Rattle.std.specs.Int.{w32, w64, from_be_bytes, to_be_bytes}
@@ -63,7 +63,7 @@ head_line_many kind clock content =
 before_many : (kind : HeadKind) (clock : ℕ) (content : List ℕ) → length (head_line kind clock content ++ codes "# ") ≡ 79
 before_many kind clock content = omega (arith, head_line_many kind clock content, length-append (head_line kind clock content) (codes "# "))
 
--- the text after the line of a head's mark
+-- the bytes after the line of a head's mark
 behind_line : (content rest : List ℕ) → List ℕ
 behind_line content rest = codes "# " ++ (encode_lower content ++ (10 ∷ [] ++ rest))
 
@@ -72,7 +72,7 @@ unfolding behind_line
 line_first kind clock content rest =
     parts kind clock content rest ∙ append_assoc (head_line kind clock content) (codes "# ") (encode_lower content ++ (10 ∷ [] ++ rest))
 
--- A head's text begins with the line of its mark.
+-- An encoded head begins with the line of its mark.
 pub head_line_stands : (kind : HeadKind) (clock : ℕ) (content text rest : List ℕ) → text ≡ head_text kind clock content ++ rest
     → take 77 text ≡ marked_line (head_word kind) (head_mark clock content) (head_sum clock content)
 unfolding head_line
@@ -85,7 +85,7 @@ unfolding marked_line
 line_word word bytes rest sum =
     (encode_lower bytes ++ (32 ∷ [] ++ (encode_lower (to_be_bytes w64 sum) ++ (10 ∷ [] ++ rest))), simp append_assoc refl)
 
--- If a text begins with a head, it begins with the word for the head's kind.
+-- If the input begins with a head, it begins with the word for the head's kind.
 word_stands : (kind : HeadKind) (clock : ℕ) (content text rest : List ℕ) → text ≡ head_text kind clock content ++ rest
     → (more : List ℕ) × (text ≡ head_word kind ++ more)
 unfolding head_line
@@ -103,7 +103,7 @@ one_word State Image x y same =
     let no : 50 ≡ 49 = ap (λ (l : List ℕ). get_or l 17 0) same in
     absurd (omega (arith, no))
 
--- If a text begins with the word for a state text, its head contains a state text; otherwise it
+-- If the input begins with the word for a state text, its head contains a state text; otherwise it
 -- contains an image.
 pub is_state : (word text rest : List ℕ) (kind : HeadKind) (clock : ℕ) (content : List ℕ) → word ≡ head_word State → take (length word) text ≡ word
     → text ≡ head_text kind clock content ++ rest → State ≡ kind
@@ -129,7 +129,7 @@ head_text_many kind clock content =
     let c = length-append (head_line kind clock content ++ codes "# " ++ encode_lower content) (10 ∷ []) in
     omega (arith, line, a, b, c, length-encode_with lower_digits content)
 
--- If a mark was read from a text that begins with a head, it is the mark of that head.
+-- If a mark was read from input that begins with a head, it is the mark of that head.
 pub head_mark_stands : (kind : HeadKind) (clock : ℕ) (content mark text rest : List ℕ) → length mark ≡ 20 → AreBytes mark
     → take 77 text ≡ marked_line (head_word kind) mark (sum_from offset_basis mark) → text ≡ head_text kind clock content ++ rest
     → mark ≡ head_mark clock content
@@ -160,7 +160,7 @@ content_line_stands kind clock content text rest t =
     ap (drop 77) (t ∙ line_first kind clock content rest)
     ∙ drop_at (head_line kind clock content) (behind_line content rest) 77 (head_line_many kind clock content)
 
--- If a text begins with the lines of a mark and a content, it begins with a head.
+-- If the input begins with the lines of a mark and a content, it begins with a head.
 head_whole : (kind : HeadKind) (clock : ℕ) (content text rest : List ℕ) → take 77 text ≡ head_line kind clock content
     → drop 77 text ≡ behind_line content rest → text ≡ head_text kind clock content ++ rest
 head_whole kind clock content text rest line behind =
@@ -186,7 +186,7 @@ head_found text mark rest head has is sum line behind size =
       after = after;
     }
 
--- If a text begins with two heads, both are of the same kind.
+-- If the input begins with two heads, both are of the same kind.
 pub same_kind : (kind other : HeadKind) (clock time : ℕ) (content bytes x y : List ℕ)
     → head_text kind clock content ++ x ≡ head_text other time bytes ++ y → kind ≡ other
 same_kind kind other clock time content bytes x y same =
@@ -194,7 +194,7 @@ same_kind kind other clock time content bytes x y same =
     let b = word_stands other time bytes (head_text kind clock content ++ x) y same in
     one_word kind other a.0 b.0 (sym a.1 ∙ b.1)
 
--- If a text begins with two heads of the same kind, the heads are equal.
+-- If the input begins with two heads of the same kind, the heads are equal.
 pub same_head : (kind : HeadKind) (clock other : ℕ) (content bytes x y : List ℕ) → HasHead kind clock content → HasHead kind other bytes
     → head_text kind clock content ++ x ≡ head_text kind other bytes ++ y → (clock ≡ other) × (content ≡ bytes)
 same_head kind clock other content bytes x y has others same =

@@ -12,12 +12,12 @@ use Rattle.tpm_journal_text.specs.Sum.{sum_from}
 use Rattle.tpm_journal_text.proofs.Damage.{ends_a_line, same_mark, without_end, zero_at}
 use Rattle.tpm_journal_text.proofs.Standing.{buffer_told, drawn_told, entry_text_many, line_stands, mark_bytes, mark_line_many, mark_many}
 
--- a text without the byte at an offset
+-- a list of bytes without the byte at an offset
 abbrev pub without : (place : ℕ) → List ℕ → List ℕ
 without place text = take place text ++ drop (place + 1) text
 
--- If a byte is removed, the bytes before it keep their offset, and the later ones move forward by
--- one.
+-- If a byte is removed, the offsets of the bytes before it are unchanged, and those of the later
+-- bytes decrease by one.
 before_place : (place : ℕ) (text : List ℕ) (at : ℕ) → at < place → place ≤ length text → get_or (without place text) at 0 ≡ get_or text at 0
 before_place place text at before within =
     get_or_append_left (take place text) (drop (place + 1) text) 0 at (omega (arith, before, length-take-le place text within))
@@ -65,7 +65,7 @@ wait_follows sum e =
 
 -- ---- torn
 
--- If a torn text ends with a line feed, it has no zeros at its end.
+-- If a torn input ends with a line feed, it has no zeros at its end.
 no_zeros : (sum : ℕ) (text : List ℕ) (last : ℕ) (torn : IsTorn sum text) → last + 1 ≡ length text → get_or text last 0 ≡ 10 → torn.front ≡ text
 no_zeros sum text last torn many feed =
     elim (cases_lt last (length torn.front)) [

@@ -18,7 +18,7 @@ zero_at (suc count) (suc place) = zero_at count place
 
 -- ---- texts without line feeds
 
--- A text contains no line feed.
+-- These bytes contain no line feed.
 abbrev pub NoFeed : List ℕ → Type 0
 NoFeed text = (place : ℕ) → get_or text place 0 ≡ 10 → ⊥
 
@@ -214,7 +214,7 @@ feeds_end e place is =
 
 -- ---- a prefix of an entry
 
--- If a line feed is found at an offset, the offset is within the text.
+-- If a line feed is found at an offset, the offset is within the bytes.
 pub feed_within : (text : List ℕ) (place : ℕ) → get_or text place 0 ≡ 10 → place < length text
 feed_within text place e =
     elim (cases_lt place (length text)) [
@@ -252,14 +252,15 @@ front_lines_end sum e size is less place there =
       | inr last ↦ absurd (omega (arith, last, small, less))
     ]
 
--- The lines of a prefix of a text end where the lines of the text end.
+-- If the lines of the input end where an entry's lines end, so do those of a prefix.
 pub lines_end_front : (mark front back : List ℕ) → LinesEnd mark (front ++ back) → LinesEnd mark front
 lines_end_front mark front back end place there =
     let at : get_or front (72 + place) 0 ≡ 10 = sym (get_or-drop 72 front place 0) ∙ there in
     end place (get_or-drop 72 (front ++ back) place 0
     ∙ get_or_append_left front back 0 (72 + place) (feed_within front (72 + place) at) ∙ at)
 
--- After zeros are appended to a text, its lines still end where the lines of the mark's entry end.
+-- After zeros are appended to the input, its lines still end where the lines of the mark's entry
+-- end.
 pub lines_end_zeros : (mark front : List ℕ) (count : ℕ) → LinesEnd mark front → LinesEnd mark (front ++ replicate count 0)
 lines_end_zeros mark front count end place there =
     let text = front ++ replicate count 0 in
@@ -274,7 +275,7 @@ lines_end_zeros mark front count end place there =
 
 -- ---- lines that were split off
 
--- The lines after the line of a mark end at the offsets that the mark determines.
+-- All line feeds after the line of a mark are at the offsets that the mark determines.
 abbrev EndAt : (lines : List ℕ) → (drawn_end : ℕ) → Type 0
 EndAt lines drawn_end = (place : ℕ) → get_or lines place 0 ≡ 10 → (place ≡ 15) ⊎ ((place ≡ 21) ⊎ (place ≡ drawn_end))
 

@@ -1,4 +1,4 @@
--- A text can be parsed in only one way.
+-- The bytes of a journal can be parsed in only one way.
 use Rattle.std.proofs.Common.{◌≡◌, ℕ, ◌+◌, ◌*◌, Bool, true, false, List, [], ◌∷◌, ◌++◌, length, take, drop, max, refl, ap, sym, subst, ◌∙◌, append_assoc, arith}
 use Rattle.std.specs.List.{AllByRecursion}
 use Rattle.std.proofs.lemmas.List.{drop_at}
@@ -41,7 +41,7 @@ fields_same e f a b d g h i =
     ∙ ap (λ (l : List ℕ). made f.elapsed f.locality f.completes f.drawn l e.answered) h
     ∙ ap (made f.elapsed f.locality f.completes f.drawn f.buffer) i
 
--- If the parts of two entries are at their offsets in the same mark and the same text, the entries
+-- If the parts of two entries are at their offsets in the same mark and the same bytes, the entries
 -- are equal.
 one_stands : (e f : PlainEntry) (mark text : List ℕ) → Stands e mark text → Stands f mark text → e ≡ f
 one_stands e f mark text a b =
@@ -69,7 +69,7 @@ same_entry sum e f x y is other same =
 
 -- ---- entries
 
--- If a text consists of entries and a torn end, any other parsing of the text finds the same
+-- If the input consists of entries and a torn end, any other parsing of the input finds the same
 -- entries, or only the first of them.
 pub others_are_more : (sum : ℕ) (entries others : List PlainEntry) (rest left : List ℕ) → AllByRecursion IsEntry entries → AllByRecursion IsEntry others
     → entries_text sum entries ++ rest ≡ entries_text sum others ++ left → IsTorn (sum_after_all sum entries) rest

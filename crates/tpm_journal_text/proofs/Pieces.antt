@@ -1,4 +1,4 @@
--- The pieces of a text are at the expected offsets.
+-- The pieces of the input are at the expected offsets.
 use Rattle.std.proofs.Common.{◌≡◌, ℕ, ◌*◌, ◌+◌, List, [], ◌∷◌, ◌++◌, length, take, drop, Result, Ok, IsErr, refl, ap, sym, ◌∙◌, append_assoc, arith, length-append, take_all}
 use Rattle.std.specs.Prelude.{MatchResult, true, nat_eq}
 use Rattle.std.specs.Cmp.Lexicographic.{pointwise}
@@ -13,7 +13,7 @@ use Rattle.hex.specs.declared.error.FromHexError.{FromHexError}
 use Rattle.tpm_journal_text.specs.Marked.{marked_line}
 use Rattle.tpm_hex.specs.declared.NotHex.{NotHex}
 
--- A piece is at its offset in a text, whatever follows it.
+-- A piece is at its offset in the input, whatever follows it.
 pub piece_in : (front piece back text : List ℕ) (size place count : ℕ) → take size text ≡ front ++ piece ++ back
     → length front ≡ place → length piece ≡ count → take count (drop place text) ≡ piece
 piece_in front piece back text size place count e at of =
@@ -55,7 +55,7 @@ all_equal (byte ∷ text) = rw (eq-eqb byte byte refl, all_equal text) refl
 pub same_is_equal : (text other : List ℕ) → text ≡ other → pointwise nat_eq text other ≡ true
 same_is_equal text other e = rw (← e) (all_equal text)
 
--- If a text consists of a prefix and a rest, it begins with the prefix.
+-- If the input consists of a prefix and a rest, it begins with the prefix.
 pub front_of : (front rest text : List ℕ) (size : ℕ) → length front ≡ size → text ≡ front ++ rest → take size text ≡ front
 front_of front rest text size many e = ap (take size) e ∙ take_at front rest size many
 

@@ -1,4 +1,4 @@
--- The parts of an entry are at the expected offsets in its mark and in its text.
+-- The parts of an entry are at the expected offsets in its mark and in its encoding.
 use Rattle.std.proofs.Common.{◌≡◌, ℕ, ◌+◌, ◌*◌, ◌<◌, List, [], ◌∷◌, ◌++◌, length, take, drop, max, slice_index, refl, ap, sym, ◌∙◌, append_assoc, arith, length-append}
 use Rattle.std.specs.Prelude.{codes}
 use Rattle.std.specs.Int.{w32, w64, from_be_bytes}
@@ -54,7 +54,7 @@ regrouped : (line setting word drawn middle buffer end rest : List ℕ)
     ≡ (line ++ setting ++ word) ++ (drawn ++ (middle ++ (buffer ++ (end ++ rest))))
 regrouped line setting word drawn middle buffer end rest = simp append_assoc refl
 
--- the part of an entry's text before the bytes that it drew
+-- the part of an encoded entry before the random bytes that its command drew
 before_drawn : (sum : ℕ) → PlainEntry → List ℕ
 before_drawn sum e = mark_line sum (mark_of e) ++ setting_lines e ++ codes "entropy "
 
@@ -121,7 +121,7 @@ stands sum e mark text rest is m t =
           (take_at (encode_lower e.buffer) (10 ∷ [] ++ rest) (2 * length e.buffer) (length-encode_with lower_digits e.buffer));
     }
 
--- An entry's text begins with the line of its mark.
+-- An encoded entry begins with the line of its mark.
 pub line_stands : (sum : ℕ) (e : PlainEntry) (text rest : List ℕ) → text ≡ entry_text sum e ++ rest → take 72 text ≡ mark_line sum (mark_of e)
 unfolding entry_text
 line_stands sum e text rest t =
@@ -130,7 +130,7 @@ line_stands sum e text rest t =
     (t ∙ append_assoc (line ++ setting_lines e) (executing_lines e) rest ∙ append_assoc line (setting_lines e) (executing_lines e ++ rest)
     ∙ ap (λ (l : List ℕ). line ++ l) (sym (append_assoc (setting_lines e) (executing_lines e) rest)))
 
--- The text of an entry is not empty.
+-- The encoding of an entry is not empty.
 pub entry_text_some : (sum : ℕ) (e : PlainEntry) → 0 < length (entry_text sum e)
 unfolding entry_text
 entry_text_some sum e =

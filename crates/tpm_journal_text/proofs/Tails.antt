@@ -1,4 +1,4 @@
--- Lemmas about torn texts, and about changes after which a text is still torn.
+-- Lemmas about torn input, and about changes after which it is still torn.
 use Rattle.std.proofs.Common.{◌≡◌, ℕ, zero, suc, ◌-◌, ◌<◌, ◌≤◌, ◌==◌, Bool, true, false, List, [], ◌∷◌, ◌++◌, length, take, drop, max, replicate, inl, inr, refl, ap, sym, ◌∙◌, subst, arith, length-append}
 use Rattle.std.specs.Prelude.{nat_lt}
 use Rattle.std.specs.List.{list_all}
@@ -22,8 +22,8 @@ zeros_are_all : (count : ℕ) → list_all (λ byte. byte == 0) (replicate count
 zeros_are_all zero = refl
 zeros_are_all (suc count) = zeros_are_all count
 
--- If the byte before offset `size` and all later bytes of a text are zeros, the text has fewer than
--- `size` bytes, not counting the zeros at its end.
+-- If the byte before offset `size` and all later bytes of the input are zeros, the input has fewer
+-- than `size` bytes, not counting the zeros at its end.
 pub fewer : (text end : List ℕ) (size : ℕ) → 0 < size → size ≤ length text → end ≡ drop (size - 1) text
     → list_all (λ byte. byte == 0) end ≡ true → HasFewer size text
 fewer text end size some long e all = record {
@@ -33,7 +33,7 @@ fewer text end size some long e all = record {
   fewer = omega (arith, some, long, length-take-le (size - 1) text (omega (arith, long)));
 }
 
--- If a text consists of a prefix and zeros, all bytes after the prefix are zeros.
+-- If the input consists of a prefix and zeros, all bytes after the prefix are zeros.
 zeros_after : (front : List ℕ) (zeros place : ℕ) → length front ≤ place
     → (count : ℕ) × (drop place (front ++ replicate zeros 0) ≡ replicate count 0)
 zeros_after [] zeros place le = (zeros - place, drop-replicate {X = ℕ} place zeros 0)
@@ -53,7 +53,7 @@ whole_is_fewer text size short = record { front = text; zeros = 0; is = sym (app
 
 -- ---- less than an entry
 
--- If a text is too short for an entry, so is each prefix of the text.
+-- If the input is too short for an entry, so is each prefix of it.
 cut_off_front : (sum : ℕ) (front back : List ℕ) → IsCutOff sum (front ++ back) → IsCutOff sum front
 cut_off_front sum front back cut = by (nat_lt (length front) 72) refl
   where
@@ -136,8 +136,8 @@ take_none : (count : ℕ) → take {A = ℕ} count [] ≡ []
 take_none zero = refl
 take_none (suc count) = refl
 
--- Truncating a text that ends with zeros, and then appending zeros, yields a prefix of the text
--- before its zeros, followed by zeros.
+-- Truncating bytes that end with zeros, and then appending zeros, yields a prefix of the bytes
+-- before the zeros, followed by zeros.
 take_zeros : (front : List ℕ) (zeros size more : ℕ) → (count : ℕ) × (left : ℕ)
     × (take size (front ++ replicate zeros 0) ++ replicate more 0 ≡ take count front ++ replicate left 0)
 take_zeros front zeros zero more = (0, more, refl)

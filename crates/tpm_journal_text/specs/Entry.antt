@@ -1,4 +1,4 @@
--- An answered command, and its text in a journal.
+-- An answered command, and its encoding in a journal.
 use Rattle.std.specs.Prelude.{ℕ, ◌+◌, ◌*◌, ◌/◌, ◌%◌, ◌<◌, ◌≤◌, ◌^◌, Bool, true, false}
 use Rattle.std.specs.Prelude.{List, [], ◌∷◌, ◌++◌, codes, drop, length, map, max, take}
 use Rattle.std.specs.Int.{w8, w16, w32, w64, from_be_bytes, to_be_bytes}
@@ -9,8 +9,8 @@ use Rattle.tpm_journal_text.specs.Marked.{marked_line, marked_size}
 use Rattle.tpm_journal_text.specs.Sum.{sum_from, sum_of}
 
 -- an answered command: the milliseconds since the command before it, its locality, whether the
--- completing layer was on, the random bytes that it drew, its buffer, and the checksum of its
--- response
+-- completing layer was on, the random bytes that it drew, its command buffer, and the checksum of
+-- its response
 pub record PlainEntry : Type 0 where
   pub elapsed : ℕ
   pub locality : ℕ
@@ -19,7 +19,7 @@ pub record PlainEntry : Type 0 where
   pub buffer : List ℕ
   pub answered : ℕ
 
--- the largest size of the text of an entry
+-- the largest size of an encoded entry
 abbrev pub entry_room : ℕ
 entry_room = 9216
 
@@ -67,7 +67,8 @@ mark_of e =
 abbrev pub mark_size : ℕ
 mark_size = 26
 
--- the number of random bytes that the entry with this mark drew; below, the size of its buffer
+-- the number of random bytes that the entry with this mark drew; below, the size of its command
+-- buffer
 abbrev pub drawn_size : (mark : List ℕ) → ℕ
 drawn_size mark = from_be_bytes w16 (take 2 (drop 6 mark))
 
@@ -90,13 +91,12 @@ mark_line_size = marked_size entry_word mark_size
 abbrev pub digit_at : (number place : ℕ) → ℕ
 digit_at number place = 48 + number / place % 10
 
--- a number below 10^10 as ten decimal digits
+-- a number below 10^10, as ten decimal digits
 unfoldable pub ten_digits : ℕ → List ℕ
 ten_digits number =
     map (digit_at number) (1000000000 ∷ 100000000 ∷ 10000000 ∷ 1000000 ∷ 100000 ∷ 10000 ∷ 1000 ∷ 100 ∷ 10 ∷ 1 ∷ [])
 
--- the random bytes as a script line contains them: at least one byte, since the line may not be
--- empty
+-- the random bytes for a script line, which may not be empty: a zero byte if the command drew none
 abbrev pub shown : List ℕ → List ℕ
 shown [] = 0 ∷ []
 shown (byte ∷ bytes) = byte ∷ bytes
@@ -120,12 +120,12 @@ drawn_line_end drawn = 30 + 2 * max 1 drawn
 abbrev pub lines_size : (drawn buffer : ℕ) → ℕ
 lines_size drawn buffer = 36 + (2 * max 1 drawn + 2 * buffer)
 
--- the text of an entry: the line of its mark, and the four script lines that execute its command;
--- `sum` is the checksum of all earlier marks
+-- the encoding of an entry: the line of its mark, and the four script lines that execute its
+-- command; `sum` is the checksum of all earlier marks
 unfoldable pub entry_text : (sum : ℕ) → PlainEntry → List ℕ
 entry_text sum e = mark_line sum (mark_of e) ++ setting_lines e ++ executing_lines e
 
--- the size of the text of the entry with this mark
+-- the encoded size of the entry with this mark
 abbrev pub entry_size : (mark : List ℕ) → ℕ
 entry_size mark = mark_line_size + lines_size (drawn_size mark) (buffer_size mark)
 

@@ -30,8 +30,8 @@ head_mark clock content =
 abbrev pub head_sum : (clock : ℕ) → (content : List ℕ) → ℕ
 head_sum clock content = sum_from offset_basis (head_mark clock content)
 
--- the text of a head: the line of its mark, and a line with its content in hex, which has no
--- effect as a line of a script
+-- the encoding of a head: the line of its mark, and a line with its content in hex. Neither line
+-- has an effect in a script
 unfoldable pub head_text : HeadKind → (clock : ℕ) → (content : List ℕ) → List ℕ
 head_text kind clock content =
     marked_line (head_word kind) (head_mark clock content) (head_sum clock content)
@@ -50,7 +50,7 @@ pub record HasHead (kind : HeadKind) (clock : ℕ) (content : List ℕ) : Type 0
   pub small : length content ≤ content_limit kind
   pub are_bytes : AreBytes content
 
--- The text begins with a head that has this kind, clock, content, size and checksum.
+-- The bytes begin with a head that has this kind, clock, content, size and checksum.
 pub record IsHeadOf (text : List ℕ) (head : Head) : Type 0 where
   pub has : HasHead head.kind head.clock head.content.now
   pub whole : head.size ≤ length text

@@ -1,4 +1,4 @@
--- The entries of a journal one after another, and how their text ends.
+-- The entries of a journal one after another, and how their encoding ends.
 use Rattle.std.specs.Prelude.{◌≡◌, ℕ, ◌≤◌, ◌<◌, ◌⊎◌, List, [], ◌∷◌, ◌++◌, drop, get_or, length, replicate, take}
 use Rattle.tpm_bytes.specs.Reading.{AreBytes}
 use Rattle.tpm_journal_text.specs.Entry.{IsEntry, PlainEntry, drawn_line_end, drawn_size, entry_size, entry_text, mark_line}
@@ -6,7 +6,7 @@ use Rattle.tpm_journal_text.specs.declared.reading.Next.{Next}
 use Rattle.tpm_journal_text.specs.declared.reading.Next.TheVariants.{Whole, Torn, Damaged}
 use Rattle.tpm_journal_text.specs.Entry.{plain_entry, mark_line_size, mark_size, sum_after}
 
--- the text of entries; `sum` is the checksum of all marks before the first entry
+-- the encoding of entries; `sum` is the checksum of all marks before the first entry
 abbrev pub entries_text : (sum : ℕ) → List PlainEntry → List ℕ
 entries_text sum [] = []
 entries_text sum (e ∷ entries) = entry_text sum e ++ entries_text (sum_after sum e) entries
@@ -16,7 +16,7 @@ abbrev pub sum_after_all : (sum : ℕ) → List PlainEntry → ℕ
 sum_after_all sum [] = sum
 sum_after_all sum (e ∷ entries) = sum_after_all (sum_after sum e) entries
 
--- A text begins with the line of this mark; `sum` is the checksum of all earlier marks.
+-- The bytes begin with the line of this mark; `sum` is the checksum of all earlier marks.
 pub record BeginsWithMark (sum : ℕ) (mark text : List ℕ) : Type 0 where
   pub count : length mark ≡ mark_size
   pub bytes : AreBytes mark
@@ -28,43 +28,42 @@ abbrev pub EndsLine : (mark : List ℕ) → (place : ℕ) → Type 0
 EndsLine mark place =
     (place ≡ 15) ⊎ ((place ≡ 21) ⊎ (place ≡ drawn_line_end (drawn_size mark)))
 
--- After the line of this mark, the lines of a text end only where the lines of the mark's entry
+-- After the line of this mark, the lines of the input end only where the lines of the mark's entry
 -- end.
 abbrev pub LinesEnd : (mark text : List ℕ) → Type 0
 LinesEnd mark text =
     (place : ℕ) → get_or (drop mark_line_size text) place 0 ≡ 10 → EndsLine mark place
 
--- The text is too short for an entry. Either its first line is truncated. Or its first line
--- contains a mark that announces more bytes than the text has, and the following lines end where
--- the lines of the mark's entry end.
+-- The input is too short for an entry. Either its first line is truncated; or this line contains
+-- the mark of a longer entry, and the following lines end where the lines of that entry end.
 abbrev pub IsCutOff : (sum : ℕ) → List ℕ → Type 0
 IsCutOff sum text =
     (length text < mark_line_size)
     ⊎ ((mark : List ℕ) × BeginsWithMark sum mark text × (length text < entry_size mark)
     × LinesEnd mark text)
 
--- A torn text is too short for an entry, not counting zeros at its end. Killing a process leaves a
--- part of an entry, and a crash of the host may leave zeros instead of the rest.
+-- Torn input is too short for an entry, not counting zeros at its end. If the process is killed, it
+-- leaves a part of an entry, and a crash of the host may leave zeros instead of the rest.
 pub record IsTorn (sum : ℕ) (text : List ℕ) : Type 0 where
   pub front : List ℕ
   pub zeros : ℕ
   pub is : text ≡ front ++ replicate zeros 0
   pub cut_off : IsCutOff sum front
 
--- A text has fewer than `size` bytes, not counting the zeros at its end.
+-- The input has fewer than `size` bytes, not counting the zeros at its end.
 pub record HasFewer (size : ℕ) (text : List ℕ) : Type 0 where
   pub front : List ℕ
   pub zeros : ℕ
   pub is : text ≡ front ++ replicate zeros 0
   pub fewer : length front < size
 
--- A text is not torn, and does not begin with an entry.
+-- The input is not torn, and does not begin with an entry.
 pub record IsDamaged (sum : ℕ) (text : List ℕ) : Type 0 where
   pub not_torn : IsTorn sum text → ⊥
   pub no_entry : (e : PlainEntry) (rest : List ℕ) → IsEntry e → text ≡ entry_text sum e ++ rest → ⊥
 
--- The text begins with an entry of this size, and the checksum after it is `after`; or the text is
--- torn; or it is damaged. `Next` says which of these was found.
+-- `Next` describes the input correctly: it begins with an entry of this size, and the checksum
+-- after the entry is `after`; or it is torn; or it is damaged.
 abbrev pub Finds : (sum : ℕ) → List ℕ → Next → Type 0
 Finds sum text (Whole entry size after) =
     IsEntry (plain_entry entry) × (size ≤ length text)

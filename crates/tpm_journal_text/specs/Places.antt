@@ -1,4 +1,4 @@
--- The offsets of the parts of an entry and of a head, in their marks and texts.
+-- The offsets of the parts of an entry and of a head, in their marks and encodings.
 use Rattle.std.specs.Prelude.{◌≡◌, ℕ, ◌+◌, ◌*◌, ◌≤◌, List, drop, length, max, slice_index, take}
 use Rattle.std.specs.Int.{w32, w64, from_be_bytes}
 use Rattle.hex.specs.Hex.{encode_lower}
@@ -6,7 +6,7 @@ use Rattle.tpm_journal_text.specs.Head.{HasHead, head_size}
 use Rattle.tpm_journal_text.specs.declared.head.HeadKind.{HeadKind}
 use Rattle.tpm_journal_text.specs.Entry.{IsEntry, PlainEntry, buffer_size, drawn_size, flag}
 
--- The parts of an entry are at their offsets in a mark and in a text.
+-- The parts of an entry are at their offsets in a mark and in the input.
 pub record Stands (e : PlainEntry) (mark text : List ℕ) : Type 0 where
   pub is : IsEntry e
   pub elapsed : from_be_bytes w32 (take 4 mark) ≡ e.elapsed
@@ -19,7 +19,7 @@ pub record Stands (e : PlainEntry) (mark text : List ℕ) : Type 0 where
   pub buffer : take (2 * length e.buffer) (drop (102 + 2 * max 1 (length e.drawn) + 5) text)
       ≡ encode_lower e.buffer
 
--- The parts of a head are at their offsets in a mark and in a text.
+-- The parts of a head are at their offsets in a mark and in the input.
 pub record HeadStands (kind : HeadKind) (clock : ℕ) (content : List ℕ) (mark text : List ℕ) : Type 0 where
   pub has : HasHead kind clock content
   pub clock_told : from_be_bytes w64 (take 8 mark) ≡ clock

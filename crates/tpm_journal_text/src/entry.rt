@@ -1,4 +1,4 @@
-//! The text of an answered command.
+//! The encoding of an answered command.
 
 ghost use Rattle.std.specs.Prelude.{◌≡◌, ◌<◌, ◌≤◌, take, length};
 ghost use Rattle.tpm_journal_text.specs.Entry.{digit_at, ten_digits};
@@ -11,10 +11,10 @@ use tpm_bytes::Sink;
 /// The largest size of a buffer in an entry. A longer buffer is refused like one of 4,097 bytes.
 pub const ENTRY_LIMIT: usize = 4_097;
 
-/// The largest size of the text of an entry.
+/// The largest size of an encoded entry.
 pub const ENTRY_ROOM: usize = 9_216;
 
-/// The first word of an entry's text.
+/// The first word of an encoded entry.
 pub(crate) const ENTRY_WORD: &[u8] = b"# ";
 
 /// An answered command.
@@ -98,8 +98,8 @@ impl<'a> Entry<'a> {
         put(room, place, b"\n")
     }
 
-    /// Returns the random bytes as a script line contains them: at least one byte, since the line
-    /// may not be empty.
+    /// Returns the random bytes for a script line, which may not be empty: a zero byte if the
+    /// command drew none.
     fn shown(&self) -> &[u8]
         ensures value { result.now ≡ shown self.now.drawn.now }
         ensures size { length result.now ≡ max 1 (length self.now.drawn.now) }
@@ -131,8 +131,8 @@ impl<'a> Entry<'a> {
         put(room, place, b"\n")
     }
 
-    /// Writes the text of the entry to the beginning of a buffer, and returns its size. Adds the
-    /// entry's mark to `sum`, the checksum of all earlier marks.
+    /// Writes the entry to the beginning of a buffer, and returns its size. Adds the entry's mark
+    /// to `sum`, the checksum of all earlier marks.
     #[tactic(auto, unfolding(crate::specs::Entry::entry_text))]
     pub fn write(&self, sum: &mut u64, room: &mut [u8]) -> usize
         requires entry { IsEntry (plain_entry self.now) }

@@ -26,12 +26,12 @@ const STATE_LIMIT: usize = 36_864;
 /// The largest size of the content of any head.
 pub const CONTENT_LIMIT: usize = STATE_LIMIT;
 
-/// The sizes of a head's mark, and of the mark's line, in bytes.
+/// The sizes of a head's mark and of the line that contains it, in bytes.
 pub(crate) const MARK_SIZE: usize = 20;
 
 pub(crate) const MARK_LINE_SIZE: usize = 77;
 
-/// A head that was read from a text.
+/// A head that was decoded.
 #[derive(Clone, Copy)]
 pub struct Head<'a> {
     pub kind: HeadKind,
@@ -39,7 +39,7 @@ pub struct Head<'a> {
     pub clock: u64,
     /// The image or the state text in the head.
     pub content: &'a [u8],
-    /// The size of the head's text.
+    /// The encoded size of the head.
     pub size: usize,
     /// The checksum of the head's mark.
     pub sum: u64,
@@ -92,8 +92,8 @@ pub(crate) fn mark_of(clock: u64, front: &[u8], back: &[u8]) -> Sink<MARK_SIZE>
     mark
 }
 
-/// Writes the head for this clock and this content, which comes in two parts, to a buffer. Returns
-/// the size, and sets `sum` to the checksum of the head's mark.
+/// Writes the head for this clock and this content to a buffer. The content comes in two parts.
+/// Returns the size, and sets `sum` to the checksum of the head's mark.
 #[tactic(auto, using(crate::proofs::Pieces::hex_joined), unfolding(crate::specs::Head::head_text))]
 fn put_head(
     kind: HeadKind,

@@ -1,4 +1,4 @@
-//! Reads the head at the beginning of a text.
+//! Reads the head at the beginning of the input.
 
 ghost use Rattle.std.specs.Prelude.{◌≡◌, ◌≤◌, ◌++◌, ◌∷◌, [], ℕ, List, IfNone, IfSome, IsSomeAnd, codes, drop, length, take};
 ghost use Rattle.hex.specs.Hex.{encode_lower};
@@ -16,7 +16,7 @@ use crate::strip::{strip, strip_hex};
 use crate::sum::OFFSET_BASIS;
 use tpm_bytes::is_equal;
 
-/// The offset of the content in the text of a head.
+/// The offset of the content in an encoded head.
 const CONTENT_PLACE: usize = MARK_LINE_SIZE + 2;
 
 /// The clock in the mark of a head.
@@ -35,7 +35,7 @@ fn count_of(mark: &[u8; MARK_SIZE]) -> usize
     u32::from_be_bytes([mark[8], mark[9], mark[10], mark[11]]) as usize
 }
 
-/// The kind of the head at the beginning of a text, if there is a head.
+/// The kind of the head at the beginning of the input, if there is a head.
 fn kind_of(text: &[u8]) -> HeadKind
     ensures { (kind : HeadKind) (clock : ℕ) (content rest : List ℕ)
         → text.now ≡ head_text kind clock content ++ rest → result ≡ kind }
@@ -47,8 +47,8 @@ fn kind_of(text: &[u8]) -> HeadKind
     }
 }
 
-/// Reads the mark of a head of this kind at the beginning of a text. Returns the mark's checksum,
-/// or None if there is no line with such a mark.
+/// Reads the mark of a head of this kind at the beginning of the input. Returns the mark's
+/// checksum, or None if there is no line with such a mark.
 #[tactic(auto, using(crate::proofs::HeadStanding::word_many))]
 fn read_mark(kind: HeadKind, text: &[u8], mark: &mut [u8; MARK_SIZE]) -> Option<u64>
     requires { head_line_size ≤ length text.now }
@@ -63,7 +63,7 @@ fn read_mark(kind: HeadKind, text: &[u8], mark: &mut [u8; MARK_SIZE]) -> Option<
     read_marked_line(text, kind.word(), OFFSET_BASIS, mark)
 }
 
-/// The content of a head whose mark was read, or None if the text does not contain it.
+/// The content of a head whose mark was read, or None if the input does not contain it.
 fn content_behind<'a>(
     kind: HeadKind,
     mark: &[u8; MARK_SIZE],
@@ -83,7 +83,7 @@ fn content_behind<'a>(
     read_hex(text, CONTENT_PLACE, content)
 }
 
-/// The text after a line with this content, or None if the text does not begin with that line.
+/// The input after a line with this content, or None if the input does not begin with that line.
 fn behind_content<'a>(text: &'a [u8], content: &[u8]) -> Option<&'a [u8]>
     ensures some { IfSome result (λ rest. text.now
         ≡ codes "# " ++ (encode_lower content.now ++ (10 ∷ [] ++ rest.now))) }
@@ -95,7 +95,7 @@ fn behind_content<'a>(text: &'a [u8], content: &[u8]) -> Option<&'a [u8]>
     strip(end, b"\n")
 }
 
-/// Reads the head of this kind at the beginning of a text. Stores its content in `content`.
+/// Reads the head of this kind at the beginning of the input. Stores its content in `content`.
 fn read_head_of<'a>(
     kind: HeadKind,
     text: &[u8],
@@ -134,7 +134,7 @@ fn read_head_of<'a>(
     })
 }
 
-/// Reads the head at the beginning of a text. Stores its content in `content`.
+/// Reads the head at the beginning of the input. Stores its content in `content`.
 pub fn read_head<'a>(text: &[u8], content: &'a mut [u8; CONTENT_LIMIT]) -> Option<Head<'a>>
     ensures head { IfSome result (IsHeadOf text.now) }
     ensures only { (kind : HeadKind) (clock : ℕ) (bytes : List ℕ) (rest : List ℕ)

@@ -1,4 +1,4 @@
-//! Writes the pieces of a text one after another into a buffer.
+//! Writes pieces of bytes one after another into a buffer.
 
 ghost use Rattle.std.specs.Prelude.{◌≡◌, ◌+◌, ◌*◌, ◌≤◌, ◌++◌, length, take};
 ghost use Rattle.hex.specs.Hex.{encode_lower};

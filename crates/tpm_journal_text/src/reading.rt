@@ -1,4 +1,4 @@
-//! Reads the entry at the beginning of a text.
+//! Reads the entry at the beginning of the input.
 
 ghost use Rattle.std.specs.Prelude.{◌≡◌, ◌+◌, ◌*◌, ◌≤◌, ◌<◌, ◌++◌, ℕ, List, true, IfNone, IfSome, IsSomeAnd, drop, length, max, take};
 ghost use Rattle.hex.specs.Hex.{encode_lower};
@@ -14,7 +14,7 @@ use crate::torn::{has_fewer, lines_end};
 use tpm_bytes::is_equal;
 use tpm_hex::decode;
 
-/// The sizes of an entry's mark, and of the mark's line, in bytes.
+/// The sizes of an entry's mark and of the line that contains it, in bytes.
 const MARK_SIZE: usize = 26;
 
 const MARK_LINE_SIZE: usize = 72;
@@ -22,21 +22,21 @@ const MARK_LINE_SIZE: usize = 72;
 /// The size of a buffer for the random bytes and the command of an entry.
 pub const BYTES_ROOM: usize = 256 + ENTRY_LIMIT;
 
-/// The offset of the random bytes in the text of an entry.
+/// The offset of the random bytes in an encoded entry.
 const DRAWN_PLACE: usize = 102;
 
-/// What a text begins with: an entry, a part too short for an entry, or neither.
+/// The beginning of the input: an entry, a part too short for an entry, or neither.
 pub enum Next<'a> {
-    /// An entry, the size of its text, and the checksum of all marks including its own.
+    /// An entry, its encoded size, and the checksum of all marks including its own.
     Whole {
         entry: Entry<'a>,
         size: usize,
         sum: u64,
     },
-    /// A text too short for an entry. Its lines end where an entry's lines end, and only zeros may
+    /// A part too short for an entry. Its lines end where an entry's lines end, and only zeros may
     /// follow it.
     Torn,
-    /// Neither an entry nor a part of one that a crash left.
+    /// Neither an entry nor a part of an entry that a crash could leave.
     Damaged,
 }
 
@@ -49,7 +49,7 @@ fn u16_at(mark: &[u8; MARK_SIZE], place: usize) -> usize
     usize::from(u16::from_be_bytes([mark[place], mark[place + 1]]))
 }
 
-/// Decodes the hex at an offset in a text, or returns None if it is not hex.
+/// Decodes the hex at an offset in the input, or returns None if it is not hex.
 pub(crate) fn read_hex<'a>(text: &[u8], place: usize, room: &'a mut [u8]) -> Option<&'a [u8]>
     requires { place + 2 * length room.old ≤ length text.now }
     ensures size { IfSome result (λ read. length read.now ≡ length room.old) }
@@ -66,14 +66,14 @@ pub(crate) fn read_hex<'a>(text: &[u8], place: usize, room: &'a mut [u8]) -> Opt
     }
 }
 
-/// The number in the first four bytes of a mark.
+/// The elapsed milliseconds, in the first four bytes of a mark.
 fn u32_at(mark: &[u8; MARK_SIZE]) -> u32
     ensures { result ≡ from_be_bytes w32 (take 4 mark.now) }
 {
     u32::from_be_bytes([mark[0], mark[1], mark[2], mark[3]])
 }
 
-/// The number in the last eight bytes of a mark.
+/// The response's checksum, in the last eight bytes of a mark.
 fn u64_at(mark: &[u8; MARK_SIZE]) -> u64
     ensures { result ≡ from_be_bytes w64 (take 8 (drop 18 mark.now)) }
 {
@@ -82,7 +82,7 @@ fn u64_at(mark: &[u8; MARK_SIZE]) -> u64
     ])
 }
 
-/// The size of the entry's text, according to the entry's mark.
+/// The encoded size of the entry, according to the entry's mark.
 fn size_told(mark: &[u8; MARK_SIZE]) -> usize
     ensures { result ≡ entry_size mark.now }
 {
@@ -96,7 +96,7 @@ fn drawn_end(mark: &[u8; MARK_SIZE]) -> usize
     30 + 2 * u16_at(mark, 6).max(1)
 }
 
-/// The entry that follows its mark in a text, or None if there is none.
+/// The entry that follows its mark in the input, or None if there is none.
 fn entry_behind<'a>(
     mark: &[u8; MARK_SIZE],
     text: &[u8],
@@ -125,7 +125,7 @@ fn entry_behind<'a>(
     })
 }
 
-/// Whether the text begins with `front`.
+/// Whether `text` begins with `front`.
 pub(crate) fn begins_with(text: &[u8], front: &[u8]) -> bool
     ensures yes { result ≡ true → (length front.now ≤ length text.now)
         × (take (length front.now) text.now ≡ front.now) }
@@ -138,7 +138,7 @@ pub(crate) fn begins_with(text: &[u8], front: &[u8]) -> bool
     is_equal(begin, front)
 }
 
-/// Classifies a text that begins with the line of a mark and is shorter than the mark's entry.
+/// Classifies input that begins with the line of a mark and is shorter than the mark's entry.
 fn less_than_entry<'a>(text: &[u8], mark: &[u8; MARK_SIZE]) -> Next<'a>
     requires { 72 ≤ length text.now }
     ensures { (sum : ℕ) → BeginsWithMark sum mark.now text.now → (HasFewer 72 text.now → ⊥)
@@ -152,8 +152,8 @@ fn less_than_entry<'a>(text: &[u8], mark: &[u8; MARK_SIZE]) -> Next<'a>
     }
 }
 
-/// Reads the entry at the beginning of a text. `sum` is the checksum of all earlier marks. Decodes
-/// the entry into `bytes`, and encodes it again in `room` to compare it with the text.
+/// Reads the entry at the beginning of the input. `sum` is the checksum of all earlier marks.
+/// Decodes the entry into `bytes`, and encodes it again in `room` to compare it with the input.
 pub fn read_entry<'a>(
     sum: u64,
     text: &[u8],

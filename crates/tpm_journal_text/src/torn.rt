@@ -1,4 +1,4 @@
-//! The part of an entry that a crash leaves, which may be followed by zeros.
+//! The part of an entry that a crash leaves. Zeros may follow it.
 
 ghost use Rattle.std.specs.Prelude.{◌≡◌, ◌==◌, ◌+◌, ◌≤◌, ◌<◌, ◌⊎◌, ◌↔◌, ◌++◌, ℕ, List, [], true, false, drop, get_or, length, replicate, take};
 ghost use Rattle.std.specs.List.{list_all};
@@ -12,7 +12,7 @@ fn are_zeros(bytes: &[u8]) -> bool
     bytes.iter().all(|byte| *byte == 0)
 }
 
-/// Whether a text has fewer than `size` bytes, not counting the zeros at its end.
+/// Whether `text` has fewer than `size` bytes, not counting the zeros at its end.
 pub(crate) fn has_fewer(text: &[u8], size: usize) -> bool
     requires { 0 < size }
     ensures yes { result ≡ true → HasFewer size text.now }
@@ -50,7 +50,7 @@ pub(crate) fn lines_end(lines: &[u8], drawn_end: usize) -> bool
     true
 }
 
-/// If a crash leaves nothing of an entry, or a prefix of it, possibly followed by zeros, the text
+/// If a crash leaves nothing of an entry, or a prefix of it, possibly followed by zeros, this rest
 /// is torn. It stays torn if another crash truncates it or adds zeros. An entry is not torn. If any
 /// byte of an entry except the last is removed, the entry is damaged. The function does nothing at
 /// run time.

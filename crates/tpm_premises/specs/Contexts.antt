@@ -31,7 +31,7 @@ four_more r = one_more (one_more (one_more (one_more r)))
 abbrev pub full : Record
 full = four_more (four_more without_object)
 
--- the layer at its start; below, after its first context
+-- the completing layer at its start; below, after its first context
 abbrev pub first_layer : Completion
 first_layer = new_completion 1
 

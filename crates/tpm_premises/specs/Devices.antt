@@ -25,7 +25,7 @@ holding byte =
       };
     }
 
--- Two devices differ only in the data of an index, which is secret.
+-- Two devices differ only in the data of an NV index, and these data are secret.
 pub record AreTwoSecrets : Type 0 where
   pub secrets : DifferInSecrets (of_data (λ number. true) (λ public. true)) (holding 0) (holding 1)
   pub differ : holding 0 ≢ holding 1

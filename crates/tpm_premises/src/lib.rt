@@ -24,7 +24,8 @@ pub fn policy_premise()
     ensures { EachIsWritten }
 {}
 
-/// A command uses an object without userWithAuth, whose authPolicy is the digest of a policy.
+/// A command uses an object that has no userWithAuth, and whose authPolicy is the digest of a
+/// policy.
 #[inline(always)]
 #[tactic(auto, using(crate::proofs::Uses::has_use))]
 pub fn use_premise()

@@ -18,7 +18,7 @@ use Rattle.tpm_snapshot.specs.Restoring.{HasState}
 differ : {X E : Type 0} (x : X) (e : E) → (let done : Result X E = Ok x in done) ≡ Err e → ⊥
 differ x e is = absurd cc
 
--- decoding the text of a state returns that state, without a fault
+-- decoding the state text of a state returns that state, without a fault
 module _ (state : WholeState) (text : List ℕ) (is : IsWholeState state) (same : text ≡ state_text state) where
   told_again : state_of_text text ≡ Ok state
   told_again = ap state_of_text same ∙ text_told state is

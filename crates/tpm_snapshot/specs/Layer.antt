@@ -1,14 +1,14 @@
--- The part of a state text that stores the completing layer: each number in the layer's state.
+-- The part of a state text that encodes the completing layer: each number in the layer's state.
 use Rattle.std.specs.Prelude.{Option, Some, None}
 use Rattle.tpm_completion.specs.Completion.{new_completion}
 use Rattle.tpm_completion.specs.declared.completion.Completion.{Completion}
 use Rattle.tpm_state_text.specs.declared.layer.Layer.{Layer}
 
--- the part of a state text that stores the layer
+-- the part of a state text that encodes the layer
 abbrev pub layer_of : Completion → Layer
 layer_of c = record { start = c.start; count = c.count; sessions = c.sessions }
 
--- the layer in a text; if the text contains no layer, a new layer with start number 0
+-- the layer that a state text encodes; if it encodes none, a new layer with start number 0
 abbrev pub completion_of : Option Layer → Completion
 completion_of None = new_completion 0
 completion_of (Some layer) =

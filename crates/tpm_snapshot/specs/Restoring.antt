@@ -7,7 +7,7 @@ use Rattle.tpm_state_text.specs.declared.fault.RestoreFault.{RestoreFault}
 use Rattle.tpm_state_text.specs.declared.fault.RestoreFault.TheVariants as unrestored
 use Rattle.tpm_state_text.specs.declared.layer.Layer.{Layer}
 
--- The machine and the returned layer are exactly this state; or an allocation failed.
+-- The machine and the returned layer have exactly this state, or an allocation failed.
 abbrev pub HasState : Bool → WholeState → Record → Result (Option Layer) RestoreFault → Type 0
 HasState can state device (Ok layer) = state_of device layer ≡ state
 HasState can state device (Err (unrestored.Text fault)) = ⊥

@@ -29,7 +29,7 @@ fn sessions_of(sessions: &[u64; 16]) -> [u64; 16]
     saved
 }
 
-/// Returns the part of a state text that stores the layer.
+/// Returns the part of a state text that encodes the layer.
 pub fn layer_of(completion: &Completion) -> Layer
     ensures value { result ≡ layer_of completion.now }
     ensures is_layer { IsLayer result }
@@ -42,7 +42,8 @@ pub fn layer_of(completion: &Completion) -> Layer
     }
 }
 
-/// Returns the layer in a text; if the text contains none, a new layer with start number 0.
+/// Returns the layer that a state text encodes; if it encodes none, a new layer with start number
+/// 0.
 pub fn completion_of(layer: Option<&Layer>) -> Completion
     ensures { result ≡ completion_of (option_copied layer.entry) }
 {

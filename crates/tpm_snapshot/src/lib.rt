@@ -3,8 +3,8 @@
 //! A device as a state text: its complete state. A device that is restored from the text
 //! continues from the same state.
 //!
-//! [`snapshot_into`] writes the text of a machine into the caller's buffer. [`restored`],
-//! [`restore_new`] and [`restore_into`] read such a text, of any version; [`resume_new`] reads only
+//! [`snapshot_into`] writes the state text of a machine into the caller's buffer. [`restored`],
+//! [`restore_new`] and [`restore_into`] read a state text of any version; [`resume_new`] reads only
 //! the version that is written. [`layer_of`] and [`completion_of`] convert between the completing
 //! layer and its part of a state text. The crate uses the machine and the completing layer, and
 //! tpm_state_text for the bytes.

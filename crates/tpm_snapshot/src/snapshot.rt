@@ -20,7 +20,7 @@ use tpm_record::Keep;
 use tpm_state_text::{Layer, RestoreFault};
 
 /// Writes the state text of a machine, with its completing layer, to the beginning of a buffer, if
-/// it fits. Returns the size of the text. The call allocates no memory.
+/// it fits. Returns the size of the state text. The call allocates no memory.
 pub fn snapshot_into<K: Keep>(
     machine: &Machine<K>,
     layer: Option<&Layer>,
@@ -35,9 +35,9 @@ pub fn snapshot_into<K: Keep>(
     tpm_state_text::snapshot_into(machine.keep(), layer, buffer)
 }
 
-/// Replaces a machine just manufactured with all-zero random bytes by the machine that a state text
-/// encodes, without moving it. Returns the completing layer, or the first fault of the text. On
-/// error, the machine is unspecified.
+/// Replaces a machine just manufactured from all-zero random bytes with the machine that a state
+/// text encodes, without moving it. Returns the completing layer, or the first fault of the bytes.
+/// On error, the machine's state is unspecified.
 #[tactic(auto, using(crate::proofs::Restoring::new_again, crate::proofs::Restoring::has_follows))]
 pub fn restore_new<K: Keep>(
     machine: &mut Machine<K>,
@@ -46,11 +46,12 @@ pub fn restore_new<K: Keep>(
     requires { state_of K.record_of machine.old ≡ manufactured (replicate 256 0) }
     ensures exact { RestoresNew K.can_refuse (state_of_text text.now)
         (state_of K.record_of machine.new) result }
-    // The text of a device restores exactly that device, unless an allocation fails.
+    // The state text of a device restores exactly that device, unless an allocation fails.
     ensures again { (state : WholeState) → IsWholeState state → text.now ≡ state_text state
         → HasState K.can_refuse state (state_of K.record_of machine.new) result }
 
-    // The machine follows the history of the device that wrote the text, without a power cycle.
+    // The machine follows the history of the device that wrote the state text, without a power
+    // cycle.
     ensures history { (state : WholeState) (history : History) → IsWholeState state
         → Follows state.device history → text.now ≡ state_text state
         → IfOk result (λ layer. Follows (state_of K.record_of machine.new) history) }
@@ -58,8 +59,8 @@ pub fn restore_new<K: Keep>(
     fill(machine, text)
 }
 
-/// Replaces a new machine by the machine that a state text encodes. The contract does not mention
-/// the device that wrote the text.
+/// Replaces a new machine with the machine that a state text encodes. The contract does not mention
+/// the device that wrote the state text.
 fn fill<K: Keep>(machine: &mut Machine<K>, text: &[u8]) -> Result<Option<Layer>, RestoreFault>
     requires { state_of K.record_of machine.old ≡ manufactured (replicate 256 0) }
     ensures { RestoresNew K.can_refuse (state_of_text text.now) (state_of K.record_of machine.new)
@@ -68,7 +69,7 @@ fn fill<K: Keep>(machine: &mut Machine<K>, text: &[u8]) -> Result<Option<Layer>,
     tpm_state_text::restore_new(machine.keep_mut(), text)
 }
 
-/// Restores a machine like [`restore_new`], but accepts only a text of the current version.
+/// Restores a machine like [`restore_new`], but accepts only the current version.
 pub fn resume_new<K: Keep>(
     machine: &mut Machine<K>,
     text: &[u8],
@@ -81,7 +82,7 @@ pub fn resume_new<K: Keep>(
 }
 
 /// Returns the machine that a state text encodes, with its completing layer; or the first fault of
-/// the text.
+/// the bytes.
 #[tactic(auto, using(crate::proofs::Restoring::again_follows))]
 pub fn restored<K: Keep>(
     alloc: Global,
@@ -89,11 +90,12 @@ pub fn restored<K: Keep>(
 ) -> Result<(Machine<K>, Option<Layer>), RestoreFault>
     ensures exact { Restores (state_of K.record_of) (K.empty_can_refuse || K.can_refuse) text.now
         result }
-    // The text of a device restores exactly that device, unless an allocation fails.
+    // The state text of a device restores exactly that device, unless an allocation fails.
     ensures again { (state : WholeState) → IsWholeState state → text.now ≡ state_text state
         → RestoresAgain (state_of K.record_of) (K.empty_can_refuse || K.can_refuse) state result }
 
-    // The machine follows the history of the device that wrote the text, without a power cycle.
+    // The machine follows the history of the device that wrote the state text, without a power
+    // cycle.
     ensures history { (state : WholeState) (history : History) → IsWholeState state
         → Follows state.device history → text.now ≡ state_text state
         → IfOk result (λ made. Follows (state_of K.record_of made.0) history) }
@@ -102,7 +104,7 @@ pub fn restored<K: Keep>(
 }
 
 /// Returns the machine that a state text encodes. The contract does not mention the device that
-/// wrote the text.
+/// wrote the state text.
 #[tactic(auto, using(tpm_state_text::proofs::RestoringLaws::restored_again))]
 fn made<K: Keep>(alloc: Global, text: &[u8]) -> Result<(Machine<K>, Option<Layer>), RestoreFault>
     ensures exact { Restores (state_of K.record_of) (K.empty_can_refuse || K.can_refuse) text.now
@@ -114,8 +116,8 @@ fn made<K: Keep>(alloc: Global, text: &[u8]) -> Result<(Machine<K>, Option<Layer
     Ok((Machine::from_keep(keep), layer))
 }
 
-/// Replaces a machine by the machine that a state text encodes, and returns the completing layer.
-/// If the text is refused, the machine is unchanged.
+/// Replaces a machine with the machine that a state text encodes, and returns the completing layer.
+/// On error, the machine is unchanged.
 #[tactic(auto, using(crate::proofs::Restoring::into_again, crate::proofs::Restoring::has_follows))]
 pub fn restore_into<K: Keep>(
     machine: &mut Machine<K>,
@@ -124,12 +126,13 @@ pub fn restore_into<K: Keep>(
 ) -> Result<Option<Layer>, RestoreFault>
     ensures exact { RestoresInto (K.empty_can_refuse || K.can_refuse) text.now
         (state_of K.record_of machine.old) result (state_of K.record_of machine.new) }
-    // The text of a device restores exactly that device, unless an allocation fails.
+    // The state text of a device restores exactly that device, unless an allocation fails.
     ensures again { (state : WholeState) → IsWholeState state → text.now ≡ state_text state
         → HasState (K.empty_can_refuse || K.can_refuse) state (state_of K.record_of machine.new)
         result }
 
-    // The machine follows the history of the device that wrote the text, without a power cycle.
+    // The machine follows the history of the device that wrote the state text, without a power
+    // cycle.
     ensures history { (state : WholeState) (history : History) → IsWholeState state
         → Follows state.device history → text.now ≡ state_text state
         → IfOk result (λ layer. Follows (state_of K.record_of machine.new) history) }
@@ -137,8 +140,8 @@ pub fn restore_into<K: Keep>(
     replace(machine, alloc, text)
 }
 
-/// Replaces a machine by the machine that a state text encodes. The contract does not mention the
-/// device that wrote the text.
+/// Replaces a machine with the machine that a state text encodes. The contract does not mention the
+/// device that wrote the state text.
 fn replace<K: Keep>(
     machine: &mut Machine<K>,
     alloc: Global,

@@ -130,7 +130,7 @@ at_is [] place below = absurd (omega arith)
 at_is (x ∷ xs) zero below = refl
 at_is (x ∷ xs) (suc place) below = at_is xs place (omega arith)
 
--- writing one more slot does not change the resulting whole text
+-- writing one more slot does not change the final output
 pub placed_more : {A : Type 0} (text_of : Option A → List ℕ) (text new whole : List ℕ) (places : List (Option A)) (place : ℕ) → place < length places → new ≡ text ++ text_of (at_place places place) → text ++ flat_map text_of (drop place places) ≡ whole → new ++ flat_map text_of (drop (place + 1) places) ≡ whole
 placed_more text_of text new whole places place below more so_far =
     written_more text_of text new whole places place None below (more ∙ ap (λ (v : Option _). text ++ text_of v) (at_is places place below)) so_far
@@ -141,6 +141,6 @@ one_fits size i length start few below room is =
     let up_to : size * (i + 1) ≤ size * 24 = mul-le-mul_left size (omega (arith, below)) in
     (omega (arith, few), omega (arith, up_to, room, is))
 
--- writing three texts one after another writes their concatenation
+-- writing three encodings one after another writes their concatenation
 pub three_written : (t a b c p q r : List ℕ) → a ≡ t ++ p → b ≡ a ++ q → c ≡ b ++ r → c ≡ t ++ (p ++ (q ++ r))
 three_written t a b c p q r first second third = rw (third, second, first) (simp append_assoc refl)

@@ -21,7 +21,7 @@ each_of_all Is (value ∷ values) all = (all 0, each_of_all Is values (λ place.
 -- ---- texts
 
 module _ {A : Type 0} {text : A → List ℕ} {Is : A → Type 0} {at : List ℕ → Result (A × List ℕ) Malformed} (law : Spelled text Is at) where
-  -- the text of an optional value, after the byte that says whether there is one
+  -- the encoding of an optional value, after the byte that says whether there is one
   abbrev after : Option A → List ℕ
   after None = []
   after (Some x) = text x

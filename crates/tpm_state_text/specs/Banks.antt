@@ -9,15 +9,15 @@ use Rattle.tpm_image_text.specs.Fields.{bytes_in, number_in}
 use Rattle.tpm_image_text.specs.declared.fault.Malformed.{Malformed}
 use Rattle.tpm_pcr.specs.Values.{BankValues}
 
--- the text of a bank: the values of its PCRs, one after another
+-- the encoding of a bank: the values of its PCRs, one after another
 abbrev pub bank_text : List (List ℕ) → List ℕ
 bank_text values = flat_map (λ value. value) values
 
--- reads the values of 24 PCRs, each with the given size
+-- decodes the values of 24 PCRs, each with the given size
 unfoldable pub bank_in : ℕ → List ℕ → Result (List (List ℕ) × List ℕ) Malformed
 bank_in size text = many_at (bytes_in size) 24 text
 
--- the text of the banks: the SHA-1 bank, the SHA-256 bank, and the update counter
+-- the encoding of the banks: the SHA-1 bank, the SHA-256 bank, and the update counter
 unfoldable pub banks_text : BankValues → List ℕ
 banks_text banks =
     bank_text banks.sha1 ++ bank_text banks.sha256 ++ to_be_bytes w64 banks.update_count

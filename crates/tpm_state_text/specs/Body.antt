@@ -39,8 +39,8 @@ is_lockout_time time = nat_lt time (milliseconds (2 ^ 32))
 unfoldable pub lockout_time_in : List ℕ → Result (ℕ × List ℕ) Malformed
 lockout_time_in text = passing is_lockout_time (number_in w64) text
 
--- the text of the state that a power cycle clears: whether the device is started; the banks; Time;
--- both lockout timers; the sessions; and the transient objects
+-- the encoding of the state that a power cycle clears: whether the device is started; the banks;
+-- Time; both lockout timers; the sessions; and the transient objects
 unfoldable pub volatile_text : Record → List ℕ
 volatile_text r =
     yes_no_text r.fixed.started ++ banks_text r.fixed.banks
@@ -49,7 +49,7 @@ volatile_text r =
     ++ to_be_bytes w64 r.fixed.lockout.closed_time
     ++ sessions_text r.sessions ++ transients_text r.objects
 
--- reads the state that a power cycle clears, and returns the whole device; `kept` is the rest of
+-- decodes the state that a power cycle clears, and returns the whole device; `kept` is the rest of
 -- the device's state
 unfoldable pub resumed_in : NonVolatile → List ℕ → Result (Record × List ℕ) Malformed
 resumed_in kept text = do
@@ -88,7 +88,7 @@ resumed_in kept text = do
 
 -- ---- the device
 
--- the text of a device: the body of its image, followed by the state that a power cycle clears
+-- the encoding of a device: the body of its image, followed by the state that a power cycle clears
 unfoldable pub device_text : Record → List ℕ
 device_text r = image_body_text Two (kept_of r) ++ volatile_text r
 
@@ -99,7 +99,7 @@ device_in text = do
 
 -- ---- the body
 
--- the text of a body: the text of the device, followed by the text of the layer, if there is one
+-- the encoding of a body: the encoded device, followed by the encoded layer, if there is one
 unfoldable pub body_text : WholeState → List ℕ
 body_text state = device_text state.device ++ optional_text layer_text state.layer
 
@@ -109,6 +109,6 @@ body_in text = do
   layer ← optional_in layer_in device.1
   Ok (record { device = device.0; layer = layer.0 }, layer.1)
 
--- the state in a body, if the bytes contain nothing else
+-- the state that a body encodes; bytes after it are malformed
 unfoldable pub state_of_body : List ℕ → Result WholeState Malformed
 state_of_body text = filling body_in text

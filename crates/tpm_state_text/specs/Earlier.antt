@@ -1,8 +1,8 @@
--- Version 1 of a state text, which can be read but is no longer written. In this version the
--- completing layer also remembers objects, since a context of an object did not contain the object:
--- if an object had a context, it waited in its slot after it was flushed, and TPM2_ContextLoad
--- found it there. The contexts of version 2 contain the whole object, so no object waits. Reading
--- version 1 removes the objects that wait.
+-- Version 1 of a state text, which the device still reads but no longer writes. In version 1, the
+-- context of an object did not contain the object. If an object with a context was flushed, it
+-- stayed in its slot, and TPM2_ContextLoad found it there; the completing layer stored which
+-- objects these were. The contexts of version 2 contain the whole object, so no flushed object
+-- stays. Reading version 1 removes the objects that stayed.
 use Rattle.std.specs.Prelude.{◌≡◌, ℕ, ◌<◌, ◌^◌, ◌==◌, List, ◌++◌, get_or, length, if◌then◌else◌, IfSome, Option, Some, None, option_map, Result, Ok}
 use Rattle.std.specs.Int.{w64, to_be_bytes}
 use Rattle.std.specs.List.{All, flat_map, fold}
@@ -24,7 +24,8 @@ use Rattle.tpm_state_text.specs.declared.layer.Layer.{Layer}
 
 -- ---- the layer
 
--- A layer stores only 64-bit numbers, with one slot for each object and each session.
+-- Every number in the layer's state fits in 64 bits, and there is one slot for each object and each
+-- session.
 pub record IsHeld (held : Held) : Type 0 where
   pub context : held.context < 2 ^ 64
   pub waits : held.waits < 2 ^ 64
@@ -46,7 +47,7 @@ held_in text = do
   waits ← number_in w64 context.1
   Ok (record { context = context.0; waits = waits.0 }, waits.1)
 
--- the text of a layer: the start, the count, the objects and the sessions
+-- the encoding of a layer: its start number, its count, the objects and the sessions
 unfoldable pub earlier_layer_text : EarlierLayer → List ℕ
 earlier_layer_text layer =
     to_be_bytes w64 layer.start ++ to_be_bytes w64 layer.count
@@ -76,7 +77,7 @@ pub record IsEarlierState (state : EarlierState) : Type 0 where
   pub device : IsRecord state.device
   pub layer : IfSome state.layer IsEarlierLayer
 
--- the text of a body: the text of the device, followed by the text of the layer, if there is one
+-- the encoding of a body: the encoded device, followed by the encoded layer, if there is one
 unfoldable pub earlier_body_text : EarlierState → List ℕ
 earlier_body_text state =
     device_text state.device ++ optional_text earlier_layer_text state.layer
@@ -87,7 +88,7 @@ earlier_body_in text = do
   layer ← optional_in earlier_layer_in device.1
   Ok (record { device = device.0; layer = layer.0 }, layer.1)
 
--- the state in a body, if the bytes contain nothing else
+-- the state that a body encodes; bytes after it are malformed
 unfoldable pub earlier_state_of_body : List ℕ → Result EarlierState Malformed
 earlier_state_of_body text = filling earlier_body_in text
 
@@ -114,13 +115,13 @@ device_of device (Some layer) =
     record device { objects = without_waiting layer.objects device.objects }
 device_of device None = device
 
--- the parts of the layer that version 2 also contains: its start, its count and the contexts of
--- sessions
+-- the parts of the layer that version 2 also contains: its start number, its count and the contexts
+-- of sessions
 abbrev pub layer_of : EarlierLayer → Layer
 layer_of layer =
     record { start = layer.start; count = layer.count; sessions = layer.sessions }
 
--- the state to which a text of version 1 decodes
+-- the state to which a state text of version 1 decodes
 abbrev pub current : EarlierState → WholeState
 current state = record {
   device = device_of state.device state.layer;

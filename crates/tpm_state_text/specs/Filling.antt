@@ -21,8 +21,8 @@ abbrev pub with_value : {X : Type 0} → List (Option X) → ℕ → Option X �
 with_value places place None = places
 with_value places place (Some x) = slice_set places place (Some x)
 
--- One slot was filled from a text, or stayed free if the text encodes no value. Or the text is
--- malformed. Or an allocation failed, in which case the text may be anything.
+-- On success, the slot contains the value that the bytes encode, or stays free if they encode none.
+-- On error, the bytes are malformed, or an allocation failed (NoMemory), whatever the bytes are.
 abbrev pub FillsPlace : {X : Type 0}
     → Bool → Result (Option X × List ℕ) Malformed → (old : List (Option X)) → (place : ℕ)
     → Result (Unit {0}) FillFault → (new : List (Option X)) → List ℕ → Type 0
@@ -31,41 +31,40 @@ FillsPlace {X} can read old place (Ok done) new rest =
 FillsPlace can read old place (Err unfilled.Malformed) new rest = read ≡ Err malformed
 FillsPlace can read old place (Err unfilled.NoMemory) new rest = can ≡ true
 
--- A device was read from a body, and the result is its layer. Or the body is malformed. Or an
--- allocation failed, in which case the body may be anything.
+-- On success, the device has the state that the body encodes, and its layer is returned. On error,
+-- the body is malformed, or an allocation failed (NoMemory), whatever the body is.
 abbrev pub FillsState : Bool → Result WholeState Malformed → Record
     → Result (Option Layer) FillFault → Type 0
 FillsState can read device (Ok layer) = read ≡ Ok (state_of device layer)
 FillsState can read device (Err unfilled.Malformed) = read ≡ Err malformed
 FillsState can read device (Err unfilled.NoMemory) = can ≡ true
 
--- A new device was set to the state `read`, which a text encodes, and the result is its layer. Or
--- the result is the first fault of the text. Or an allocation failed, in which case the text may be
--- anything.
+-- On success, the new device has the state `read`, and its layer is returned. On error, the result
+-- is the first fault of the bytes, or NoMemory if an allocation failed.
 abbrev pub RestoresNew : Bool → (read : Result WholeState StateFault) → Record
     → Result (Option Layer) RestoreFault → Type 0
 RestoresNew can read device (Ok layer) = read ≡ Ok (state_of device layer)
 RestoresNew can read device (Err (unrestored.Text fault)) = read ≡ Err fault
 RestoresNew can read device (Err unrestored.NoMemory) = can ≡ true
 
--- A device was created with the state of a text, and the result also contains its layer. Or the
--- result is the first fault of the text. Or an allocation failed, in which case the text may be
--- anything.
+-- On success, the result is the device that the bytes encode, with its layer. On error, the result
+-- is the first fault of the bytes, or NoMemory if an allocation failed.
 abbrev pub Restores : {K : Type 0} → (K → Record) → Bool → List ℕ
     → Result (K × Option Layer) RestoreFault → Type 0
 Restores record_of can text (Ok made) = state_of_text text ≡ Ok (state_of (record_of made.0) made.1)
 Restores record_of can text (Err (unrestored.Text fault)) = state_of_text text ≡ Err fault
 Restores record_of can text (Err unrestored.NoMemory) = can ≡ true
 
--- Restoring the text of a state returned exactly that state, or an allocation failed.
+-- Restoring the state text of a state returned exactly that state, or an allocation failed.
 abbrev pub RestoresAgain : {K : Type 0} → (K → Record) → Bool → WholeState
     → Result (K × Option Layer) RestoreFault → Type 0
 RestoresAgain record_of can state (Ok made) = state_of (record_of made.0) made.1 ≡ state
 RestoresAgain record_of can state (Err (unrestored.Text fault)) = ⊥
 RestoresAgain record_of can state (Err unrestored.NoMemory) = can ≡ true
 
--- A device was set to the state of a text, and the result is its layer. Otherwise the device is
--- unchanged, and the result is the first fault of the text, or says that an allocation failed.
+-- On success, the device has the state that the bytes encode, and its layer is returned. On error,
+-- the device is unchanged, and the result is the first fault of the bytes, or NoMemory if an
+-- allocation failed.
 abbrev pub RestoresInto : Bool → List ℕ → (old : Record) → Result (Option Layer) RestoreFault
     → (new : Record) → Type 0
 RestoresInto can text old (Ok layer) new = state_of_text text ≡ Ok (state_of new layer)

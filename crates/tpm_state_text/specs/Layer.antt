@@ -11,14 +11,14 @@ use Rattle.tpm_image_text.specs.declared.fault.Malformed.{Malformed}
 use Rattle.tpm_types.specs.Limits.{session_limit}
 use Rattle.tpm_state_text.specs.declared.layer.Layer.{Layer}
 
--- A layer stores only 64-bit numbers, with one slot for each session.
+-- Every number in the layer's state fits in 64 bits, and there is one slot for each session.
 pub record IsLayer (layer : Layer) : Type 0 where
   pub start : layer.start < 2 ^ 64
   pub count : layer.count < 2 ^ 64
   pub sessions : length layer.sessions ≡ session_limit
   pub each_session : All (λ context. context < 2 ^ 64) layer.sessions
 
--- the text of a layer: the start, the count and the sessions
+-- the encoding of a layer: its start number, its count and the sessions
 unfoldable pub layer_text : Layer → List ℕ
 layer_text layer =
     to_be_bytes w64 layer.start ++ to_be_bytes w64 layer.count

@@ -8,7 +8,7 @@ use Rattle.tpm_object.specs.declared.object.Object.{Object}
 use Rattle.tpm_types.specs.Limits.{object_limit}
 use Rattle.tpm_state_text.specs.Places.{places_in, places_text}
 
--- the text of the transient objects, slot by slot
+-- the encoding of the transient objects, slot by slot
 unfoldable pub transients_text : List (Option Object) → List ℕ
 transients_text objects = places_text object_fields_text objects
 

@@ -1,6 +1,6 @@
--- Fields that an image does not have: numbers that stand for values, optional values, and places
--- (slots) that are free or occupied. A field that is truncated, or contains a value that is not
--- allowed, is malformed.
+-- Fields that an image does not have: numbers that stand for values, optional values, and slots
+-- that are free or occupied. A field that is truncated, or contains a value that is not allowed, is
+-- malformed.
 use Rattle.std.specs.Prelude.{ℕ, Bool, true, false, List, ◌++◌, ok_or, Option, Some, None, Result, Ok}
 use Rattle.std.specs.Int.{Width}
 use Rattle.std.specs.List.{flat_map}
@@ -9,7 +9,7 @@ use Rattle.tpm_bytes.specs.Reading.{◌>>=◌}
 use Rattle.tpm_image_text.specs.Fields.{malformed, number_in, yes_no_in, yes_no_text}
 use Rattle.tpm_image_text.specs.declared.fault.Malformed.{Malformed}
 
--- reads a number, and returns the value that it stands for
+-- decodes a number, and returns the value that it stands for
 abbrev pub named_in : {X : Type 0}
     → Width → (named : ℕ → Option X) → List ℕ → Result (X × List ℕ) Malformed
 named_in width named text = do
@@ -19,12 +19,12 @@ named_in width named text = do
 
 -- ---- an optional value
 
--- the text of an optional value: a byte that says whether there is one, and the value's own text
+-- the encoding of an optional value: a byte that says whether there is one, and the encoded value
 abbrev pub optional_text : {X : Type 0} → (X → List ℕ) → Option X → List ℕ
 optional_text text_of None = yes_no_text false
 optional_text text_of (Some x) = yes_no_text true ++ text_of x
 
--- reads the rest of an optional value, after the byte that says whether there is one
+-- decodes the rest of an optional value, after the byte that says whether there is one
 abbrev pub optional_after : {X : Type 0}
     → (List ℕ → Result (X × List ℕ) Malformed)
     → (is_there : Bool) → List ℕ → Result (Option X × List ℕ) Malformed
@@ -42,12 +42,12 @@ optional_in at text = do
 
 -- ---- slots
 
--- the text of the slots, from the first to the last: for each slot, whether it is occupied, and its
--- value if it is
+-- the encoding of the slots, from the first to the last: for each slot, whether it is occupied, and
+-- its value if it is
 abbrev pub places_text : {X : Type 0} → (X → List ℕ) → List (Option X) → List ℕ
 places_text text_of places = flat_map (optional_text text_of) places
 
--- reads the given number of slots
+-- decodes the given number of slots
 abbrev pub places_in : {X : Type 0}
     → ℕ → (List ℕ → Result (X × List ℕ) Malformed)
     → List ℕ → Result (List (Option X) × List ℕ) Malformed

@@ -34,7 +34,7 @@ are_localities localities = nat_le localities 0x1f
 unfoldable pub localities_in : List ℕ → Result (ℕ × List ℕ) Malformed
 localities_in text = passing are_localities (number_in w8) text
 
--- the text of a policy: its digest; the update counter, command, cpHash and written state, if
+-- the encoding of a policy: its digest; the update counter, command, cpHash and written state, if
 -- assertions recorded them; the localities; and the demand
 unfoldable pub policy_text : Policy → List ℕ
 policy_text p =

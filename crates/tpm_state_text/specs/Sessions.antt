@@ -38,8 +38,8 @@ protection_named number =
 unfoldable pub protection_in : List ℕ → Result (Protection × List ℕ) Malformed
 protection_in text = named_in w8 protection_named text
 
--- the text of a binding: the Name, the authorization value and the protection that the entity had
--- when the session started
+-- the encoding of a binding: the Name, the authorization value and the protection that the entity
+-- had when the session started
 unfoldable pub binding_text : Binding → List ℕ
 binding_text b =
     sized_text b.name ++ sized_text b.auth_value
@@ -57,8 +57,8 @@ binding_in text = do
 
 -- ---- sessions
 
--- the text of a session: its type, its hash and its symmetric definition; nonceTPM and the key; its
--- binding, if it has one; and its policy
+-- the encoding of a session: its type, its hash and its symmetric definition; nonceTPM and the key;
+-- its binding, if it has one; and its policy
 unfoldable pub session_text : Session → List ℕ
 session_text s =
     to_be_bytes w8 (type_number s.kind) ++ to_be_bytes w16 (hash_number s.hash)
@@ -66,7 +66,7 @@ session_text s =
     ++ sized_text s.nonce_tpm ++ sized_text s.key
     ++ optional_text binding_text s.binding ++ policy_text s.policy
 
--- reads the fields of a session, without checking their sizes against its hash
+-- decodes the fields of a session, without checking their sizes against its hash
 unfoldable pub session_fields_in : List ℕ → Result (Session × List ℕ) Malformed
 session_fields_in text = do
   kind ← in_body session_type_at text
@@ -89,12 +89,12 @@ session_fields_in text = do
     policy.1,
   )
 
--- reads a session, and refuses it if its hash does not allow the size of nonceTPM, of the key or of
--- the policy digest
+-- decodes a session, and refuses it if its hash does not allow the size of nonceTPM, of the key or
+-- of the policy digest
 unfoldable pub session_in : List ℕ → Result (Session × List ℕ) Malformed
 session_in text = passing has_hash_sizes session_fields_in text
 
--- the text of the sessions, slot by slot
+-- the encoding of the sessions, slot by slot
 unfoldable pub sessions_text : List (Option Session) → List ℕ
 sessions_text sessions = places_text session_text sessions
 

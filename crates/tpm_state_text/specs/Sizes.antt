@@ -1,4 +1,4 @@
--- The largest sizes of the parts of a state text, in bytes, which follow from the limits of the
+-- The largest sizes of the parts of a state text, in bytes. They follow from the limits of the
 -- device.
 use Rattle.std.specs.Prelude.{ℕ, ◌+◌, ◌*◌}
 use Rattle.tpm_image_text.specs.Sizes.{body_size, object_fields_size}
@@ -27,7 +27,7 @@ banks_size = 24 * 20 + 24 * 32 + 8
 abbrev pub volatile_size : ℕ
 volatile_size = 25 + banks_size + sessions_size + transients_size
 
--- the size of a layer; below, of a layer in version 1
+-- the size of an encoded layer; below, in version 1
 abbrev pub layer_size : ℕ
 layer_size = 16 + session_limit * 8
 

@@ -31,30 +31,30 @@ state_in_body One body = do
   Ok (current state)
 state_in_body Two body = state_of_body body
 
--- the state that a text encodes, or the first fault of the text: Short, Magic, Version, Length,
+-- the state that the bytes encode, or the first fault of the bytes: Short, Magic, Version, Length,
 -- Digest, Body
 abbrev pub state_of_text : List ℕ → Result WholeState StateFault
 state_of_text text = do
   framed ← within_frame state_format text
   or_fault (state_in_body framed.0 framed.1) fault.Body
 
--- the state that a text of version 2 encodes, or the first fault of the text; a text of version 1
--- with a correct frame has the fault Earlier. The head of a journal must contain version 2, because
--- the commands after it were executed with the layer of that version.
+-- the state that a state text of version 2 encodes, or the first fault of the bytes; version 1 in a
+-- correct frame has the fault Earlier. The head of a journal must contain version 2, because the
+-- commands after it were executed with the layer of that version.
 abbrev pub current_state_of_text : List ℕ → Result WholeState StateFault
 current_state_of_text text = do
   framed ← within_frame state_format text
   is_current ← refused_if (is_earlier framed.0) fault.Earlier
   or_fault (state_of_body framed.1) fault.Body
 
--- A text encodes this state: it is the state text of the state; or it is a text in version 1 that
--- decodes to this state.
+-- The bytes encode this state: they are its state text, or they have version 1 and decode to this
+-- state.
 abbrev pub Encodes : List ℕ → WholeState → Type 0
 Encodes text state =
     (text ≡ state_text state)
     ⊎ ((earlier : EarlierState) × IsEarlierState earlier × (text ≡ earlier_text earlier)
     × (state ≡ current earlier))
 
--- The bytes `part` directly follow the head of a text.
+-- The bytes `part` directly follow the head of a state text.
 abbrev pub HasBehindHead : (text part : List ℕ) → Type 0
 HasBehindHead text part = take (length part) (drop head_bytes text) ≡ part

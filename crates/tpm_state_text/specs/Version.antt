@@ -12,7 +12,7 @@ unfoldable pub state_version_numbered : ℕ → Option StateVersion
 state_version_numbered number =
     if number == 1 then Some One else (if number == 2 then Some Two else None)
 
--- whether a version can be read but is no longer written
+-- whether a version is read but no longer written
 abbrev pub is_earlier : StateVersion → Bool
 is_earlier One = true
 is_earlier Two = false

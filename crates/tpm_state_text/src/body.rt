@@ -51,7 +51,7 @@ fn write_device<K: Keep>(keep: &K, text: &mut Text)
     write_volatile(keep, text);
 }
 
-/// Writes a whole body to an empty text.
+/// Writes a whole body to an empty buffer.
 #[tactic(auto, unfolding(crate::specs::Body::body_text))]
 pub fn write_body<K: Keep>(keep: &K, layer: Option<&Layer>, text: &mut Text)
     requires { text.old ≡ [] }

@@ -1,4 +1,4 @@
-//! The body of a state text of version 1, which can be read but is no longer written.
+//! The body of a state text of version 1, which the device still reads but no longer writes.
 
 ghost use Rattle.std.specs.Prelude.{◌≡◌, ◌<◌, replicate};
 ghost use Rattle.tpm_bytes.specs.Many.{many_at};

@@ -3,19 +3,19 @@
 /// The reasons why bytes are not a state text, in the order of the checks.
 #[derive(Clone, Copy, PartialEq, Eq)]
 pub enum StateFault {
-    /// The text is shorter than 42 bytes, the size of the head and the digest together.
+    /// The input is shorter than 42 bytes, the size of the head and the digest together.
     Short,
-    /// The text does not begin with TPMS.
+    /// The input does not begin with TPMS.
     Magic,
-    /// The version of the text is not 1 or 2.
+    /// The version in the head is not 1 or 2.
     Version,
-    /// The size of the text differs from the size in its head.
+    /// The size of the input differs from the size in its head.
     Length,
     /// The last 32 bytes are not the SHA-256 digest of the bytes before them.
     Digest,
     /// The bytes between the head and the digest do not encode a state.
     Body,
-    /// The version of the text is 1, but the head of a journal accepts only version 2. The digest
+    /// The version in the head is 1, but the head of a journal accepts only version 2. The digest
     /// is checked before this.
     Earlier,
 }

@@ -14,9 +14,9 @@ ghost use Rattle.tpm_state_text.specs.State.{Encodes, HasBehindHead, current_sta
 ghost use Rattle.tpm_state_text.specs.declared.fault.StateFault.TheVariants as fault;
 
 /// Decoding the state text of a device returns exactly that device, with its completing layer. If
-/// decoding bytes returns a device, it is a device that can exist, and the bytes are its state
-/// text, or a text of version 1 whose flushed objects were left out. Two devices with the same
-/// state text are equal, and no state text exceeds the largest size.
+/// decoding bytes returns a device, the device can exist. In that case, the bytes are its state
+/// text, or a state text of version 1 that may also contain flushed objects, which decoding leaves
+/// out. Two devices with the same state text are equal, and no state text exceeds the largest size.
 #[inline(always)]
 #[tactic(auto, using(crate::proofs::StateLaws::text_told, crate::proofs::StateLaws::one_state, crate::proofs::StateLaws::text_small))]
 pub fn state_laws()
@@ -31,7 +31,7 @@ pub fn state_laws()
         → length (state_text state) ≤ state_text_size }
 {}
 
-/// Decoding a text of version 1 returns its state without the flushed objects that stayed in their
+/// Decoding version 1 returns the encoded state without the flushed objects that stayed in their
 /// slots. A device can have the returned state. If only version 2 is accepted, version 1 is refused
 /// with Earlier, and only the state text of a device decodes to this device.
 #[inline(always)]
@@ -51,7 +51,7 @@ pub fn version_laws()
 {}
 
 /// In the state text of a device, the head is directly followed by the body of the device's image
-/// in version 2, as in that image.
+/// in version 2.
 #[inline(always)]
 #[tactic(auto, using(crate::proofs::StateLaws::body_in_state, crate::proofs::StateLaws::body_in_image))]
 pub fn image_in_state_laws()

@@ -16,7 +16,7 @@ use std::alloc::Global;
 use tpm_image_text::FillFault;
 use tpm_record::Keep;
 
-/// Reads the body of a text of this version into a new device. Returns the completing layer.
+/// Reads the body of a state text of this version into a new device. Returns the completing layer.
 #[tactic(auto, unfolding(crate::specs::State::state_in_body))]
 fn read_version<K: Keep>(
     keep: &mut K,
@@ -33,8 +33,8 @@ fn read_version<K: Keep>(
     }
 }
 
-/// Replaces a device just manufactured with all-zero random bytes by the device that a state text
-/// encodes, without moving it. Returns the completing layer, or the first fault of the text. On
+/// Replaces a device just manufactured from all-zero random bytes with the device that a state text
+/// encodes, without moving it. Returns the completing layer, or the first fault of the bytes. On
 /// error, the device's state is unspecified.
 pub fn restore_new<K: Keep>(keep: &mut K, text: &[u8]) -> Result<Option<Layer>, RestoreFault>
     requires { K.record_of keep.old ≡ manufactured (replicate 256 0) }
@@ -51,7 +51,7 @@ pub fn restore_new<K: Keep>(keep: &mut K, text: &[u8]) -> Result<Option<Layer>, 
     }
 }
 
-/// Restores a device like [`restore_new`], but accepts only a text of version 2.
+/// Restores a device like [`restore_new`], but accepts only version 2.
 pub fn resume_new<K: Keep>(keep: &mut K, text: &[u8]) -> Result<Option<Layer>, RestoreFault>
     requires { K.record_of keep.old ≡ manufactured (replicate 256 0) }
     ensures { RestoresNew K.can_refuse (current_state_of_text text.now) (K.record_of keep.new)
@@ -72,7 +72,7 @@ pub fn resume_new<K: Keep>(keep: &mut K, text: &[u8]) -> Result<Option<Layer>, R
 }
 
 /// Creates the device that a state text encodes. The contract does not mention the device that
-/// wrote the text.
+/// wrote the state text.
 fn made<K: Keep>(alloc: Global, text: &[u8]) -> Result<(K, Option<Layer>), RestoreFault>
     ensures { Restores K.record_of (K.empty_can_refuse || K.can_refuse) text.now result }
 {
@@ -84,20 +84,19 @@ fn made<K: Keep>(alloc: Global, text: &[u8]) -> Result<(K, Option<Layer>), Resto
 }
 
 /// Returns the device that a state text encodes, as a new `Keep`, with its completing layer; or the
-/// first fault of the text.
+/// first fault of the bytes.
 #[tactic(auto, using(crate::proofs::RestoringLaws::restored_again))]
 pub fn restored<K: Keep>(alloc: Global, text: &[u8]) -> Result<(K, Option<Layer>), RestoreFault>
     ensures exact { Restores K.record_of (K.empty_can_refuse || K.can_refuse) text.now result }
-    // The text of a device restores exactly that device, unless an allocation fails.
+    // The state text of a device restores exactly that device, unless an allocation fails.
     ensures again { (state : WholeState) → IsWholeState state → text.now ≡ state_text state
         → RestoresAgain K.record_of (K.empty_can_refuse || K.can_refuse) state result }
 {
     made(alloc, text)
 }
 
-/// Replaces a device by the device that a state text encodes, and returns the completing layer. If
-/// the text is refused, the device is unchanged. The new device is created next to the old one and
-/// then moved.
+/// Replaces a device with the device that a state text encodes, and returns the completing layer.
+/// On error, the device is unchanged. The new device is created next to the old one and then moved.
 pub fn restore_into<K: Keep>(
     keep: &mut K,
     alloc: Global,

@@ -20,8 +20,8 @@ pub const STATE_TEXT_LIMIT: usize = 36_195;
 /// The body of a state text that is being written, followed by the digest.
 pub type StateBody = Text;
 
-/// Writes the body of a state text, followed by the digest, to an empty text. Returns the head,
-/// which belongs before the body.
+/// Writes the body of a state text, followed by the digest, to an empty buffer. Returns the head,
+/// which must be put before the body.
 #[tactic(auto, unfolding(crate::specs::State::state_text))]
 pub fn write_state<K: Keep>(keep: &K, layer: Option<&Layer>, text: &mut StateBody) -> Sink<10>
     requires { text.old ≡ [] }
@@ -37,7 +37,7 @@ pub fn write_state<K: Keep>(keep: &K, layer: Option<&Layer>, text: &mut StateBod
 }
 
 /// Writes the state text of a device, with its completing layer, to the beginning of a buffer, if
-/// it fits. Returns the size of the text. The call allocates no memory.
+/// it fits. Returns the size of the state text. The call allocates no memory.
 pub fn snapshot_into<K: Keep>(keep: &K, layer: Option<&Layer>, buffer: &mut [u8]) -> usize
     ensures put { PutsFront
         (state_text (state_of (K.record_of keep.now) (option_copied layer.entry)))

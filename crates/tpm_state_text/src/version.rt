@@ -6,15 +6,15 @@ ghost use Rattle.tpm_state_text.specs.Version.{state_version_number, state_versi
 /// A version of a state text.
 #[derive(Clone, Copy, PartialEq, Eq)]
 pub enum StateVersion {
-    /// Version 1 can be read but is no longer written. In it, a flushed object could stay in its
-    /// slot until its context was loaded.
+    /// Version 1 is read but no longer written. In it, a flushed object could stay in its slot
+    /// until its context was loaded.
     One,
     /// In version 2, the completing layer remembers only the contexts of sessions.
     Two,
 }
 
 impl StateVersion {
-    /// The number that stands for the version in a text.
+    /// The number that stands for the version in the head.
     pub fn number(self) -> u16
         ensures { result ≡ state_version_number self }
     {

@@ -5,9 +5,9 @@ use Rattle.tpm_step.specs.General.{in_command}
 use Rattle.tpm_types.specs.declared.refused.Refused.{Refused}
 use Rattle.tpm_commands.specs.declared.command_code.CommandCode.{CommandCode}
 
--- Two results `x` and `y`, with two lists of random bytes, are alike. If `x` is a success and both
--- lists agree on the bytes that it draws, `y` is the same success, changed by `moved`. If `x` is a
--- refusal, `y` is the same refusal.
+-- Two results `x` and `y`, each with its own list of random bytes, are alike. If `x` is a success
+-- and both lists agree on the bytes that it draws, `y` is the same success, changed by `moved`. If
+-- `x` is a refusal, `y` is the same refusal.
 abbrev pub Alike : {A E : Type 0} → (drawn : A → ℕ) → (moved : A → A) → (random other : List ℕ) → (x y : Result A E) → Type 0
 Alike drawn moved random other (Ok a) y = take (drawn a) other ≡ take (drawn a) random → y ≡ Ok (moved a)
 Alike drawn moved random other (Err e) y = y ≡ Err e
@@ -19,7 +19,7 @@ module _ {A B E : Type 0} (random other : List ℕ) where
   alike_after drawn moved (Ok a) f g alike = alike a
   alike_after drawn moved (Err e) f g alike = refl
 
-  -- results remain alike if a last step follows that draws no further bytes
+  -- results remain alike after one more step that draws no random bytes
   pub alike_before : (drawn : A → ℕ) (moved : A → A) (drawn' : B → ℕ) (moved' : B → B) (x y : Result A E) (f g : A → B)
       → ((a : A) → drawn' (f a) ≡ drawn a) → ((a : A) → g (moved a) ≡ moved' (f a))
       → Alike drawn moved random other x y → Alike drawn' moved' random other (x >>= λ a. Ok (f a)) (y >>= λ a. Ok (g a))

@@ -36,8 +36,8 @@ pub front_kept : {X : Type 0} (n : ℕ) (xs others : List X) → n ≤ length xs
 front_kept n xs others le =
     take-append-le n (take n xs) others (omega (arith, length-take-le n xs le)) ∙ take_twice n n xs (omega arith)
 
--- Two lists of the same length agree on their first `n` elements, and at most `k` elements follow
--- these. Then they agree on their first `d` elements, and also on the others among the first `n`.
+-- Two lists agree on their first `d` elements, and on the elements from `d` to `n`. After the first
+-- `d`, both have the same number of elements, at most `n - d + k`.
 pub record Behind (n d k : ℕ) (xs ys : List ℕ) : Type 0 where
   pub first : take d ys ≡ take d xs
   pub later : take (n - d) (drop d ys) ≡ take (n - d) (drop d xs)

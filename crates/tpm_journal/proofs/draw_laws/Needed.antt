@@ -1,4 +1,5 @@
--- TPM2_GetRandom returns all bytes that it draws. Therefore, each of them matters.
+-- TPM2_GetRandom returns all random bytes that it draws. Therefore, its result depends on each of
+-- them.
 use Rattle.std.proofs.Common.{◌≡◌, List, [], ℕ, Result, Ok, Err, IfOk, ap, take}
 use Rattle.std.specs.Prelude.{min}
 use Rattle.std.specs.Int.{w16}

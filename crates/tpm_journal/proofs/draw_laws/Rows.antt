@@ -1,5 +1,5 @@
--- Five rows read random bytes. Each of them reads only the first ones, and reports their number as
--- drawn. The other rows read none.
+-- Five rows read random bytes. Each of them reads only the first random bytes, and reports their
+-- number as drawn. The other rows read none.
 use Rattle.std.proofs.Common.{◌≡◌, ◌+◌, ℕ, List, None, Some, take, slice_set, Result, Ok, Err, refl, ap, arith}
 use Rattle.std.specs.Prelude.{min}
 use Rattle.std.specs.Int.{w16}

@@ -61,8 +61,8 @@ fewer_left r (e ∷ es) left =
     let later = fewer_left (entry_rolled r e left).after es (drop (draw_of r e) left) in
     omega (arith, later, length-drop (draw_of r e) left)
 
--- New nonces stay the same if the random bytes that are not drawn for them are replaced. The number
--- of bytes left is then also the same.
+-- If the random bytes that the new nonces do not draw are replaced, the nonces stay the same, and
+-- so does the number of bytes that are left.
 pub record RolledAlike (r : Record) (es : List Entry) (left other : List ℕ) : Type 0 where
   pub after : (entries_rolled r es other).after ≡ (entries_rolled r es left).after
   pub as_long : length (entries_rolled r es other).left ≡ length (entries_rolled r es left).left
@@ -91,8 +91,8 @@ answer_alike : (c : Whole) (grants : List (Option Grant)) (a : Written) (effect 
 unfolding answer_to
 answer_alike c grants a effect random other same = rw same refl
 
--- Facts about an accepted command with other random bytes, which agree on all bytes that its row
--- and then its nonces draw.
+-- Context: an accepted command, and other random bytes that agree with its own on all bytes that
+-- its row and its nonces draw.
 module _ (a : Accepted) (random other : List ℕ) (as_long : length other ≡ length random) where
   abbrev drawn : ℕ
   drawn = bytes_drawn random a.success.after a.command.entries (row_drawn a)

@@ -26,7 +26,7 @@ AgreeOnDrawn r buffer locality elapsed random other =
     let drawn = drawn_by r (Given buffer locality elapsed random) 0 in
     (length other ≡ length random) × (take drawn other ≡ take drawn random)
 
--- 256 random bytes: those of the given bytes that were drawn, followed by zeros
+-- 256 random bytes: the first `drawn` of these, followed by zeros
 abbrev pub zeros_behind : (drawn : ℕ) → (random : List ℕ) → List ℕ
 zeros_behind drawn random = take drawn random ++ replicate (256 - drawn) 0
 

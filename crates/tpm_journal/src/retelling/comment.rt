@@ -15,7 +15,7 @@ use tpm_types::Locality;
 /// The text of a comment.
 pub type Comment = ArrayString<64>;
 
-/// The text that says how an entry was answered: `completed` if the completing layer was on,
+/// The words that say how an entry was answered: `completed` if the completing layer was on,
 /// otherwise the trace of its command.
 pub fn comment_of(entry: &Entry, outcome: &Outcome) -> Comment
     requires entry { IsEntry (plain_entry entry.now) }

@@ -15,7 +15,7 @@ use tpm_hex::encode;
 use tpm_journal_text::Entry;
 use tpm_step::Outcome;
 
-/// The size of the first line of an entry, which contains its checksums.
+/// The size of the first line of an entry. This line contains the entry's checksums.
 const MARK_LINE_SIZE: usize = 72;
 
 /// The largest number of hex digits in a response.
@@ -34,7 +34,7 @@ pub fn put_head<W: Write>(writer: &mut Tap<W>, form: Telling, head: &[u8]) -> Re
 }
 
 /// Writes the lines for an entry that was answered with this outcome. The first `size` bytes of
-/// `text` are the entry's own text.
+/// `text` are the entry itself.
 pub fn put_entry<W: Write>(
     writer: &mut Tap<W>,
     form: Telling,
@@ -63,7 +63,7 @@ pub fn put_entry<W: Write>(
     }
 }
 
-/// Writes a comment, and then the lines of an entry's text that execute its command.
+/// Writes a comment, and then the lines of an entry that execute its command.
 #[tactic(auto, using(crate::proofs::retelling::Words::put_together))]
 fn put_lines<W: Write>(writer: &mut Tap<W>, comment: &Comment, text: &[u8]) -> Result<(), Failed>
     requires { MARK_LINE_SIZE ≤ length text.now }
