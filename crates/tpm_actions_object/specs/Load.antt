@@ -22,8 +22,8 @@ use Rattle.tpm_record.specs.rows.Refusals.{parameter_refusal}
 use Rattle.tpm_actions_object.specs.Checks.{public_passes}
 use Rattle.tpm_actions_object.specs.Loaded.{is_fixed, parent_passes, loaded_at, place_for}
 
--- the sensitive area that a private area wraps. Refused by check A5 if this parent did not wrap the
--- private area for this public area
+-- the sensitive area in a private area. Refused by check A5 if this parent did not wrap the private
+-- area for this public area
 abbrev pub sensitive_of : Object → Public → List ℕ → Result Sensitive Refused
 sensitive_of parent public private =
     or_fault (unwrapped parent public private) (parameter_refusal action.Fifth 1 code.Integrity)

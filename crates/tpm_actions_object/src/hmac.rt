@@ -35,7 +35,7 @@ fn scheme_of(parameters: PublicParameters) -> Result<KeyedHashScheme, Refused>
     }
 }
 
-/// The hash for a key whose scheme names a hash: the scheme's hash if the command requests the same
+/// The hash for a key whose scheme names a hash: the scheme's hash if the command requests this
 /// hash or NULL; otherwise None.
 fn own_hash(own: HashAlg, asked: Option<HashAlg>) -> Option<HashAlg>
     ensures { result ≡ own_hash own asked }

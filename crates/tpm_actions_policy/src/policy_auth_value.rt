@@ -1,4 +1,4 @@
-//! TPM2_PolicyAuthValue: demands an HMAC whose key includes the entity's authorization value, as
+//! TPM2_PolicyAuthValue: requires an HMAC whose key includes the entity's authorization value, as
 //! specified by its row in `specs/PolicyAuthValue`.
 
 ghost use Rattle.std.specs.Prelude.{◌≡◌};
@@ -16,7 +16,7 @@ use tpm_record::rows::call::Call;
 use tpm_record::rows::reading::end;
 use tpm_types::Refused;
 
-/// TPM2_PolicyAuthValue: demands an HMAC whose key includes the entity's authorization value.
+/// TPM2_PolicyAuthValue: requires an HMAC whose key includes the entity's authorization value.
 #[tactic(auto, unfolding(crate::specs::Assertions::assertion_row))]
 pub fn policy_auth_value<K: Keep>(
     keep: &mut K,

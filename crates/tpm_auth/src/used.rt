@@ -31,7 +31,8 @@ pub struct SessionEntry<'a, 'b> {
     pub session: &'a Session,
 }
 
-/// What an entry of a session authorizes: a handle with its entity, and the policy's demand.
+/// What an entry of a session authorizes: a handle with its entity, and what the policy requires in
+/// the entry (`Demand`).
 #[derive(Clone, Copy)]
 pub struct Granted<'a> {
     pub used: Resolved<'a>,

@@ -1,5 +1,5 @@
--- The common part of the commands on NV indices: the refusal if authHandle may not read or write an
--- index, and if an index cannot be written or locked. TPM 2.0 Library, Part 3, section 31
+-- The common part of the commands on NV indices: the refusals if authHandle may not read or write
+-- an index, or if an index cannot be written or locked. TPM 2.0 Library, Part 3, section 31
 -- (non-volatile storage). The response codes and the order of the checks are choices of this
 -- implementation.
 use Rattle.tpm_types.specs.declared.action_check.ActionCheck.TheVariants as action

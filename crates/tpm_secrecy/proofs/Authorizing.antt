@@ -223,7 +223,7 @@ module _ (s : Secrecy) (covers : CoversKeys s) (r : Record) where
         then_same (entry_passes bare c.code before e) (entry_passes r c.code before e) (λ this. entries_pass bare c.code (before ++ e ∷ []) es) (λ this. entries_pass r c.code (before ++ e ∷ []) es)
         (own_same before e) (λ this. all_own_same (before ++ e ∷ []) es)
 
-    -- ---- the text of an HMAC
+    -- ---- the message of an HMAC
 
     nonce_same : (test : Entry → Bool) (entries : List Entry) → nonce_where bare test entries ≡ nonce_where r test entries
     unfolding nonce_where

@@ -94,7 +94,7 @@ NoneIs Holds history (one ∷ executions) =
     ((c : AcceptedCommand) → with_execution one history ≡ Done c ∷ history → Holds history c → ⊥)
     × NoneIs Holds (with_execution one history) executions
 
--- From `other`, the same events lead, with the same responses and rows, to a device that differs
+-- If `other` executes the same events, it has the same responses and rows, and afterwards differs
 -- from `new` only in sealed data. Objects that the events place on the other device may differ in
 -- this data.
 abbrev pub LeadsAlike : (Public → Bool) → Bool → Record → List Execution → Record → Type 0

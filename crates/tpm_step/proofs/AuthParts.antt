@@ -25,7 +25,7 @@ use Rattle.tpm_step.proofs.HandleMap.{same_handle}
 
 -- ---- values that do not change
 
--- If there is a new value, the old value was the same.
+-- If the new value exists, the old value exists and is the same.
 abbrev pub Kept : (old new : Option (List ℕ)) → Type 0
 Kept old new = (value : List ℕ) → new ≡ Some value → old ≡ Some value
 

@@ -1,4 +1,5 @@
--- In a stretch of events without a reset, the number of failed tries is within its bound.
+-- In a stretch of events without a reset of failedTries, the number of failed tries is within its
+-- bound.
 use Rattle.std.proofs.Common.{arith, ◌≡◌, ◌≢◌, ◌⊎◌, ℕ, ◌+◌, Bool, true, false, cond, List, [], ◌∷◌, ◌++◌, Result, Ok, Err, IfOk, refl, sym, subst, ap, ◌∙◌, inl, inr}
 use Rattle.std.specs.List.{AllByRecursion}
 use Rattle.std.proofs.lemmas.Bool.{false≢true}

@@ -81,7 +81,7 @@ record_shape r is = record { sessions_many = is.sessions; objects_many = is.obje
 
 -- ---- accepted commands
 
--- At least 64 random bytes are left after the new nonces.
+-- At least 64 random bytes are left after the new nonces were drawn.
 abbrev LeavesSome : List ℕ → Accepted → Type 0
 LeavesSome random a = 64 ≤ length (entries_rolled a.success.after a.command.entries (drop a.success.answer.drawn random)).left
 

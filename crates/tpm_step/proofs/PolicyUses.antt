@@ -1,5 +1,5 @@
--- Unless the hash is broken, each use by a policy session meets every policy whose digest is the
--- entity's authPolicy.
+-- Unless the hash is broken, each use of an entity by a policy session meets every policy whose
+-- digest is the entity's authPolicy.
 use Rattle.std.proofs.Common.{◌≡◌, ◌⊎◌, ℕ, Bool, true, false, cond, List, [], ◌∷◌, Option, Some, None, IfSome, IfOk, refl, ap, sym, subst, ◌∙◌, inl, inr}
 use Rattle.std.proofs.lemmas.Option.{same_Some}
 use Rattle.std.specs.Int.{bit_at, w8, w32}
@@ -160,7 +160,8 @@ module _ (u : PolicyUse) (used : used_in u.command.command u.place ≡ Some u.ha
       }
   secret_shown name reference one says origin = absurd says
 
-  -- if a written policy contains an assertion that the session has, the use meets that assertion
+  -- if a policy expression contains an assertion that the session has, the use of the entity meets
+  -- that assertion
   met_by : (written : PolicyAssertion) (one : Assertion) → IsAmong one assertions → Says one written → IsMetBy u written
   met_by (PolicyPcr selection digest) (assertion.Pcr parts) among says =
       let holds = meets.pcrs (any_pcr parts assertions among) in

@@ -9,8 +9,8 @@ use Rattle.tpm_step.specs.rows.IndexChanges.{IsCounter, stored_count}
 use Rattle.tpm_step.specs.Counters.{AllBelow, Counters, HasNoDefinition, counters_of, counts_of, defines, largest}
 use Rattle.tpm_step.specs.History.{History, PastEvent}
 
--- The NV index contains this counter value, or has no value yet if it is None. No startup clears
--- the index.
+-- The NV index is a counter with this value, or without a value if `count` is None. No startup
+-- clears the index.
 pub record IsCounted (index : NvIndex) (count : Option ℕ) : Type 0 where
   pub stays : index_has index attribute.ClearStClear ≡ false
   pub value : stored_count index ≡ count

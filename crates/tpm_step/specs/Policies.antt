@@ -1,6 +1,6 @@
 -- Policies, computed from the history alone. TPM 2.0 Library, Part 3, section 23, and Part 1,
--- section 19.7. An accepted assertion passed its checks. Therefore only its effect on the policy is
--- defined here.
+-- section 19.7. An accepted assertion has passed its checks. Therefore only its effect on the
+-- policy is defined here.
 use Rattle.std.specs.Prelude.{ℕ, Bool, List, [], ◌∷◌, Result, Ok, Err}
 use Rattle.std.specs.Int.{w8, w32}
 use Rattle.tpm_bytes.specs.Reading.{◌>>=◌, number_at, or_fault}

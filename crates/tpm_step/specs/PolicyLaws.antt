@@ -53,8 +53,8 @@ UsesItsCommand =
     → HasPolicyOf s.hash (CommandCode (code_number c.command.code) ∷ []) (policy_at c place)
 
 -- If a session whose only assertion is TPM2_PolicyNvWritten authorizes the use of an entity, the
--- entity is an NV index, and it has WRITTEN set or not as its policy requires. Therefore an index
--- whose policy requires that it is not written does not have WRITTEN set at the use.
+-- entity is an NV index, and its WRITTEN attribute is as its policy requires. Therefore, if the
+-- policy requires that WRITTEN is clear, it is clear at the use.
 abbrev pub UsesAsWritten : Type 0
 UsesAsWritten =
     (history : History) (c : AcceptedCommand) (place : ℕ) (e : Entry) (s : LiveSession)

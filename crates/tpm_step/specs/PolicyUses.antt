@@ -23,9 +23,9 @@ use Rattle.tpm_step.specs.Pcrs.{digest_in}
 use Rattle.tpm_step.specs.QuietPcrs.{AreQuietSince}
 use Rattle.tpm_step.specs.Sessions.{LiveSession}
 
--- a use of an entity that a policy session authorizes: the history before it; the command; the used
--- handle, and its position among the command's handles, counted from 0; the entry at the same
--- position; and the entry's session
+-- a command's use of an entity, authorized by a policy session: the history before it; the command;
+-- the used handle, and its position among the command's handles, counted from 0; the entry at the
+-- same position; and the entry's session
 pub record PolicyUse : Type 0 where
   pub history : History
   pub command : AcceptedCommand
@@ -80,9 +80,9 @@ pub record HasAuthPolicy (c : AcceptedCommand) (place : ℕ) (hash : HashAlg)
     pub auth_policy : policy_at c place
         ≡ Some (record { hash = hash; digest = policy_digest hash policy })
 
--- If a policy session authorizes a use, then, unless texts of the policy and of the session break
--- the hash, the use meets every policy whose digest is the entity's authPolicy, along one branch at
--- each TPM2_PolicyOR.
+-- If a policy session authorizes a use, then, unless the hash is broken (`BreaksHash`), the use
+-- meets every policy whose digest is the entity's authPolicy, along one branch at each
+-- TPM2_PolicyOR.
 abbrev pub MeetsPolicies : (history : History) (c : AcceptedCommand) (place : ℕ) → Handle
     → (e : Entry) → Ground history c place e → Type 0
 MeetsPolicies history c place handle e (ByPassword names takes has) = Unit {0}
@@ -100,15 +100,16 @@ MeetsPolicies history c place handle e (ByPolicy s lives kind meets has) =
     → IsMet (IsMetBy u) policy ⊎ BreaksHash hash policy s.assertions
 
 -- For each handle that needs authorization, the entry at the same position authorizes it by a
--- password, an HMAC or a policy. The use meets every policy of the handle's entity.
+-- password, an HMAC or a policy. If a policy session authorizes it, the use meets every policy of
+-- the handle's entity, as `MeetsPolicies` says.
 abbrev pub UsesMeetPolicies : History → AcceptedCommand → Type 0
 UsesMeetPolicies history c =
     (place : ℕ) (handle : Handle) → used_in c.command place ≡ Some handle
     → (e : Entry) × (slice_get c.command.entries place ≡ Some e)
     × (ground : Ground history c place e) × MeetsPolicies history c place handle e ground
 
--- Each command of a history met the policies of the entities that it used, given the history before
--- the command.
+-- In each command of a history, the uses that policy sessions authorized met the policies of the
+-- used entities.
 abbrev pub AllMeetPolicies : History → Type 0
 AllMeetPolicies [] = Unit {0}
 AllMeetPolicies (Done c ∷ history) = UsesMeetPolicies history c × AllMeetPolicies history

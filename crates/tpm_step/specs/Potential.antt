@@ -1,5 +1,5 @@
--- The failed tries, and the time that counts towards the next decrement of failedTries, as one sum.
--- TPM 2.0 Library, Part 1, section 19.8 (failedTries, maxTries, recoveryTime).
+-- An inequality about failed tries and the time that counts towards the next decrement of
+-- failedTries. TPM 2.0 Library, Part 1, section 19.8 (failedTries, maxTries, recoveryTime).
 use Rattle.std.specs.Prelude.{◌≡◌, ◌≢◌, ◌⊎◌, ◌≤◌, ◌<◌, ◌+◌, ◌*◌, ◌==◌, ℕ, if◌then◌else◌}
 use Rattle.tpm_lockout.specs.Lockout.{LockoutState, milliseconds}
 

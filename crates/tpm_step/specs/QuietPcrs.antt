@@ -44,7 +44,8 @@ KeepsPcrs handle (event ∷ events) before =
     (has_pcrs (event ∷ events ++ before) handle ≡ true) × KeepsPcrs handle events before
 
 -- The history contains the first TPM2_PolicyPCR of the session at this handle, and only quiet
--- events after it. Since then the session has had an assertion by TPM2_PolicyPCR after every event.
+-- events after it. After every event since then, the session has had an assertion by
+-- TPM2_PolicyPCR.
 pub record AreQuietSince (handle : Handle) (history : History) : Type 0 where
   pub since : History
   pub first : AcceptedCommand

@@ -61,10 +61,10 @@ fails_try r Cycled = false
 fails_try r (Placed object) = false
 
 -- The device checks an entry with the authorization value of one entity: the entry touches this
--- entity. It is the entity that the entry has to authorize, if its value is compared with the
--- password or is part of the HMAC's key. Otherwise it is the entity to which the session was bound
--- at its start. If a session may not authorize the entity, nothing is compared and nothing is
--- touched.
+-- entity. If the password is compared with the value of the entity that the entry has to authorize,
+-- or the HMAC key contains this value, it is that entity. Otherwise it is the entity to which the
+-- session was bound at its start. If a session may not authorize the entity, nothing is compared
+-- and no entity is touched.
 
 -- the protection of the entity whose authorization value is used to check a session's entry, if the
 -- entry has to authorize this handle. The last argument is the policy's demand, or the refusal if

@@ -1,6 +1,6 @@
 //! Laws about histories: the PCRs, sessions, policies, authorization values and counters of a
 //! device follow from what the device has accepted. Further laws say how each use of an entity was
-//! authorized, what a replay repeats, and how many tries may fail.
+//! authorized, which nonce or HMAC repeats in a replay, and how many tries may fail.
 //!
 //! Each law is the contract of a function that does nothing. The laws follow from the definitions
 //! of the step and from the laws about all rows in [`crate::rows`]. Apart from these, their proofs
@@ -202,7 +202,7 @@ pub fn grounds_laws()
 {}
 
 /// If a buffer with an HMAC is accepted twice, and its HMAC session survives in between, then the
-/// session has the nonceTPM of the first event again, or two different texts have the same HMAC.
+/// session has the nonceTPM of the first event again, or two different messages have the same HMAC.
 /// Each of the two HMACs is computed with the key at its event.
 #[inline(always)]
 pub fn replay_laws()
@@ -214,8 +214,8 @@ pub fn replay_laws()
 /// of an entity. If the assertion is TPM2_PolicyPCR, the entity's policy requires the values that
 /// the PCRs have at the use, unchanged since the first TPM2_PolicyPCR. If it is
 /// TPM2_PolicyCommandCode, the policy requires the code of the command that uses the entity. If it
-/// is TPM2_PolicyNvWritten, the entity is an NV index, and it is WRITTEN or not as the assertion
-/// says.
+/// is TPM2_PolicyNvWritten, the entity is an NV index, and its WRITTEN attribute is as the
+/// assertion says.
 #[inline(always)]
 pub fn policy_laws()
     ensures pcrs { UsesPcrsAsTheyAre }
@@ -279,9 +279,9 @@ pub fn alike_laws()
 {}
 
 /// In every history of a device, each use of an entity was authorized by a password, an HMAC
-/// session or a policy session. Unless texts of the policy and of the session break the hash, each
-/// use by a policy session met every policy whose digest is the authPolicy of the used entity,
-/// along one branch at each TPM2_PolicyOR.
+/// session or a policy session. Unless the hash is broken (`BreaksHash`), each use by a policy
+/// session met every policy whose digest is the authPolicy of the used entity, along one branch at
+/// each TPM2_PolicyOR.
 #[inline(always)]
 pub fn auth_policy_laws()
     ensures { (can : Bool) (random : List ℕ) (executions : List Execution) (new : Record)

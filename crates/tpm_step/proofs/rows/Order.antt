@@ -1,4 +1,5 @@
--- The order in which a row refuses (`Orders`): its proof, step by step, and its consequences.
+-- The order in which a row reports refusals (`Orders`): its proof, step by step, and its
+-- consequences.
 use Rattle.std.specs.Option.{option_map_or}
 use Rattle.std.specs.Prelude.{◌==◌, ◌||◌, if◌then◌else◌, is_some, not, ok_or}
 use Rattle.std.proofs.Common.{◌+◌, ◌∙◌, ◌∷◌, ◌≡◌, ◌⊎◌, Bool, Err, IfErr, List, None, Ok, Option}

@@ -1,4 +1,4 @@
--- The part of the state that a success changes determines how many further slots the success fills,
+-- The part of the state that a command changes determines how many further slots its success fills,
 -- and what it does to sessions.
 use Rattle.std.specs.Prelude.{is_some}
 use Rattle.std.proofs.Common.{◌∙◌, ◌≡◌, ◌≤◌, Bool, List, Option, ap, arith, false, inl, inr, length}
