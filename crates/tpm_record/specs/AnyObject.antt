@@ -14,12 +14,12 @@ use Rattle.tpm_record.specs.Objects.{Adds, object_at, object_handle, without_obj
 use Rattle.tpm_record.specs.Persistent.{next_persistent, without_persistent}
 use Rattle.tpm_record.specs.Record.{Record}
 
--- A transient object was added or refused, and nothing else in the record changed.
+-- A transient object was added, or adding it was refused; nothing else in the record changed.
 abbrev pub AddsObject : Bool → Record → Object → Result Handle SlotFault → Record → Type 0
 AddsObject can old object result new =
     Adds can old.objects object result new.objects × (new ≡ record old { objects = new.objects })
 
--- A persistent object was added or refused, and nothing else in the record changed.
+-- A persistent object was added, or adding it was refused; nothing else in the record changed.
 abbrev pub AddsPersistent : Bool → Record → Handle → Object → Result (Unit {0}) KeyFault → Record
     → Type 0
 AddsPersistent can old handle object result new =

@@ -1,4 +1,4 @@
--- The record that is stored in containers of any kind.
+-- The record whose parts are stored in containers of any kind.
 use Rattle.std.specs.Prelude.{List, Option}
 use Rattle.tpm_containers.specs.SortedMap.{Entries}
 use Rattle.tpm_nv.specs.Index.{NvContents}

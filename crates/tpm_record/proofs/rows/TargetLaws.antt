@@ -22,7 +22,7 @@ ok_where : {A B : Type 0} (P : A → Type 0) (x : Result A B) → ((a : A) → x
 ok_where P (Ok a) h = h a refl
 ok_where P (Err e) h = tt
 
--- If a check is followed by a success, the only possible fault is that of the check.
+-- If nothing after a check can fail, the only possible fault is that of the check.
 only_if : {A B : Type 0} (b : Bool) (e : B) (a : A) → IfErr (refused_if b e >>= λ u. Ok a) (λ fault. fault ≡ e)
 only_if true e a = refl
 only_if false e a = tt
