@@ -73,7 +73,7 @@ removed objects handle wanted = do
   Ok (without_persistent objects handle)
 
 -- the persistent objects after a transient object is copied to this handle. Refused by check A5 if
--- the handle is taken; by A6 if there is no room for another object
+-- the handle is taken; by A6 if no further object can be stored
 abbrev pub copied : Entries Object → Object → Handle → Result (Entries Object) Refused
 copied objects object wanted = do
   a5 ← refused_if (is_some (persistent_at objects wanted)) (action_refusal action.Fifth (plain code.NvDefined))

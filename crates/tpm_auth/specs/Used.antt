@@ -19,7 +19,7 @@ used_handle used = used.handle
 pub record IsUsed (r : Record) (used : Resolved) : Type 0 where
   pub found : IsFound r used
 
--- the grant: the handle and the demand, without the handle's entity
+-- the grant: the handle and what the policy requires, without the handle's entity
 abbrev pub grant_by : Granted → Grant
 grant_by granted = record { handle = used_handle granted.used; demand = granted.demand }
 

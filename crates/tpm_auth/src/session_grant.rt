@@ -234,7 +234,7 @@ fn comparison_holds<K: Keep>(
     }
 }
 
-/// Returns the grant: the handle and the demand, without the handle's entity.
+/// Returns the grant: the handle and what the policy requires, without the handle's entity.
 fn grant_of(granted: Option<Granted>) -> Option<Grant>
     ensures { result ≡ option_map grant_by granted.entry }
 {

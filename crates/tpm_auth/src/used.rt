@@ -42,7 +42,7 @@ pub struct Granted<'a> {
 }
 
 impl Granted<'_> {
-    /// Returns the grant: the handle and the demand, without the handle's entity.
+    /// Returns the grant: the handle and what the policy requires, without the handle's entity.
     pub fn grant(&self) -> Grant
         ensures { result ≡ grant_by self.now }
     {

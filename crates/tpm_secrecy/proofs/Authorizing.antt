@@ -244,7 +244,7 @@ module _ (s : Secrecy) (covers : CoversKeys s) (r : Record) where
     unfolding entry_parts
     text_same n e x = rw (hash_same x.hash, nonce_same _ _, nonce_same _ _) refl
 
-    -- ---- the demand of a session
+    -- ---- what a session's policy requires in its entry
 
     use_same : (n : ℕ) (h : Handle) (x : Session) → use_of bare c locality n h x ≡ use_of r c locality n h x
     unfolding use_of

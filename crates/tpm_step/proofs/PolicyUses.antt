@@ -129,7 +129,7 @@ module _ (u : PolicyUse) (used : used_in u.command.command u.place ≡ Some u.ha
   policy_is : policy_in u.session ≡ evaluated hash false assertions
   policy_is = ap (λ (k : SessionType). evaluated hash (is_trial k) assertions) kind
 
-  -- the authorization value in the HMAC key, given the policy's demand
+  -- the authorization value in the HMAC key, given what the policy requires in the entry (`Demand`)
   abbrev value_by : SessionType → Demand → List ℕ
   value_by k d = cond (has_value_in_key k (is_bound_to u.session (name_in u.command.views u.place) (auth_of u.history u.handle)) d) (auth_of u.history u.handle) []
 

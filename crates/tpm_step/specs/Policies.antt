@@ -82,7 +82,7 @@ assertion_by command.PolicyNv c history hash nonce_tpm = do
   }))
 assertion_by _ c history hash nonce_tpm = Err handle_refusal
 
--- the list of assertions, with the new assertion added at the front if it could be parsed
+-- the list of assertions, with the new assertion prepended if it could be parsed
 abbrev pub with_assertion : Result Assertion Refused → List Assertion → List Assertion
 with_assertion (Ok assertion) assertions = assertion ∷ assertions
 with_assertion (Err e) assertions = assertions

@@ -115,7 +115,7 @@ refusal_step r e = record {
 }
 
 -- the record after a success, which discards the state that a TPM2_Shutdown saved unless the
--- command keeps it (Part 3, section 9.4)
+-- command preserves it (Part 3, section 9.4)
 abbrev pub settled : CommandCode → Record → Record
 settled code r = if (shape_of code).keeps_shutdown then r else with_saved r Nothing
 

@@ -67,8 +67,8 @@ fails_try r (Placed object) = false
 -- and no entity is touched.
 
 -- the protection of the entity whose authorization value is used to check a session's entry, if the
--- entry has to authorize this handle. The last argument is the policy's demand, or the refusal if
--- the session may not authorize the handle
+-- entry has to authorize this handle. The last argument is what the policy requires in the entry,
+-- or the refusal if the session may not authorize the handle
 abbrev pub touched_where : Record → Session → Handle → Result Demand Refused → Protection
 touched_where r s handle (Ok demand) =
     entry_protection r s (Some (record { handle = handle; demand = demand }))

@@ -44,10 +44,10 @@ abbrev pub unchanged : Record → AnswerParts → Success
 unchanged r answer = record { answer = answer; after = r }
 
 -- A command that may allocate did what its row says: it changed the record and returned the answer,
--- or it was refused. If an allocation can fail, it may instead have been refused with MEMORY. A
--- refusal does not change the record. After a refusal of any command, the content of the answer is
--- unspecified: it may contain part of a success's answer. The response to a refused command depends
--- only on the refusal.
+-- or it was refused. If an allocation can fail, a command that would succeed may have been refused
+-- with MEMORY. A refusal does not change the record. After a refusal of any command, the content of
+-- the answer is unspecified: it may contain part of a success's answer. The response to a refused
+-- command depends only on the refusal.
 abbrev pub ActsIfRoom : Bool → Result Success Refused
     → Record → Result (Unit {0}) Refused → Answer → Record → Type 0
 ActsIfRoom can (Ok s) old (Ok done) answer new = IsAnswer s.answer answer × (new ≡ s.after)
