@@ -1,5 +1,5 @@
 //! TPM2_Clear: removes the objects of the owner and the endorsement hierarchy, and the owner's NV
-//! indices, as specified by its row in `specs/Clear`.
+//! indices (specified in `specs/Clear`).
 
 ghost use Rattle.std.specs.Prelude.{◌≡◌};
 ghost use Rattle.tpm_record.specs.rows.Answer.{IsEmpty};

@@ -1,5 +1,5 @@
-//! TPM2_StartAuthSession: starts a session, bound to an entity or unbound, as specified by its
-//! row in `specs/StartAuthSession`.
+//! TPM2_StartAuthSession: starts a session, bound to an entity or unbound (specified in
+//! `specs/StartAuthSession`).
 
 ghost use Rattle.tpm_bytes.specs.Reading.{Gives};
 ghost use Rattle.std.specs.Prelude.{◌≡◌, ◌≤◌, true, length, IfOk, OnOk};

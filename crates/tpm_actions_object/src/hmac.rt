@@ -1,5 +1,4 @@
-//! TPM2_HMAC: returns the HMAC of a buffer, computed with a key, as specified by its row in
-//! `specs/Hmac`.
+//! TPM2_HMAC: returns the HMAC of a buffer, computed with a key (specified in `specs/Hmac`).
 
 ghost use Rattle.std.specs.Prelude.{◌≡◌};
 ghost use Rattle.tpm_record.specs.rows.Answer.{IsEmpty};

@@ -1,5 +1,5 @@
-//! TPM2_Load: unwraps the private area of an object under its parent and loads the object, as
-//! specified by its row in `specs/Load`.
+//! TPM2_Load: unwraps the private area of an object under its parent and loads the object
+//! (specified in `specs/Load`).
 
 ghost use Rattle.std.specs.Prelude.{◌≡◌};
 ghost use Rattle.tpm_record.specs.rows.Answer.{IsEmpty};

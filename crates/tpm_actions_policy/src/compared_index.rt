@@ -1,4 +1,4 @@
-//! The NV index whose data TPM2_PolicyNV compares. Reads the data, or finds the reason why it
+//! The NV index whose data TPM2_PolicyNV compares. Reads the data, or returns the reason why it
 //! cannot be read, and asserts that the comparison holds.
 
 ghost use Rattle.std.specs.Prelude.{◌≡◌, ◌≤◌, length};

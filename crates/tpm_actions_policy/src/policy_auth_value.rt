@@ -1,5 +1,5 @@
-//! TPM2_PolicyAuthValue: requires an HMAC whose key includes the entity's authorization value, as
-//! specified by its row in `specs/PolicyAuthValue`.
+//! TPM2_PolicyAuthValue: requires an HMAC whose key includes the entity's authorization value
+//! (specified in `specs/PolicyAuthValue`).
 
 ghost use Rattle.std.specs.Prelude.{◌≡◌};
 ghost use Rattle.tpm_commands.specs.declared.command_code.CommandCode.TheVariants as command;

@@ -1,5 +1,4 @@
-//! TPM2_PolicyNV: compares data of an NV index with an operand, as specified by its row in
-//! `specs/PolicyNv`.
+//! TPM2_PolicyNV: compares data of an NV index with an operand (specified in `specs/PolicyNv`).
 
 ghost use Rattle.tpm_bytes.specs.Reading.{Gives};
 ghost use Rattle.std.specs.Prelude.{◌≡◌, IfOk, length};

@@ -1,5 +1,5 @@
-//! TPM2_PolicyPassword: requires the entity's authorization value as a password, as specified by
-//! its row in `specs/PolicyPassword`.
+//! TPM2_PolicyPassword: requires the entity's authorization value as a password (specified in
+//! `specs/PolicyPassword`).
 
 ghost use Rattle.std.specs.Prelude.{◌≡◌};
 ghost use Rattle.tpm_commands.specs.declared.command_code.CommandCode.TheVariants as command;

@@ -147,7 +147,7 @@ entry_protection r s (Some grant) =
     then or_protection (protection_of r grant.handle) (binding_protection s)
     else binding_protection s
 
--- the facts about a command's use of a handle that a policy checks. The entry with this number,
+-- the facts that a policy checks about a command's use of a handle. The entry with this number,
 -- which names a policy session, has to authorize the use
 unfoldable pub use_of : Record → Whole → (locality n : ℕ) → Handle → Session → UseParts
 use_of state command locality number handle session = record {
@@ -193,8 +193,8 @@ unfoldable pub demanded : Record
 demanded state command locality number handle session =
     demand_by session.kind state command locality number handle session
 
--- the comparison of the password or HMAC of entry n. If the entity whose authorization value the
--- entry uses is locked out, nothing is compared and the entry is refused
+-- the check of entry n's password or HMAC. If the entity whose authorization value the entry uses
+-- is locked out, nothing is compared and the entry is refused
 abbrev pub comparison : Record
     → Whole → ℕ → Option Grant → Entry → Session → Result (Option Grant) Refused
 comparison state command number grant entry session = do

@@ -273,8 +273,8 @@ fn compare<K: Keep>(
     Err(failure(check_of(grant), by.number, protection))
 }
 
-/// Checks a session's entry: whether the session can authorize the handle, if there is one, and
-/// whether the password or HMAC is right. Returns the entry's grant, if any.
+/// Checks whether a session can authorize the handle, if there is one, and whether the password or
+/// HMAC in its entry is right. Returns the entry's grant, if any.
 #[tactic(auto, unfolding(crate::specs::SessionGrant::session_grant))]
 pub fn check_session<K: Keep>(
     keep: &K,

@@ -57,13 +57,13 @@ SoMeasures code q saved r s = Measures code q saved r.fixed.banks s.after.fixed.
 
 -- ---- the PCR that a handle names
 
--- If the handle names a PCR, this PCR has the values `new`, and the number of updates grew by
+-- If the handle names a PCR, this PCR has the values `new`, and the update counter increased by
 -- `count`. All other PCRs have their old values.
 record IsChanged (handle : Handle) (new : HashAlg → ℕ → List ℕ) (count : ℕ) (old banks : BankValues) : Type 0 where
   values : (bank : HashAlg) (n : ℕ) → n < 24 → pcr_value banks bank n ≡ cond (handle.number == n) (new bank n) (pcr_value old bank n)
   updates : banks.update_count ≡ old.update_count + cond (nat_lt handle.number 24) count 0
 
--- The PCR with this number has the values `new`, and the number of updates grew by `count`. All
+-- The PCR with this number has the values `new`, and the update counter increased by `count`. All
 -- other PCRs have their old values.
 record IsMade (pcr : ℕ) (new : HashAlg → ℕ → List ℕ) (count : ℕ) (old banks : BankValues) : Type 0 where
   values : (bank : HashAlg) (n : ℕ) → n < 24 → pcr_value banks bank n ≡ cond (pcr == n) (new bank n) (pcr_value old bank n)

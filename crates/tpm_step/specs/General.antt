@@ -1,7 +1,7 @@
 -- The order of refusals: the checks that every command passes before its own parameters are read.
 -- The response reports the first check that fails. The checks are those of TPM 2.0 Library, Part 3,
--- sections 5.2 (header), 5.3 (mode), 5.4 (handles) and 5.5 (sizes of the session area). The
--- specification leaves their order and their response codes open; this implementation chooses them.
+-- sections 5.2 (header), 5.3 (mode), 5.4 (handles) and 5.5 (sizes of the session area). Their order
+-- and response codes are a choice of this implementation.
 use Rattle.std.specs.Prelude.{◌≡◌, ℕ, ◌==◌, ◌&&◌, nat_lt, not, Bool, true, false, List, Result, Ok, Err}
 use Rattle.tpm_bytes.specs.Many.{each_at}
 use Rattle.tpm_bytes.specs.Reading.{◌>>=◌, refused_if}

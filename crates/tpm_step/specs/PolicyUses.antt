@@ -101,7 +101,7 @@ MeetsPolicies history c place handle e (ByPolicy s lives kind meets has) =
 
 -- For each handle that needs authorization, the entry at the same position authorizes it by a
 -- password, an HMAC or a policy. If a policy session authorizes it, the use meets every policy of
--- the handle's entity, as `MeetsPolicies` says.
+-- the handle's entity (`MeetsPolicies`).
 abbrev pub UsesMeetPolicies : History → AcceptedCommand → Type 0
 UsesMeetPolicies history c =
     (place : ℕ) (handle : Handle) → used_in c.command place ≡ Some handle

@@ -60,11 +60,10 @@ fails_try r (Given buffer locality elapsed random) =
 fails_try r Cycled = false
 fails_try r (Placed object) = false
 
--- The device checks an entry with the authorization value of one entity: the entry touches this
--- entity. If the password is compared with the value of the entity that the entry has to authorize,
--- or the HMAC key contains this value, it is that entity. Otherwise it is the entity to which the
--- session was bound at its start. If a session may not authorize the entity, nothing is compared
--- and no entity is touched.
+-- An entry touches the entity whose authorization value is used to check it. This is the entity
+-- that the entry has to authorize, if the password is compared with its value or the HMAC key
+-- contains the value. Otherwise it is the entity to which the session was bound at its start. If a
+-- session may not authorize the entity, no entity is touched.
 
 -- the protection of the entity whose authorization value is used to check a session's entry, if the
 -- entry has to authorize this handle. The last argument is what the policy requires in the entry,

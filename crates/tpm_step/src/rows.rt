@@ -205,9 +205,9 @@ pub fn granted_session_laws()
         → RefusesAuthorization (grants_pass r c locality [] c.entries) }
 {}
 
-/// The result of a successful authorization is a list with one element for each entry: a grant, or
-/// None. The first entries are granted the handles that need authorization, in order, and the other
-/// entries no handle.
+/// A successful authorization returns a list with one element for each entry: a grant, or None. The
+/// first entries are granted the handles that need authorization, in order, and the other entries
+/// no handle.
 #[inline(always)]
 #[tactic(auto, using(crate::proofs::rows::Grants::grants_fit))]
 pub fn grant_laws()

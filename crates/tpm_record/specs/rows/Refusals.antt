@@ -29,7 +29,7 @@ parameter_refusal action parameter fault = action_refusal action (at (place.Para
 abbrev pub fault_refusal : ActionFault → Refused
 fault_refusal fault = action_refusal fault.check fault.rc
 
--- the refusal because memory ran out, by check M
+-- the refusal by check M, because memory ran out
 abbrev pub memory_refusal : Refused
 memory_refusal = refusal check.Memory (plain code.Memory)
 

@@ -48,8 +48,8 @@ pub same_sessions : (r : Record) (sessions : List (Option Session))
     → Grows false r (record r { sessions = sessions })
 same_sessions r sessions same = omega (arith, same)
 
--- whether a success that changes this part never needs another slot for a session, an object
--- (transient or persistent) or an NV index, however it changes the part
+-- whether no change of this part needs another slot for a session, an object (transient or
+-- persistent) or an NV index
 abbrev pub keeps_places : Part → Bool
 keeps_places Nothing = true
 keeps_places AuthValues = true
