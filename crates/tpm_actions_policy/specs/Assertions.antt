@@ -73,7 +73,8 @@ body_of _ = Plain []
 abbrev pub policy_session : List (Option Session) → Handle → Result Session Refused
 policy_session sessions handle = ok_or (session_at sessions handle) handle_refusal
 
--- a session's policy after an assertion. A refused assertion refuses the command, by the same check
+-- a session's policy after an assertion. If the assertion is refused, the command is refused by the
+-- same check
 abbrev pub policy_after : (Session → Assertion) → Session → Result Policy Refused
 policy_after assertion s =
     or_refusal fault_refusal (asserted s.hash (is_trial s.kind) (assertion s) s.policy)

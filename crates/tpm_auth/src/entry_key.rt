@@ -141,8 +141,8 @@ fn encrypting_nonce<'a, K: Keep>(keep: &'a K, entries: &[AuthEntry]) -> &'a [u8]
     }
 }
 
-/// The other entries whose session nonces are covered by an entry's HMAC: all later entries if the
-/// entry is the first one and authorizes a handle, otherwise none.
+/// The other entries whose session nonces are covered by an entry's HMAC: if the entry is the first
+/// one and authorizes a handle, all later entries; otherwise no entries.
 fn other_entries<'a, 'b>(command: &'a Command<'b>, number: u8) -> &'a [AuthEntry<'b>]
     ensures { map entry_of result.now ≡ other_entries (whole_of command.now) number }
 {

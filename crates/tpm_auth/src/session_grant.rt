@@ -141,8 +141,8 @@ fn use_of<'a, K: Keep>(
     }
 }
 
-/// Returns what the session's policy requires in its entry, if the policy authorizes the use of
-/// this handle.
+/// Returns what the session's policy requires in its entry, if the policy authorizes the command to
+/// use this handle.
 fn policy_demand<K: Keep>(
     keep: &K,
     sent: &Sent,

@@ -1,6 +1,5 @@
 //! The trait `Keep`, which types that contain the device's state implement. It provides read and
-//! write access to each part of the state. In contracts, such a value is the record that it
-//! represents.
+//! write access to each part of the state.
 
 ghost use Rattle.std.specs.Prelude.{◌≡◌, Bool, IfOk, OnErr, replicate, true};
 ghost use Rattle.std.specs.Borrow.{Lends, sem};

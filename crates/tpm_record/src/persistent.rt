@@ -57,8 +57,7 @@ pub trait PersistentObjects: Drop + Sized {
         ensures there { result ≡ is_some (persistent_at (entries self.old) handle) }
         ensures after { entries self.new ≡ without_persistent (entries self.old) handle };
 
-    /// Removes the objects in the owner and endorsement hierarchies, as TPM2_Clear does (TPM 2.0
-    /// Library, Part 3, section 24.6).
+    /// Removes the objects in the owner and endorsement hierarchies, as TPM2_Clear does.
     fn clear_hierarchies(&mut self)
         ensures { entries self.new ≡ cleared_persistent (entries self.old) };
 

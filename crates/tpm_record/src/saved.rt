@@ -17,8 +17,8 @@ pub enum SavedKind {
     State,
 }
 
-/// The state that the last TPM2_Shutdown saved for the next TPM2_Startup (TPM 2.0 Library, Part 3,
-/// sections 9.3 and 9.4). Discarded values remain in memory but are ignored.
+/// The state that the last TPM2_Shutdown saved for the next TPM2_Startup. Discarded values remain
+/// in memory but are ignored.
 #[derive(Drop)]
 pub struct Saved {
     kind: SavedKind,

@@ -103,7 +103,7 @@ other_name one other apart = by (bytes_eq one other) refl
     by true is = absurd (apart ((bytes_eq-Decides one other).0 is))
     by false is = refl
 
--- the refusal of an entry whose comparison is assumed to fail
+-- the refusal of an entry whose password or HMAC is assumed to be wrong
 abbrev pub wrong_comparison : Record → ℕ → Option Grant → Session → Result (Option Grant) Refused
 wrong_comparison t n g x =
     may_be_tried t.fixed.lockout g (entry_protection t x g) >>= λ tried.

@@ -143,8 +143,8 @@ disk_policy hash selection values name reference =
     (Branch (Then Nothing (PolicySecret name reference)) NoBranch))
 
 -- The command is an accepted TPM2_Unseal of the disk's key. Unless the hash is broken, its session
--- proves one of two things: the PCRs had these values, and the PIN, which is the key's
--- authorization value, was presented; or the recovery secret was presented.
+-- proves that the PCRs had these values and the PIN, which is the key's authorization value, was
+-- presented; or that the recovery secret was presented.
 pub record OpensDiskKey (public : Public) (selection : List BankSelection)
     (values name reference : List ℕ) (history : History) (c : AcceptedCommand) : Type 0
   where

@@ -174,7 +174,7 @@ the_one : (code : Code) → is_policy_pcr code ≡ true → code ≡ command.Pol
 the_one command.PolicyPcr is = refl
 the_one _ is = absurd cc
 
--- ---- stretches of a history
+-- ---- parts of a history
 
 joined : (since : History) (first : PastEvent) (before : History) → (since ++ first ∷ []) ++ before ≡ since ++ first ∷ before
 joined since first before = append_assoc since (first ∷ []) before

@@ -54,7 +54,7 @@ done_renews c history place e old new shows unstarted entry before after =
     by mid (inl same) earlier among = subst (λ (nonce : List ℕ). IsAmong nonce new.earlier_nonces) (sym same) among
     by mid (inr had) earlier among = earlier old.nonce_tpm had
 
--- ---- a session before and after a stretch of events
+-- ---- a session before and after a sequence of events
 
 lived_on : (handle : Handle) (events before : History) (new : LiveSession) → AllShowHmacs (events ++ before) → LivesThrough handle events before → sessions_of (events ++ before) handle ≡ Some new → Was Continues (sessions_of before handle) new
 lived_on handle [] before new shows through lives = (new, lives, continues_self new)

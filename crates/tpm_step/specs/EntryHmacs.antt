@@ -89,7 +89,7 @@ abbrev pub hmac_in : History → AcceptedCommand → ℕ → Entry → LiveSessi
 hmac_in history c place e s =
     hmac_of s.hash (key_in history c place s) (text_in history c place e s)
 
--- The entry contains the HMAC of its message with its key. Or both its key and its HMAC are empty.
+-- The entry contains the HMAC of its message with its key, or both its key and its HMAC are empty.
 abbrev pub HasHmac : History → AcceptedCommand → ℕ → Entry → LiveSession → Type 0
 HasHmac history c place e s =
     (e.hmac ≡ hmac_in history c place e s)

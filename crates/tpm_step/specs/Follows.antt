@@ -89,7 +89,7 @@ pub record FollowsOn (old : Record) (event : PlainEvent) (x : Stepped) : Type 0 
   pub grounds : After (λ r. AllHaveGrounds) old event x
   pub policies : After (λ r. AllMeetPolicies) old event x
 
--- ---- a stretch of events on a device that follows a history
+-- ---- a sequence of events on a device that follows a history
 
 -- The executions led from a device that follows a history to a device that follows the history
 -- after the executions. No NV counter went down unless an index was defined again with its handle.

@@ -51,8 +51,8 @@ abbrev pub in_header : Result (Header × List ℕ) HeaderFault → Result (Heade
 in_header (Ok h) = Ok h
 in_header (Err f) = Err (header_refusal f)
 
--- whether a command is TPM2_Startup. Check G5 refuses every other command before TPM2_Startup, and
--- refuses a second TPM2_Startup after it
+-- whether a command is TPM2_Startup. Check G5 refuses every other command before the device is
+-- started, and TPM2_Startup afterwards
 abbrev pub is_startup : CommandCode → Bool
 is_startup c = code_number c == code_number command.Startup
 

@@ -1,4 +1,4 @@
--- What common kinds of authPolicy require of each use of their entity. TPM 2.0 Library, Part 1,
+-- What common kinds of authPolicy require when their entity is used. TPM 2.0 Library, Part 1,
 -- section 19.7 (enhanced authorization), and Part 3, sections 23.4 (TPM2_PolicySecret), 23.6
 -- (TPM2_PolicyOR), 23.7 (TPM2_PolicyPCR), 23.9 (TPM2_PolicyNV), 23.17 (TPM2_PolicyAuthValue) and
 -- 23.20 (TPM2_PolicyNvWritten).
@@ -69,7 +69,7 @@ pub record WritesIndex (c : AcceptedCommand) (place : ℕ) (public : NvPublic)
     pub auth_policy : public.auth_policy ≡ policy_digest public.name_alg policy
 
 -- The entry at this position of a command names a policy session with this hash. Unless the hash is
--- broken (`BreaksHash`), the property holds for the use.
+-- broken (`BreaksHash`), the property holds for the use of the handle at this position.
 pub record IsUsedBySession (history : History) (c : AcceptedCommand) (place : ℕ) (hash : HashAlg)
     (policy : PolicyExpression) (Holds : PolicyUse → Type 0) : Type 0
   where
@@ -92,8 +92,8 @@ pub record IsUsedBySession (history : History) (c : AcceptedCommand) (place : �
 
 -- ---- policies of any kind
 
--- Only policy sessions authorize the use of an object without userWithAuth, and each use meets the
--- object's policy.
+-- Only policy sessions authorize a command to use an object without userWithAuth, and each use
+-- meets the object's policy.
 abbrev pub NeedsItsPolicy : History → AcceptedCommand → Type 0
 NeedsItsPolicy history c =
     (place : ℕ) (public : Public) (policy : PolicyExpression) → UsesObject c place public policy
@@ -106,8 +106,8 @@ NeedsItsPolicy history c =
 abbrev pub by_pcrs : HashAlg → List BankSelection → (values : List ℕ) → PolicyExpression
 by_pcrs hash selection values = Then Nothing (PolicyPcr selection (hash_of hash values))
 
--- The selected PCRs have these values after a history. Or the PCRs' concatenated values differ from
--- these, but have the same hash.
+-- After a history, the selected PCRs have these concatenated values, or different ones with the
+-- same hash.
 abbrev pub HavePcrValues : History → HashAlg → List BankSelection → (values : List ℕ) → Type 0
 HavePcrValues history hash selection values =
     let found : List ℕ = concat (flat_map (values_in history) selection) in

@@ -141,14 +141,14 @@ IsAnsweredTry r (Given buffer locality elapsed random) x =
 IsAnsweredTry r Cycled x = ⊥
 IsAnsweredTry r (Placed object) x = ⊥
 
--- ---- a stretch of events
+-- ---- a sequence of events
 
 abbrev pub elapsed_of : PlainEvent → ℕ
 elapsed_of (Given buffer locality elapsed random) = elapsed
 elapsed_of Cycled = 0
 elapsed_of (Placed object) = 0
 
--- the milliseconds that pass in a stretch of events, and the number of failed tries among the
+-- the milliseconds that pass in a sequence of events, and the number of failed tries among the
 -- events
 abbrev pub elapsed_in : List Execution → ℕ
 elapsed_in executions = sum_by (λ (one : Execution). elapsed_of one.event) executions
@@ -172,14 +172,14 @@ is_reset (ObjectPlaced at object) = false
 abbrev pub HasNoReset : History → Type 0
 HasNoReset history = AllByRecursion (λ (one : PastEvent). is_reset one ≡ false) history
 
--- the number of tries that may fail in a stretch of events: maxTries, and one more for each
+-- the number of tries that may fail in a sequence of events: maxTries, and one more for each
 -- recoveryTime that passes
 abbrev pub tries_within : Record → List Execution → ℕ
 tries_within old executions =
     old.fixed.lockout.fields.max_tries + elapsed_in executions / period old.fixed.lockout
 
--- In a stretch of events without a reset, at most `tries_within` tries fail, if recoveryTime is not
--- 0.
+-- In a sequence of events without a reset of failedTries, at most `tries_within` tries fail, if
+-- recoveryTime is not 0.
 abbrev pub FailsWithin : Bool → Record → List Execution → Record → Type 0
 FailsWithin can old executions new =
     Leads can old executions new
@@ -187,7 +187,7 @@ FailsWithin can old executions new =
     → old.fixed.lockout.fields.recovery_time ≢ 0
     → failures_in executions ≤ tries_within old executions
 
--- a bound on the number of tries that fail in a stretch of events: maxTries plus one, and one more
+-- a bound on the number of tries that fail in a sequence of events: maxTries plus one, and one more
 -- for each recoveryTime that passes
 abbrev pub tries_at_most : Record → List Execution → ℕ
 tries_at_most old executions =

@@ -48,8 +48,8 @@ pub same_sessions : (r : Record) (sessions : List (Option Session))
     → Grows false r (record r { sessions = sessions })
 same_sessions r sessions same = omega (arith, same)
 
--- whether no change of this part needs another slot for a session, an object (transient or
--- persistent) or an NV index
+-- whether a command that changes only this part of the state never needs another slot for a
+-- session, an object (transient or persistent) or an NV index
 abbrev pub keeps_places : Part → Bool
 keeps_places Nothing = true
 keeps_places AuthValues = true
@@ -86,7 +86,7 @@ touched_grows _ old new keeps touches = absurd (false≢true keeps)
 
 -- ---- sessions
 
--- whether a change of this part leaves the sessions unchanged
+-- whether a command that changes only this part of the state leaves the sessions unchanged
 abbrev pub leaves_sessions : Part → Bool
 leaves_sessions Sessions = false
 leaves_sessions SessionsAndObjects = false
