@@ -57,7 +57,8 @@ handle_elements r kind =
 abbrev pub first_handle_of : ℕ → ℕ
 first_handle_of property = if property / 2 ^ 24 == 0x02 then property % 2 ^ 24 else property
 
--- all PCRs of both banks; TPM2_GetCapability returns them for every requested property
+-- all PCRs of the device, in both banks; TPM2_GetCapability returns them for every requested
+-- property
 abbrev pub all_banks : List BankSelection
 all_banks =
     record { hash = alg.Sha1; select = 0xff_ffff }

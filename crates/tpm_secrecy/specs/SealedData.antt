@@ -94,9 +94,8 @@ NoneIs Holds history (one ∷ executions) =
     ((c : AcceptedCommand) → with_execution one history ≡ Done c ∷ history → Holds history c → ⊥)
     × NoneIs Holds (with_execution one history) executions
 
--- If `other` executes the same events, it has the same responses and rows, and afterwards differs
--- from `new` only in sealed data. Objects that the events place on the other device may differ in
--- this data.
+-- `other` can execute the same events with the same responses and rows, and then differs from `new`
+-- only in sealed data. Objects that the events place on the other device may differ in this data.
 abbrev pub LeadsAlike : (Public → Bool) → Bool → Record → List Execution → Record → Type 0
 LeadsAlike objects can other [] new = DifferInSecrets (sealed objects) new other
 LeadsAlike objects can other (one ∷ executions) new =

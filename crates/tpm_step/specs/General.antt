@@ -73,15 +73,15 @@ sessions_pass c tag = do
   refused_if (not (has_sessions tag) && nat_lt 0 (authorized_handles c))
       (refusal check.Sessions (plain code.AuthMissing))
 
--- the handle with number n, decoded from the command's bytes, if its rule allows the handle and the
--- handle names an existing entity
+-- the handle with number n, decoded from the start of the bytes, if its rule allows the handle and
+-- the handle names an existing entity
 unfoldable pub present_handle_at : Record → ℕ → HandleRule → List ℕ → Result (Handle × List ℕ) Rc
 present_handle_at r n rule text = do
   handle ← allowed_handle_at n rule text
   present ← refused_if (not (is_present r handle.0)) (absence_rc n handle.0)
   Ok handle
 
--- the handles at the start of a command's bytes, one for each handle rule of the command
+-- the handles at the start of the bytes after the header, one for each handle rule of the command
 abbrev pub present_handles_at : Record → CommandCode → List ℕ → Result (List Handle × List ℕ) Rc
 present_handles_at r code text = each_at (present_handle_at r) 1 (shape_of code).handles text
 

@@ -108,8 +108,8 @@ UsesMeetPolicies history c =
     → (e : Entry) × (slice_get c.command.entries place ≡ Some e)
     × (ground : Ground history c place e) × MeetsPolicies history c place handle e ground
 
--- In each command of a history, the uses that policy sessions authorized met the policies of the
--- used entities.
+-- In each command of a history, each handle that needs authorization was authorized, and each use
+-- by a policy session met the policies of the used entity, given the history before the command.
 abbrev pub AllMeetPolicies : History → Type 0
 AllMeetPolicies [] = Unit {0}
 AllMeetPolicies (Done c ∷ history) = UsesMeetPolicies history c × AllMeetPolicies history

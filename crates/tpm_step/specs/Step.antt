@@ -82,8 +82,8 @@ Succeeds (Ok a) c grants answer new =
     × (new ≡ a.success.after)
 Succeeds (Err refused) c grants answer new = ⊥
 
--- The code accepts or refuses the command as the definition says. If it accepts, the grants are the
--- same. A refusal leaves the record unchanged.
+-- The code accepts or refuses the command as the definition says. If it accepts, it returns the
+-- definition's grants. A refusal leaves the record unchanged.
 abbrev pub Accepts : Bool → Result Accepted Refused → Whole → List (Option Grant)
     → Record → Result (Unit {0}) Refused → Answer → Record → Type 0
 Accepts can a c grants old (Ok done) answer new = Succeeds a c grants answer new
