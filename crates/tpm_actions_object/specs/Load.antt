@@ -28,7 +28,7 @@ abbrev pub sensitive_of : Object → Public → List ℕ → Result Sensitive Re
 sensitive_of parent public private =
     or_fault (unwrapped parent public private) (parameter_refusal action.Fifth 1 code.Integrity)
 
--- the loaded object, as a child of its parent and in the parent's hierarchy
+-- the loaded object, a child of this parent in the same hierarchy
 abbrev pub loaded_below : Object → Public → Sensitive → Object
 loaded_below parent public sensitive =
     loaded_object parent.hierarchy public sensitive parent.qualified_name

@@ -22,8 +22,8 @@ use tpm_session::{CommandText, ParameterHashes, Session};
 use tpm_types::SessionType;
 use tpm_types_command::{AuthEntry, Command};
 
-/// Whether a session is bound to an entity whose Name and authorization value are still the same.
-/// If the authorization value has changed, the Name is not looked up.
+/// Whether a session is bound to an entity that still has the Name and the authorization value from
+/// the session's start. If the authorization value has changed, the Name is not looked up.
 #[tactic(auto, unfolding(crate::specs::SessionGrant::is_bound_to, tpm_record::specs::Entity::auth_value_of, tpm_record::specs::Entity::name_of))]
 fn is_bound_to<K: Keep>(
     keep: &K,

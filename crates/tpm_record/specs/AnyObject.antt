@@ -45,7 +45,7 @@ abbrev pub least_below : (ℕ → Bool) → ℕ → Option ℕ
 least_below test zero = None
 least_below test (suc n) = or_else (least_below test n) (if test n then Some n else None)
 
--- whether a slot contains a transient object whose handle has at least this number
+-- whether a slot contains a transient object whose handle is at or above this number
 abbrev pub is_from : List (Option Object) → (number place : ℕ) → Bool
 is_from objects number place =
     nat_le number (number_of 0x80 place) && is_some (object_at objects (object_handle place))

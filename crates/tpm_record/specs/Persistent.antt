@@ -1,6 +1,6 @@
 -- The persistent objects of a device, in ascending order of handle. TPM 2.0 Library, Part 1,
--- section 37.3 (eviction by the owner and the platform), and Part 2, section 7.2
--- (TPM_HT_PERSISTENT: a handle whose highest byte is 81).
+-- section 37.3 (owner and platform evict objects), and Part 2, section 7.2 (TPM_HT_PERSISTENT: a
+-- handle whose highest byte is 81).
 use Rattle.tpm_types.specs.Limits.{persistent_limit}
 use Rattle.std.specs.Prelude.{◌≡◌, ℕ, ◌≤◌, Bool, true, false, [], length, Option}
 use Rattle.tpm_containers.specs.SortedMap.{AreEach, Ascends, Entries, at_key, key_from, with_key, without_key}

@@ -17,7 +17,7 @@ use Rattle.tpm_step.specs.History.{AcceptedCommand, Done, History, ObjectPlaced,
 use Rattle.tpm_step.specs.Pcrs.{digest_in, updates_of, writes}
 use Rattle.tpm_step.specs.Sessions.{LiveSession, policy_in, sessions_of}
 
--- whether TPM2_PolicyPCR made this assertion; and whether it made one of a session's assertions
+-- whether an assertion is by TPM2_PolicyPCR; and whether one of a session's assertions is
 abbrev pub is_pcr : Assertion → Bool
 is_pcr (Pcr parts) = true
 is_pcr _ = false

@@ -37,7 +37,7 @@ pub fn number<T>(place: u8, read: Result<T, Short>) -> Result<T, Refused>
     }
 }
 
-/// Refuses a command with bytes after its last parameter.
+/// Refuses a command that has bytes after its last parameter.
 pub fn end(parameters: &Cursor) -> Result<(), Refused>
     ensures { result ≡ all_read parameters.now }
 {

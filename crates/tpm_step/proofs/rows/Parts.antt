@@ -21,7 +21,7 @@ use Rattle.tpm_commands.specs.Part.{Saved, Sessions, SessionsAndObjects}
 use Rattle.tpm_step.specs.rows.Sessions.{SessionsStay}
 use Rattle.tpm_step.specs.rows.Shapes.{Grows, taken_in}
 
--- ---- taken slots
+-- ---- slots in use
 
 -- The number of NV indices is unchanged.
 abbrev pub SameCount : NvContents → NvContents → Type 0
