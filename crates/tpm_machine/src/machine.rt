@@ -136,8 +136,7 @@ impl<K: Keep> Machine<K> {
             (plain_event event.now) outcome.new.row.check }
 
         // If the device followed a history, it now follows that history, extended by this event if
-        // it was accepted. `FollowsOn` lists what the history then determines, and what holds for
-        // each replay and for each use of a handle in it.
+        // it was accepted.
         ensures follows { FollowsOn (state_of K.record_of self.old) (plain_event event.now)
             (outcome_step (state_of K.record_of self.new) outcome.new) }
     {
