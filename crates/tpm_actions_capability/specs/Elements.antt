@@ -44,7 +44,7 @@ permanent_elements =
     ∷ []
 
 -- the handles of types 02 and 03: the sessions of every type, in the order of their slots. The slot
--- number is compared with the requested property, and the handle is listed
+-- number is compared with the requested property, but the listed value is the handle
 abbrev pub session_element : Record → (place : ℕ) → List Element
 session_element r place =
     option_map_or (λ (s : Session). record { number = place; told = (handle_of s.kind place).number } ∷ [])

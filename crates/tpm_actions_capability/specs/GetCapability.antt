@@ -57,7 +57,8 @@ handle_elements r kind =
 abbrev pub first_handle_of : ℕ → ℕ
 first_handle_of property = if property / 2 ^ 24 == 0x02 then property % 2 ^ 24 else property
 
--- all PCRs of both banks, which are listed whatever property is requested; there are no others
+-- all PCRs of the device, in both banks; TPM2_GetCapability returns them for every requested
+-- property
 abbrev pub all_banks : List BankSelection
 all_banks =
     record { hash = alg.Sha1; select = 0xff_ffff }
@@ -84,7 +85,7 @@ get_capability_row r q = do
   text ← told_of r p capability
   Ok (unchanged r (answer_of (Plain text)))
 
--- The code wrote the text or the elements that the definition returns, or it refused with the
+-- The code wrote the bytes or the elements that the definition returns, or it refused with the
 -- definition's refusal.
 abbrev pub Tells : {X : Type 0} → Result X Refused → Result (Unit {0}) Refused → X → Type 0
 Tells (Ok wanted) (Ok done) new = new ≡ wanted

@@ -20,14 +20,14 @@ use Rattle.tpm_record.specs.rows.Refusals.{action_refusal, or_refusal}
 use Rattle.tpm_record.specs.rows.Request.{Request}
 use Rattle.tpm_record.specs.rows.Rows.{Success, all_read}
 
--- lockout after TPM2_Clear: lockoutAuth is enabled, and the number of failed tries is 0; the
--- parameters and the times are unchanged
+-- the lockout state after TPM2_Clear: lockoutAuth is enabled, and failedTries is 0; the parameters
+-- and the times are unchanged
 abbrev pub cleared_lockout : LockoutState → LockoutState
 cleared_lockout s = with_closed false (with_tries 0 s)
 
--- the fixed part of the record after TPM2_Clear: the hierarchies and lockout are cleared, Clock and
--- the counts start at 0, and an update of the PCRs is counted; Time is unchanged, and TPM2_Clear
--- remains enabled or disabled
+-- the fixed part of the record after TPM2_Clear: the hierarchies and lockout are cleared, Clock,
+-- resetCount and restartCount are 0, and the PCR update counter is incremented; Time is unchanged,
+-- and TPM2_Clear remains enabled or disabled
 abbrev pub cleared_fixed : BankValues → List ℕ → Fixed → Fixed
 cleared_fixed banks random f = record f {
   hierarchies = cleared_hierarchies f.hierarchies random;
@@ -40,7 +40,7 @@ cleared_fixed banks random f = record f {
 
 -- the row of TPM2_Clear. Handle: authHandle (lockout or the platform), with authorization.
 -- Parameters: none. Refused by check A1 if TPM2_Clear is disabled, whichever handle authorizes it;
--- by A2 if the update of the PCRs cannot be counted. Effect: removes the owner's objects and
+-- by A2 if the PCR update counter is at its maximum. Effect: removes the owner's objects and
 -- indices, and the endorsement hierarchy's objects; sessions and everything that belongs to the
 -- platform are unchanged
 unfoldable pub clear_row : Record → Request → Result Success Refused

@@ -1,5 +1,5 @@
--- The common part of the commands that change a PCR. With TPM_RH_NULL instead of a PCR, they check
--- and change nothing.
+-- The common part of the commands that change a PCR. With TPM_RH_NULL instead of a PCR, they
+-- neither check nor change any PCR.
 use Rattle.tpm_types.specs.declared.action_check.ActionCheck.TheVariants as action
 use Rattle.std.specs.Prelude.{ℕ, Option, Some, None, Result, Ok, Err}
 use Rattle.tpm_pcr.specs.Values.{BankValues}
@@ -12,7 +12,7 @@ use Rattle.tpm_types.specs.declared.refused.Refused.{Refused}
 use Rattle.tpm_record.specs.rows.Refusals.{action_refusal}
 
 -- the refusal of a command that changes a PCR: by check A1 if the PCR does not allow this change
--- from this locality; by A2 if the updates cannot be counted
+-- from this locality; by A2 if the PCR update counter would exceed its maximum
 abbrev pub change_refusal : ChangeFault → Refused
 change_refusal Locality = action_refusal action.First (plain code.Locality)
 change_refusal Failure = action_refusal action.Second (plain code.Failure)

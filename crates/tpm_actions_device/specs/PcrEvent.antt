@@ -13,8 +13,8 @@ use Rattle.tpm_actions_device.specs.PcrExtend.{extended}
 use Rattle.tpm_record.specs.rows.Answer.{Plain, answer_of}
 use Rattle.tpm_record.specs.rows.Rows.{Success, only}
 
--- the row of TPM2_PCR_Event. Handle: pcrHandle, with authorization. Parameter: eventData, within
--- the size limit for data. Answer: the digests of eventData
+-- the row of TPM2_PCR_Event. Handle: pcrHandle, with authorization. Parameter: eventData, at most
+-- `data_limit` bytes. Answer: the digests of eventData
 unfoldable pub pcr_event_row : Record → Request → Result Success Refused
 pcr_event_row r q = do
   handle ← first_handle q.handles

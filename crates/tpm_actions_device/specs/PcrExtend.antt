@@ -14,7 +14,7 @@ use Rattle.tpm_actions_device.specs.PcrChange.{on_pcr, with_banks}
 use Rattle.tpm_record.specs.rows.Answer.{nothing}
 use Rattle.tpm_record.specs.rows.Rows.{Success, only}
 
--- the banks after a PCR is extended with each digest in turn, from this locality
+-- the banks after a PCR is extended from this locality with each digest in turn
 abbrev pub extended : Handle → (locality : ℕ) → List DigestValue
     → BankValues → Result BankValues Refused
 extended handle locality digests = on_pcr (pcr_of handle) (λ pcr. extend_of pcr locality digests)

@@ -61,7 +61,7 @@ parameters_in text = do
     hash = hash.0;
   })
 
--- whether the session encrypts by XOR and would compute its masks with a hash other than its own
+-- whether the session encrypts by XOR and the hash for its masks is not the session's own
 abbrev pub has_other_mask : SymmetricDefinition → HashAlg → Bool
 has_other_mask (symmetric.Xor mask) hash = not (hash_number mask == hash_number hash)
 has_other_mask other hash = false
@@ -76,7 +76,7 @@ parameters_pass p = do
   a2 ← refused_if (not (length p.salt == 0)) (parameter_refusal action.Second 2 code.Value)
   refused_if (has_other_mask p.symmetric p.hash) (parameter_refusal action.Third 4 code.Hash)
 
--- the binding of a session to the entity of bind in this entity's current state, or None if bind is
+-- the binding of a session to the entity that bind names, as this entity is now, or None if bind is
 -- TPM_RH_NULL
 unfoldable pub binding_of : Record → Handle → Option Binding
 binding_of r bind =
@@ -106,8 +106,8 @@ start_answer p s place = record {
 }
 
 -- the row of TPM2_StartAuthSession. Handles: tpmKey, which is TPM_RH_NULL, and bind. Effect: the
--- session is put into the lowest free slot. Its nonceTPM is as long as nonceCaller, and consists
--- of the first random bytes
+-- session is put into the lowest free slot. Its nonceTPM has the size of nonceCaller, and consists
+-- of the event's first random bytes
 unfoldable pub start_auth_session_row : Record → Request → Result Success Refused
 start_auth_session_row r q = do
   bind ← second_handle q.handles

@@ -43,8 +43,7 @@ start_of type.State saved.State = Ok Resume
 abbrev pub counted_up : ℕ → ℕ
 counted_up count = min (count + 1) (2 ^ 32 - 1)
 
--- the fixed part after every startup: the device is started, and its PCR updates are counted from
--- 0
+-- the fixed part after every startup: the device is started, and its PCR update counter is 0
 abbrev pub begun_with : BankValues → Fixed → Fixed
 begun_with banks f = record f { started = true; banks = record banks { update_count = 0 } }
 
@@ -55,14 +54,14 @@ abbrev pub without_platform_auth : Hierarchies → Hierarchies
 without_platform_auth h = with_hierarchy_auth h auth.Platform []
 
 -- the hierarchies after a TPM Reset: platformAuth is empty, and the null hierarchy has a new seed
--- and a new proof, taken from the first 64 random bytes (Part 1, sections 14.3 and 14.4)
+-- and a new proof, which are the first 64 random bytes (Part 1, sections 14.3 and 14.4)
 abbrev pub reset_hierarchies : Hierarchies → List ℕ → Hierarchies
 reset_hierarchies h random = record (without_platform_auth h) {
   null = record { seed = take 32 random; proof = take 32 (drop 32 random) };
 }
 
--- lockout after a TPM Reset: lockoutAuth is enabled if lockoutRecovery is 0, because then no
--- elapsed time would enable it
+-- the lockout state after a TPM Reset: lockoutAuth is enabled if lockoutRecovery is 0, because then
+-- no elapsed time would enable it
 abbrev pub reset_lockout : LockoutState → LockoutState
 reset_lockout s = if s.fields.lockout_recovery == 0 then with_closed false s else s
 
@@ -82,7 +81,8 @@ restart_fixed f = record (begun_with f.banks f) {
   restart_count = counted_up f.restart_count;
 }
 
--- the fixed part after a TPM Resume, which counts as a restart: the PCRs have their saved values
+-- the fixed part after a TPM Resume: the restart count is incremented, and the PCRs have their
+-- saved values
 abbrev pub resume_fixed : Fixed → Fixed
 resume_fixed f = record (begun_with (restored_from f.saved f.banks) f) {
   restart_count = counted_up f.restart_count;
@@ -103,9 +103,9 @@ start_draws Reset = 64
 start_draws Restart = 0
 start_draws Resume = 0
 
--- the row of TPM2_Startup. Parameter: startupType, from any locality. Refused by check A1 if there
--- is no state to restore. Effect: starts the device. The saved state is discarded, as it is by any
--- other successful command that does not preserve it
+-- the row of TPM2_Startup. Parameter: startupType, from any locality. Refused by check A1 if STATE
+-- is requested and no state was saved. Effect: starts the device. The saved state is discarded, as
+-- it is by any other successful command that does not preserve it
 unfoldable pub startup_row : Record → Request → Result Success Refused
 startup_row r q = do
   type ← only (startup_type_at q.parameters)

@@ -1,5 +1,5 @@
 //! TPM2_Clear: removes the objects of the owner and the endorsement hierarchy, and the owner's NV
-//! indices, as specified by its row in `specs/Clear`.
+//! indices (specified in `specs/Clear`).
 
 ghost use Rattle.std.specs.Prelude.{◌≡◌};
 ghost use Rattle.tpm_record.specs.rows.Answer.{IsEmpty};
@@ -20,8 +20,8 @@ use tpm_types::{ActionCheck, Refused, ResponseCode};
 /// endorsement hierarchy's proof.
 const CLEAR_DRAWS: usize = 3 * 32;
 
-/// Clears the fixed part of the state, except for the PCRs: the caller has already counted their
-/// update.
+/// Clears the fixed part of the state, except for the PCRs: the caller has already incremented the
+/// PCR update counter.
 fn clear_fixed(fixed: &mut Fixed, random: &[u8; 256])
     ensures { fixed.new ≡ cleared_fixed fixed.old.banks random.now fixed.old }
 {
@@ -34,8 +34,8 @@ fn clear_fixed(fixed: &mut Fixed, random: &[u8; 256])
 }
 
 /// TPM2_Clear: removes the objects of the owner and the endorsement hierarchy, and the owner's NV
-/// indices. Returns DISABLED if TPM2_ClearControl disabled it, and FAILURE if the update of the
-/// PCRs cannot be counted.
+/// indices. Returns DISABLED if TPM2_ClearControl disabled it, and FAILURE if the PCR update
+/// counter is at its maximum.
 #[tactic(auto, unfolding(crate::specs::Clear::clear_row))]
 pub fn clear<K: Keep>(keep: &mut K, call: &Call, answer: &mut Answer) -> Result<(), Refused>
     requires { IsEmpty answer.old }

@@ -1,5 +1,4 @@
-//! TPM2_ClearControl: disables or enables TPM2_Clear, as specified by its row in
-//! `specs/ClearControl`.
+//! TPM2_ClearControl: disables or enables TPM2_Clear (specified in `specs/ClearControl`).
 
 ghost use Rattle.std.specs.Prelude.{◌≡◌};
 ghost use Rattle.tpm_record.specs.rows.Answer.{IsEmpty};

@@ -1,5 +1,5 @@
-//! TPM2_DictionaryAttackLockReset: resets the number of failed tries, as specified by its row in
-//! `specs/DictionaryAttackLockReset`.
+//! TPM2_DictionaryAttackLockReset: resets the number of failed tries (specified in
+//! `specs/DictionaryAttackLockReset`).
 
 ghost use Rattle.tpm_record.specs.rows.Answer.{IsEmpty};
 ghost use Rattle.tpm_actions_device.specs.DictionaryAttackLockReset.{dictionary_attack_lock_reset_row};

@@ -1,5 +1,5 @@
 //! TPM2_DictionaryAttackParameters: sets the number of failed tries before lockout, and the two
-//! recovery times, as specified by its row in `specs/DictionaryAttackParameters`.
+//! recovery times (specified in `specs/DictionaryAttackParameters`).
 
 ghost use Rattle.std.specs.Prelude.{◌≡◌};
 ghost use Rattle.tpm_record.specs.rows.Answer.{IsEmpty};

@@ -1,5 +1,5 @@
-//! TPM2_FlushContext: ends a session or removes a transient object, as specified by its row in
-//! `specs/FlushContext`.
+//! TPM2_FlushContext: ends a session or removes a transient object (specified in
+//! `specs/FlushContext`).
 
 ghost use Rattle.std.specs.Prelude.{◌≡◌};
 ghost use Rattle.tpm_actions_device.specs.FlushContext.{can_be_flushed, flush_context_row, flushed_from, is_loaded};

@@ -1,5 +1,4 @@
-//! TPM2_GetRandom: returns random bytes, at most 32, as specified by its row in
-//! `specs/GetRandom`.
+//! TPM2_GetRandom: returns random bytes, at most 32 (specified in `specs/GetRandom`).
 
 ghost use Rattle.tpm_record.specs.rows.Answer.{IsEmpty};
 ghost use Rattle.tpm_actions_device.specs.GetRandom.{get_random_row};

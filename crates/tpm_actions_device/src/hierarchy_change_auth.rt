@@ -1,5 +1,5 @@
-//! TPM2_HierarchyChangeAuth: sets the authorization value of a hierarchy, or lockoutAuth, as
-//! specified by its row in `specs/HierarchyChangeAuth`.
+//! TPM2_HierarchyChangeAuth: sets the authorization value of a hierarchy, or lockoutAuth (specified
+//! in `specs/HierarchyChangeAuth`).
 
 ghost use Rattle.std.specs.Prelude.{◌≡◌};
 ghost use Rattle.tpm_actions_device.specs.HierarchyChangeAuth.{hierarchy_change_auth_row};

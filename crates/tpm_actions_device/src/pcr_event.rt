@@ -1,5 +1,5 @@
-//! TPM2_PCR_Event: extends a PCR with the digests of some data, and returns these digests, as
-//! specified by its row in `specs/PcrEvent`.
+//! TPM2_PCR_Event: extends a PCR with the digests of some data, and returns these digests
+//! (specified in `specs/PcrEvent`).
 
 ghost use Rattle.tpm_actions_device.specs.PcrEvent.{pcr_event_row};
 ghost use Rattle.tpm_record.specs.rows.Answer.{IsEmpty};

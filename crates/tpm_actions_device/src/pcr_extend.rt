@@ -1,5 +1,5 @@
-//! TPM2_PCR_Extend: extends a PCR with each digest of a list in turn, as specified by its row in
-//! `specs/PcrExtend`.
+//! TPM2_PCR_Extend: extends a PCR with each digest of a list in turn (specified in
+//! `specs/PcrExtend`).
 
 ghost use Rattle.std.specs.Prelude.{◌≡◌};
 ghost use Rattle.tpm_actions_device.specs.PcrExtend.{pcr_extend_row};

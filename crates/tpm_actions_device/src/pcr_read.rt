@@ -1,5 +1,5 @@
-//! TPM2_PCR_Read: returns the update counter and the values of the first eight selected PCRs, as
-//! specified by its row in `specs/PcrRead`.
+//! TPM2_PCR_Read: returns the update counter and the values of the first eight selected PCRs
+//! (specified in `specs/PcrRead`).
 
 ghost use Rattle.std.specs.Prelude.{◌≡◌, ◌++◌, ◌%◌, ◌^◌, []};
 ghost use Rattle.std.specs.Int.{w32, to_be_bytes};

@@ -1,5 +1,4 @@
-//! TPM2_PCR_Reset: resets a PCR to zeros in both banks, as specified by its row in
-//! `specs/PcrReset`.
+//! TPM2_PCR_Reset: resets a PCR to zeros in both banks (specified in `specs/PcrReset`).
 
 ghost use Rattle.std.specs.Prelude.{◌≡◌};
 ghost use Rattle.tpm_actions_device.specs.PcrReset.{pcr_reset_row};

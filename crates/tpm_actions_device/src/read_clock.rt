@@ -1,5 +1,5 @@
-//! TPM2_ReadClock: returns Time, Clock, and the numbers of resets and restarts, as specified by
-//! its row in `specs/ReadClock`.
+//! TPM2_ReadClock: returns Time, Clock, and the numbers of resets and restarts (specified in
+//! `specs/ReadClock`).
 
 ghost use Rattle.std.specs.Prelude.{◌≡◌};
 ghost use Rattle.tpm_record.specs.rows.Answer.{IsEmpty};

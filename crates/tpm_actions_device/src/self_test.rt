@@ -1,5 +1,5 @@
-//! TPM2_SelfTest: does nothing, as specified by its row in `specs/SelfTest`, because all tests
-//! have already passed.
+//! TPM2_SelfTest: does nothing, because all tests have already passed (specified in
+//! `specs/SelfTest`).
 
 ghost use Rattle.std.specs.Prelude.{◌≡◌};
 ghost use Rattle.tpm_record.specs.rows.Answer.{IsEmpty};

@@ -1,5 +1,4 @@
-//! TPM2_Shutdown: saves the state that the next TPM2_Startup uses, as specified by its row in
-//! `specs/Shutdown`.
+//! TPM2_Shutdown: saves the state that the next TPM2_Startup uses (specified in `specs/Shutdown`).
 
 ghost use Rattle.std.specs.Prelude.{◌≡◌};
 ghost use Rattle.tpm_record.specs.rows.Answer.{IsEmpty};

@@ -1,5 +1,5 @@
-//! TPM2_StartAuthSession: starts a session, bound to an entity or unbound, as specified by its
-//! row in `specs/StartAuthSession`.
+//! TPM2_StartAuthSession: starts a session, bound to an entity or unbound (specified in
+//! `specs/StartAuthSession`).
 
 ghost use Rattle.tpm_bytes.specs.Reading.{Gives};
 ghost use Rattle.std.specs.Prelude.{◌≡◌, ◌≤◌, true, length, IfOk, OnOk};
@@ -53,8 +53,7 @@ fn read_parameters(parameters: &[u8]) -> Result<SessionParameters, Refused>
     })
 }
 
-/// Whether the session encrypts by XOR and would compute its masks with a hash other than its
-/// own.
+/// Whether the session encrypts by XOR and the hash for its masks is not the session's own.
 fn has_other_mask(symmetric: SymmetricDefinition, hash: HashAlg) -> bool
     ensures { result ≡ has_other_mask symmetric hash }
 {

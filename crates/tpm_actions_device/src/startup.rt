@@ -1,5 +1,5 @@
-//! TPM2_Startup: starts the device by a TPM Reset, a TPM Restart or a TPM Resume, as specified by
-//! its row in `specs/Startup`.
+//! TPM2_Startup: starts the device by a TPM Reset, a TPM Restart or a TPM Resume (specified in
+//! `specs/Startup`).
 
 ghost use Rattle.std.specs.Prelude.{◌≡◌};
 ghost use Rattle.tpm_record.specs.rows.Answer.{IsEmpty};

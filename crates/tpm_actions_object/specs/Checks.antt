@@ -15,9 +15,9 @@ use Rattle.tpm_types.specs.declared.rc.ResponseCode.TheVariants as code
 use Rattle.tpm_types.specs.declared.refused.Refused.{Refused}
 use Rattle.tpm_record.specs.rows.Refusals.{or_refusal, parameter_refusal}
 
--- the refusal of a template, or of a public area to be loaded, if one of its checks fails; `before`
--- is the number of the command's own checks before those of the template. The template is the
--- second parameter
+-- the refusal if a check of a template, or of a public area to be loaded, fails; `before` is the
+-- number of the command's own checks before those of the template. The template is the second
+-- parameter
 abbrev pub template_refusal : (before : ℕ) → TemplateFault → Refused
 template_refusal before template.AuthPolicySize = parameter_refusal (action_named (before + 1)) 2 code.Size
 template_refusal before template.Attributes = parameter_refusal (action_named (before + 2)) 2 code.Attributes

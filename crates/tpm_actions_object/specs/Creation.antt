@@ -79,7 +79,7 @@ object_parent o = record {
 }
 
 -- the circumstances of an object's creation: the digest of the selected PCRs is computed with the
--- new object's nameAlg, and bit n of the locality means locality n
+-- new object's nameAlg, and bit n of the creation data's locality stands for locality n
 abbrev pub creation_data : Record → (locality : ℕ) → Parent → Parameters → Public → CreationData
 creation_data r locality parent p public = record {
   pcr_select = record { banks = record { items = p.selection } };
@@ -117,7 +117,8 @@ creation_rest r locality parent p public =
     sized_text (creation_data_text creation) ++ sized_text hash
     ++ ticket_text parent.hierarchy proof (object_name public) hash
 
--- the answer of a creation from the public area on: the public area, and the part after it
+-- the part of a creation's answer that starts with the public area: the public area, and what
+-- follows it
 abbrev pub creation_text : Record → (locality : ℕ) → Parent → Parameters → Public → List ℕ
 creation_text r locality parent p public =
     sized_text (public_text public) ++ creation_rest r locality parent p public

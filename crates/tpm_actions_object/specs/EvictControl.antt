@@ -73,7 +73,7 @@ removed objects handle wanted = do
   Ok (without_persistent objects handle)
 
 -- the persistent objects after a transient object is copied to this handle. Refused by check A5 if
--- the handle is taken; by A6 if there is no room for another object
+-- the handle is taken; by A6 if no further object can be stored
 abbrev pub copied : Entries Object → Object → Handle → Result (Entries Object) Refused
 copied objects object wanted = do
   a5 ← refused_if (is_some (persistent_at objects wanted)) (action_refusal action.Fifth (plain code.NvDefined))
@@ -99,9 +99,9 @@ evict_control_row r q = do
   persistent ← evicted r.persistent handle object wanted
   Ok (record { answer = nothing; after = record r { persistent = persistent } })
 
--- The code changed the persistent objects or refused the command, as defined. If memory can run
--- out, it may have refused the command with MEMORY instead of changing them. A refusal changes
--- nothing.
+-- The code changed the persistent objects or refused the command, as the definition says. If memory
+-- can run out, the code may have refused the command with MEMORY instead of changing them. A
+-- refusal changes nothing.
 abbrev pub Evicts : Bool → Result (Entries Object) Refused
     → Record → Result (Unit {0}) Refused → Record → Type 0
 Evicts can (Ok persistent) old (Ok done) new = new ≡ record old { persistent = persistent }

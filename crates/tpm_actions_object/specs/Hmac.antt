@@ -29,8 +29,8 @@ abbrev pub scheme_of : PublicParameters → Result KeyedHashScheme Refused
 scheme_of (KeyedHash scheme) = Ok scheme
 scheme_of SymCipher = Err (action_refusal action.First (at (place.Handle 1) (plain code.Type)))
 
--- the hash for a key whose scheme names a hash: the scheme's hash if the command requests the same
--- hash or NULL; None if it requests a different one
+-- the hash for a key whose scheme names a hash: the scheme's hash if the command requests this hash
+-- or NULL; None if the command requests a different hash
 abbrev pub own_hash : HashAlg → Option HashAlg → Option HashAlg
 own_hash own None = Some own
 own_hash own (Some asked) = if hash_number own == hash_number asked then Some own else None

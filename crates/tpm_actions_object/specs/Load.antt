@@ -22,13 +22,13 @@ use Rattle.tpm_record.specs.rows.Refusals.{parameter_refusal}
 use Rattle.tpm_actions_object.specs.Checks.{public_passes}
 use Rattle.tpm_actions_object.specs.Loaded.{is_fixed, parent_passes, loaded_at, place_for}
 
--- the sensitive area that a private area wraps. Refused by check A5 if this parent did not wrap the
--- private area for this public area
+-- the sensitive area in a private area. Refused by check A5 if this parent did not wrap the private
+-- area for this public area
 abbrev pub sensitive_of : Object → Public → List ℕ → Result Sensitive Refused
 sensitive_of parent public private =
     or_fault (unwrapped parent public private) (parameter_refusal action.Fifth 1 code.Integrity)
 
--- the loaded object, as a child of its parent and in the parent's hierarchy
+-- the loaded object, a child of this parent in the same hierarchy
 abbrev pub loaded_below : Object → Public → Sensitive → Object
 loaded_below parent public sensitive =
     loaded_object parent.hierarchy public sensitive parent.qualified_name

@@ -29,7 +29,7 @@ parent_passes parent =
     refused_if (not (is_storage_parent parent.public))
     (action_refusal action.First (at (place.Handle 1) (plain code.Type)))
 
--- whether an object has fixedTPM; if so, an object under it has fixedTPM exactly if it has
+-- whether an object has fixedTPM; if it has, each child has fixedTPM if and only if the child has
 -- fixedParent
 abbrev pub is_fixed : Object → Bool
 is_fixed parent = has parent.public.attributes attribute.FixedTpm
@@ -42,8 +42,8 @@ no_place action = action_refusal action (plain code.ObjectMemory)
 abbrev pub place_for : ActionCheck → Record → Result ℕ Refused
 place_for action r = ok_or (lowest_free r.objects) (no_place action)
 
--- The code put an object into its slot, or refused because no slot was free or, if that can happen,
--- because memory ran out. A refusal changes nothing.
+-- The code put an object into its slot, or refused the command because no slot was free or memory
+-- ran out (if it can). A refusal changes nothing.
 abbrev pub Loads : Bool → Result ℕ Refused → Record → Object → Result Handle Refused → Record
     → Type 0
 Loads can (Ok place) old object (Ok handle) new =

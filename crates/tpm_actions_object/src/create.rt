@@ -1,5 +1,5 @@
-//! TPM2_Create: makes an object under a storage parent and returns its private area, as specified
-//! by its row in `specs/Create`.
+//! TPM2_Create: makes an object under a storage parent and returns its private area (specified in
+//! `specs/Create`).
 
 ghost use Rattle.std.specs.Prelude.{◌≡◌, ◌≤◌, drop, take};
 ghost use Rattle.tpm_record.specs.rows.Answer.{IsEmpty};

@@ -1,5 +1,5 @@
-//! TPM2_CreatePrimary: derives an object from the seed of a hierarchy and loads it, as specified
-//! by its row in `specs/CreatePrimary`.
+//! TPM2_CreatePrimary: derives an object from the seed of a hierarchy and loads it (specified in
+//! `specs/CreatePrimary`).
 
 ghost use Rattle.std.specs.Prelude.{◌≡◌, ◌++◌, []};
 ghost use Rattle.tpm_bytes.specs.Writing.{sized_text};

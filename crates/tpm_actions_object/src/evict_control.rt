@@ -1,5 +1,5 @@
-//! TPM2_EvictControl: makes a transient object persistent or removes a persistent one, as
-//! specified by its row in `specs/EvictControl`.
+//! TPM2_EvictControl: makes a transient object persistent or removes a persistent one (specified in
+//! `specs/EvictControl`).
 
 ghost use Rattle.std.specs.Prelude.{◌≡◌, IfOk, OnOk, false, true};
 ghost use Rattle.tpm_record.specs.Persistent.{can_persist};

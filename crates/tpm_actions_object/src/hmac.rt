@@ -1,5 +1,4 @@
-//! TPM2_HMAC: returns the HMAC of a buffer, computed with a key, as specified by its row in
-//! `specs/Hmac`.
+//! TPM2_HMAC: returns the HMAC of a buffer, computed with a key (specified in `specs/Hmac`).
 
 ghost use Rattle.std.specs.Prelude.{◌≡◌};
 ghost use Rattle.tpm_record.specs.rows.Answer.{IsEmpty};
@@ -35,7 +34,7 @@ fn scheme_of(parameters: PublicParameters) -> Result<KeyedHashScheme, Refused>
     }
 }
 
-/// The hash for a key whose scheme names a hash: the scheme's hash if the command requests the same
+/// The hash for a key whose scheme names a hash: the scheme's hash if the command requests this
 /// hash or NULL; otherwise None.
 fn own_hash(own: HashAlg, asked: Option<HashAlg>) -> Option<HashAlg>
     ensures { result ≡ own_hash own asked }

@@ -1,5 +1,5 @@
-//! TPM2_Load: unwraps the private area of an object under its parent and loads the object, as
-//! specified by its row in `specs/Load`.
+//! TPM2_Load: unwraps the private area of an object under its parent and loads the object
+//! (specified in `specs/Load`).
 
 ghost use Rattle.std.specs.Prelude.{◌≡◌};
 ghost use Rattle.tpm_record.specs.rows.Answer.{IsEmpty};
@@ -24,7 +24,7 @@ use tpm_types_object::{Public, Sensitive};
 /// The maximum size of inPrivate, in bytes.
 const PRIVATE_LIMIT: usize = 256;
 
-/// The sensitive area that a private area wraps for the object with this Name.
+/// The sensitive area in a private area, unwrapped for the object with this Name.
 fn sensitive_of(
     parent: &Object,
     public: &Public,

@@ -1,5 +1,5 @@
-//! TPM2_ReadPublic: returns the public area of an object and its two Names, as specified by its
-//! row in `specs/ReadPublic`.
+//! TPM2_ReadPublic: returns the public area of an object and its two Names (specified in
+//! `specs/ReadPublic`).
 
 ghost use Rattle.std.specs.Prelude.{◌≡◌};
 ghost use Rattle.tpm_record.specs.rows.Answer.{IsEmpty};

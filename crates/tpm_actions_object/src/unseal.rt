@@ -1,4 +1,4 @@
-//! TPM2_Unseal: returns the data that an object seals, as specified by its row in `specs/Unseal`.
+//! TPM2_Unseal: returns the data that an object seals (specified in `specs/Unseal`).
 
 ghost use Rattle.std.specs.Prelude.{◌≡◌};
 ghost use Rattle.tpm_record.specs.rows.Answer.{IsEmpty};

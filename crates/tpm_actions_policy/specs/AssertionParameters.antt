@@ -1,4 +1,4 @@
--- Translates an assertion that the code's parameters request into an assertion of the definitions.
+-- The assertion of the definitions that corresponds to the parameters in the code.
 use Rattle.std.specs.Prelude.{◌≡◌, Result, Ok, Err}
 use Rattle.tpm_policy.specs.Assertion as assertion
 use Rattle.tpm_policy.specs.Assertion.{Assertion}

@@ -6,7 +6,7 @@ use Rattle.tpm_session.specs.declared.session.Session.{Session}
 use Rattle.tpm_types.specs.declared.refused.Refused.{Refused}
 use Rattle.tpm_record.specs.rows.Rows.{all_read}
 
--- the assertion of TPM2_PolicyAuthValue, which demands an HMAC whose key includes the entity's
+-- the assertion of TPM2_PolicyAuthValue, which requires an HMAC whose key includes the entity's
 -- authorization value. Parameters: none
 abbrev pub auth_value_assertion : List ℕ → Result (Session → Assertion) Refused
 auth_value_assertion text = do

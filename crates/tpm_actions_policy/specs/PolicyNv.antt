@@ -38,8 +38,8 @@ nv_parameters text = do
 
 -- the bytes that are compared with the operand: as many bytes of the index's data, from the offset
 -- on, as the operand has. Refused by A1 to A3, the checks of every command that reads an index; by
--- A4 if the bytes extend past the end of the data. After check A3, the read can fail for no other
--- reason (reading_laws of tpm_record)
+-- A4 if the bytes extend past the end of the data. Once checks A1 to A3 have passed, the read can
+-- fail for no other reason (reading_laws of tpm_record)
 abbrev pub compared : Record → Target → Parameters → Result (List ℕ) ActionFault
 compared r target p = do
   readable ← reading_passes target

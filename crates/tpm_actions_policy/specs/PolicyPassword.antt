@@ -6,7 +6,7 @@ use Rattle.tpm_session.specs.declared.session.Session.{Session}
 use Rattle.tpm_types.specs.declared.refused.Refused.{Refused}
 use Rattle.tpm_record.specs.rows.Rows.{all_read}
 
--- the assertion of TPM2_PolicyPassword, which demands the entity's authorization value as a
+-- the assertion of TPM2_PolicyPassword, which requires the entity's authorization value as a
 -- password. Parameters: none
 abbrev pub password_assertion : List ℕ → Result (Session → Assertion) Refused
 password_assertion text = do

@@ -34,7 +34,7 @@ pub enum AssertionParameters<'a> {
 }
 
 impl AssertionParameters<'_> {
-    /// Adds the assertion that a command requests to a session's policy.
+    /// Adds the requested assertion to a session's policy.
     fn assert_on<K: Keep>(
         &self,
         keep: &K,

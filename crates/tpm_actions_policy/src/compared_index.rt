@@ -1,5 +1,5 @@
-//! The NV index that TPM2_PolicyNV compares: its bytes, or the reason why they cannot be read, and
-//! the assertion that the comparison holds.
+//! The NV index whose data TPM2_PolicyNV compares. Reads the data, or returns the reason why it
+//! cannot be read, and asserts that the comparison holds.
 
 ghost use Rattle.std.specs.Prelude.{◌≡◌, ◌≤◌, length};
 ghost use Rattle.tpm_policy.specs.Assertion as assertion;
@@ -41,8 +41,8 @@ impl ComparedIndex<'_> {
         }
     }
 
-    /// Adds the assertion that the comparison holds to a session's policy, with the current data of
-    /// the index.
+    /// Adds an assertion to a session's policy: the comparison with the operand holds for the
+    /// current data of the index.
     pub fn assert_on<K: Keep>(
         &self,
         keep: &K,

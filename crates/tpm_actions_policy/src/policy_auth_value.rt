@@ -1,5 +1,5 @@
-//! TPM2_PolicyAuthValue: demands an HMAC whose key includes the entity's authorization value, as
-//! specified by its row in `specs/PolicyAuthValue`.
+//! TPM2_PolicyAuthValue: requires an HMAC whose key includes the entity's authorization value
+//! (specified in `specs/PolicyAuthValue`).
 
 ghost use Rattle.std.specs.Prelude.{◌≡◌};
 ghost use Rattle.tpm_commands.specs.declared.command_code.CommandCode.TheVariants as command;
@@ -16,7 +16,7 @@ use tpm_record::rows::call::Call;
 use tpm_record::rows::reading::end;
 use tpm_types::Refused;
 
-/// TPM2_PolicyAuthValue: demands an HMAC whose key includes the entity's authorization value.
+/// TPM2_PolicyAuthValue: requires an HMAC whose key includes the entity's authorization value.
 #[tactic(auto, unfolding(crate::specs::Assertions::assertion_row))]
 pub fn policy_auth_value<K: Keep>(
     keep: &mut K,

@@ -1,5 +1,4 @@
-//! TPM2_PolicyCommandCode: allows only one command, as specified by its row in
-//! `specs/PolicyCommandCode`.
+//! TPM2_PolicyCommandCode: allows only one command (specified in `specs/PolicyCommandCode`).
 
 ghost use Rattle.std.specs.Prelude.{◌≡◌};
 ghost use Rattle.tpm_commands.specs.declared.command_code.CommandCode.TheVariants as command;

@@ -1,5 +1,4 @@
-//! TPM2_PolicyCpHash: allows only the command with this cpHash, as specified by its row in
-//! `specs/PolicyCpHash`.
+//! TPM2_PolicyCpHash: allows only the command with this cpHash (specified in `specs/PolicyCpHash`).
 
 ghost use Rattle.std.specs.Prelude.{◌≡◌};
 ghost use Rattle.tpm_commands.specs.declared.command_code.CommandCode.TheVariants as command;

@@ -1,5 +1,5 @@
-//! TPM2_PolicyGetDigest: returns the policy digest of a session, as specified by its row in
-//! `specs/PolicyGetDigest`.
+//! TPM2_PolicyGetDigest: returns the policy digest of a session (specified in
+//! `specs/PolicyGetDigest`).
 
 ghost use Rattle.std.specs.Prelude.{◌≡◌};
 ghost use Rattle.tpm_record.specs.rows.Answer.{IsEmpty};

@@ -1,5 +1,5 @@
-//! TPM2_PolicyLocality: restricts the localities that a policy allows, as specified by its row in
-//! `specs/PolicyLocality`.
+//! TPM2_PolicyLocality: restricts the localities that a policy allows (specified in
+//! `specs/PolicyLocality`).
 
 ghost use Rattle.std.specs.Prelude.{◌≡◌};
 ghost use Rattle.tpm_commands.specs.declared.command_code.CommandCode.TheVariants as command;

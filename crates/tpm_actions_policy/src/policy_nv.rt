@@ -1,5 +1,4 @@
-//! TPM2_PolicyNV: compares data of an NV index with an operand, as specified by its row in
-//! `specs/PolicyNv`.
+//! TPM2_PolicyNV: compares data of an NV index with an operand (specified in `specs/PolicyNv`).
 
 ghost use Rattle.tpm_bytes.specs.Reading.{Gives};
 ghost use Rattle.std.specs.Prelude.{◌≡◌, IfOk, length};
@@ -56,7 +55,7 @@ pub fn policy_nv<K: Keep>(keep: &mut K, call: &Call, _answer: &mut Answer) -> Re
 
 /// TPM2_PolicyNV compares exactly as many bytes as its operand has, provided that the data of each
 /// NV index has the size stated in its public area, as it does on every device. Therefore no
-/// comparison fails because of sizes. A proof only: it has no effect at run time.
+/// comparison fails because the two sizes differ. A proof only: it has no effect at run time.
 #[inline(always)]
 #[tactic(auto, using(crate::proofs::ComparedSizes::compared_whole))]
 pub fn compared_size_laws()

@@ -1,5 +1,5 @@
-//! TPM2_PolicyNvWritten: allows only a written NV index, or only an unwritten one, as specified
-//! by its row in `specs/PolicyNvWritten`.
+//! TPM2_PolicyNvWritten: allows only a written NV index, or only an unwritten one (specified in
+//! `specs/PolicyNvWritten`).
 
 ghost use Rattle.std.specs.Prelude.{◌≡◌};
 ghost use Rattle.tpm_commands.specs.declared.command_code.CommandCode.TheVariants as command;

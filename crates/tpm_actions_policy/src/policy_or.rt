@@ -1,5 +1,5 @@
-//! TPM2_PolicyOR: continues a policy after any one of several branches, as specified by its row in
-//! `specs/PolicyOr`.
+//! TPM2_PolicyOR: continues a policy after any one of several branches (specified in
+//! `specs/PolicyOr`).
 
 ghost use Rattle.std.specs.Prelude.{◌≡◌};
 ghost use Rattle.tpm_commands.specs.declared.command_code.CommandCode.TheVariants as command;

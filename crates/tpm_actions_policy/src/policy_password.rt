@@ -1,5 +1,5 @@
-//! TPM2_PolicyPassword: demands the entity's authorization value as a password, as specified by
-//! its row in `specs/PolicyPassword`.
+//! TPM2_PolicyPassword: requires the entity's authorization value as a password (specified in
+//! `specs/PolicyPassword`).
 
 ghost use Rattle.std.specs.Prelude.{◌≡◌};
 ghost use Rattle.tpm_commands.specs.declared.command_code.CommandCode.TheVariants as command;
@@ -16,7 +16,7 @@ use tpm_record::rows::call::Call;
 use tpm_record::rows::reading::end;
 use tpm_types::Refused;
 
-/// TPM2_PolicyPassword: demands the entity's authorization value as a password.
+/// TPM2_PolicyPassword: requires the entity's authorization value as a password.
 #[tactic(auto, unfolding(crate::specs::Assertions::assertion_row))]
 pub fn policy_password<K: Keep>(
     keep: &mut K,

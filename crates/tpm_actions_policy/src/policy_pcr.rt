@@ -1,5 +1,5 @@
-//! TPM2_PolicyPCR: compares the values of PCRs, and requires that no PCR changes afterwards, as
-//! specified by its row in `specs/PolicyPcr`.
+//! TPM2_PolicyPCR: compares the values of PCRs, and requires that no PCR changes afterwards
+//! (specified in `specs/PolicyPcr`).
 
 ghost use Rattle.std.specs.Prelude.{◌≡◌};
 ghost use Rattle.tpm_commands.specs.declared.command_code.CommandCode.TheVariants as command;

@@ -1,5 +1,5 @@
-//! TPM2_PolicyRestart: resets the policy of a session to its initial state, as specified by its
-//! row in `specs/PolicyRestart`.
+//! TPM2_PolicyRestart: resets the policy of a session to its initial state (specified in
+//! `specs/PolicyRestart`).
 
 ghost use Rattle.std.specs.Prelude.{◌≡◌};
 ghost use Rattle.tpm_record.specs.rows.Answer.{IsEmpty};

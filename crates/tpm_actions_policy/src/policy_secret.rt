@@ -1,5 +1,5 @@
-//! TPM2_PolicySecret: asserts that an entity authorized the command, as specified by its row in
-//! `specs/PolicySecret`.
+//! TPM2_PolicySecret: asserts that an entity authorized the command (specified in
+//! `specs/PolicySecret`).
 
 ghost use Rattle.tpm_bytes.specs.Reading.{Gives};
 ghost use Rattle.std.specs.Prelude.{◌≡◌, IfOk};

@@ -1,4 +1,4 @@
--- If an entry with an empty HMAC is accepted, then its HMAC key was empty or the policy demanded a
+-- If an entry with an empty HMAC is accepted, then its HMAC key was empty or the policy required a
 -- password.
 use Rattle.std.proofs.Common.{◌≡◌, ◌⊎◌, ℕ, ◌<◌, Bool, true, false, List, [], ◌∷◌, length, Option, Some, None, Ok, refl, sym, ap, subst, ◌∙◌, arith, inl, inr}
 use Rattle.std.specs.Prelude.{◌==◌, ◌&&◌, ◌||◌, if◌then◌else◌, not}

@@ -1,5 +1,5 @@
--- At each position, the code found the entity of the handle at that position. It computes the Names
--- from these entities.
+-- The code looked up the entity of the handle at each position, and computes the Names from these
+-- entities.
 use Rattle.std.proofs.Common.{◌≡◌, ℕ, zero, suc, ◌<◌, ◌≤◌, List, [], ◌∷◌, ◌++◌, length, map, take, slice_get, slice_index_or, Some, None, option_map, refl, sym, subst, ap, ◌∙◌, arith}
 use Rattle.std.specs.Option.{ForSome}
 use Rattle.tpm_session.specs.declared.session.Session.{Session}
@@ -25,7 +25,7 @@ as_many r [] (h ∷ hs) are = absurd cc
 as_many r (x ∷ xs) [] are = absurd cc
 as_many r (x ∷ xs) (h ∷ hs) are = let others = as_many r xs hs (first_found r x xs h hs are).1 in omega (arith, others)
 
--- The entity found at a position is that of the handle there.
+-- The entity found at a position is that of the handle at that position.
 pub found_in : (r : Record) (resolved : List Resolved) (handles : List Handle) (place : ℕ) (x : Resolved) → AreFound r resolved handles → slice_get resolved place ≡ Some x → (slice_get handles place ≡ Some x.handle) × IsFound r x
 found_in r [] handles place x are is = absurd cc
 found_in r (y ∷ ys) [] place x are is = absurd cc
@@ -68,7 +68,7 @@ nothing_in r handles resolved n place are is = none_in r (take n resolved) (take
 
 -- ---- Names
 
--- The Name of the entity found at the next position is the Name of the handle there.
+-- The Name of the entity found at the next position is the Name of the handle at that position.
 pub next_named : (r : Record) (resolved : List Resolved) (handles : List Handle) (place : ℕ) (x : Resolved) (name : List ℕ) → AreFound r resolved handles → slice_get resolved place ≡ Some x → name ≡ entity_name x.handle (entity_seen x.entity) → Some name ≡ option_map (name_of r) (slice_get handles place)
 unfolding name_of
 next_named r resolved handles place x name are is name_is =

@@ -1,5 +1,5 @@
--- Comparisons of authorization values, and how they fail. TPM 2.0 Library, Part 1, sections 19.4
--- (password authorizations) and 19.8 (dictionary attacks).
+-- Comparisons of authorization values, and the refusals if they fail. TPM 2.0 Library, Part 1,
+-- sections 19.4 (password authorizations) and 19.8 (dictionary attacks).
 use Rattle.std.specs.Prelude.{ℕ, Bool, false, List, Option, Some, None, Result}
 use Rattle.std.specs.Str.{bytes_eq}
 use Rattle.tpm_bytes.specs.Reading.{refused_if}
@@ -21,8 +21,8 @@ use Rattle.tpm_auth.specs.declared.session_grant.Grant.{Grant}
 abbrev pub is_password_of : List ℕ → List ℕ → Bool
 is_password_of value password = bytes_eq (trimmed password) (trimmed value)
 
--- the refusal if the comparison for entry n fails. For a protected entity it is AUTH_FAIL, which
--- counts as a failed try or disables lockoutAuth; otherwise it is BAD_AUTH
+-- the refusal if the password or HMAC of entry n is wrong. For a protected entity it is AUTH_FAIL,
+-- which counts as a failed try or disables lockoutAuth; otherwise it is BAD_AUTH
 abbrev pub failure : Check → ℕ → Protection → Refused
 failure check n protection.None = refusal check (entry_fault n code.BadAuth)
 failure check n protection.Tries =
@@ -30,8 +30,8 @@ failure check n protection.Tries =
 failure check n protection.Lockout =
     record { rc = entry_fault n code.AuthFail; check = check; counted = counted.Lockout }
 
--- the check that fails if a comparison fails: G9 for an entry that authorizes a handle, otherwise
--- G10
+-- the check that fails if a password or HMAC is wrong: G9 for an entry that authorizes a handle,
+-- otherwise G10
 abbrev pub check_of : Option Grant → Check
 check_of (Some grant) = check.Authorization
 check_of None = check.Others

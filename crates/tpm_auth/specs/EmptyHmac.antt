@@ -1,6 +1,5 @@
--- Session entries with an empty HMAC. TPM 2.0 Library, Part 1, section 19.6.5 (HMAC computation:
--- if the key is empty, the HMAC may be empty), and section 19.7 (policies that demand a
--- password).
+-- Session entries with an empty HMAC. TPM 2.0 Library, Part 1, section 19.6.5 (HMAC computation: if
+-- the key is empty, the HMAC may be empty), and section 19.7 (policies that require a password).
 use Rattle.std.specs.Prelude.{◌≡◌, ◌⊎◌, ℕ, true, [], Option, Ok}
 use Rattle.tpm_session.specs.EntryText.{entry_key}
 use Rattle.tpm_session.specs.declared.session.Session.{Session}
@@ -14,7 +13,7 @@ use Rattle.tpm_auth.specs.declared.session_grant.Grant.{Grant}
 
 -- An accepted entry of a session has an empty HMAC only in two cases. Either its HMAC key is empty:
 -- it contains neither a session key nor an authorization value. Or the entry authorizes an entity
--- without an authorization value, under a policy that demands a password.
+-- whose authorization value is empty, by a policy that requires a password.
 abbrev pub EmptyHmacHasNoKey : Type 0
 EmptyHmacHasNoKey =
     (r : Record) (c : Whole) (locality n : ℕ) (used : Option Handle) (e : Entry) (s : Session)

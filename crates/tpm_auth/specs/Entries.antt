@@ -27,7 +27,8 @@ session_of r e = session_at r.sessions e.session
 abbrev pub is_password : Entry → Bool
 is_password e = e.session.number == password_handle.number
 
--- whether an entry's session decrypts the command's first parameter, or encrypts the response's
+-- whether an entry's session decrypts the command's first parameter, or encrypts the first
+-- parameter of the response
 abbrev pub decrypts : Entry → Bool
 decrypts e = of_session.decrypts e.attributes
 
@@ -53,9 +54,9 @@ is_misplaced c n before e =
     if is_password e then nat_lt (authorized_handles c) n
     else list_any (λ earlier. earlier.session.number == e.session.number) before
 
--- whether an entry has a wrong attribute: audit, which is not supported; or decrypt or encrypt in a
--- password entry, in an entry after another one with the same attribute, or if the first parameter
--- of the command (decrypt) or of its response (encrypt) is not a sized buffer
+-- whether an entry has a wrong attribute. audit is not supported. decrypt and encrypt are wrong in
+-- a password entry, after another entry with the same attribute, and if the first parameter of the
+-- command (decrypt) or of its response (encrypt) is not a sized buffer
 abbrev pub has_wrong_attributes : CommandCode → List Entry → Entry → Bool
 has_wrong_attributes c before e =
     audits e.attributes

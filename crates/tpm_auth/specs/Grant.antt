@@ -32,7 +32,7 @@ use Rattle.tpm_auth.specs.declared.grant.Grants.{Grants}
 use Rattle.tpm_types.specs.declared.refused.Refused.{Refused}
 use Rattle.tpm_auth.specs.declared.session_grant.Grant.{Grant}
 
--- the grant for a handle if no policy demands anything
+-- the grant for a handle if no policy requires anything in the entry
 abbrev pub undemanding : Handle → Grant
 undemanding handle = record { handle = handle; demand = demand.None }
 
@@ -47,9 +47,9 @@ is_unavailable r c n used =
 abbrev pub used_protection : Record → Option Handle → Protection
 used_protection r used = option_map_or (protection_of r) used protection.None
 
--- the grant of entry n, if it is a password. The entity that the entry has to authorize must allow
--- authorization with its authorization value, and must not be locked out. The password must be
--- right
+-- the grant of entry n, if it is a password entry. The entity that the entry has to authorize must
+-- allow authorization with its authorization value, and must not be locked out. The password must
+-- be right
 unfoldable pub password_grant : Record
     → CommandCode → (n : ℕ) → Option Handle → Entry → Result (Option Grant) Refused
 password_grant state command number used entry = do

@@ -40,8 +40,8 @@ is_bound_to r s handle =
     bytes_eq b.name (name_of r handle) && bytes_eq b.auth_value (auth_value_of r handle))
     s.binding false
 
--- whether the policy demands the authorization value in the HMAC key; and whether it demands it as
--- a password
+-- whether the policy requires the authorization value in the HMAC key; and whether it requires the
+-- value as a password
 abbrev pub is_in_key : Demand → Bool
 is_in_key demand.None = false
 is_in_key demand.AuthValue = true
@@ -52,9 +52,9 @@ is_password_demand demand.None = false
 is_password_demand demand.AuthValue = false
 is_password_demand demand.Password = true
 
--- whether the HMAC key includes the authorization value of the handle that an entry authorizes.
--- In an HMAC session it does, unless the session is bound to the handle. In a policy session it
--- does only if the policy demands it, even if the session is bound
+-- whether the HMAC key includes the authorization value of the handle that an entry authorizes. For
+-- an HMAC session it does, unless the session is bound to the handle. For a policy session it does
+-- only if the policy requires it, whether or not the session is bound
 abbrev pub has_value_in_key : SessionType → (bound : Bool) → Demand → Bool
 has_value_in_key type.Hmac bound demand = not bound
 has_value_in_key type.Policy bound demand = is_in_key demand
@@ -77,8 +77,8 @@ entry_nonce r e = option_map_or (λ (s : Session). s.nonce_tpm) (session_of r e)
 unfoldable pub nonce_where : Record → (Entry → Bool) → List Entry → List ℕ
 nonce_where r test entries = option_map_or (entry_nonce r) (find test entries) []
 
--- the entries whose sessions' nonces may be part of the HMAC text of entry n: the later entries,
--- if entry n is the first and authorizes a handle; otherwise none
+-- the entries whose sessions' nonces may be covered by the HMAC of entry n. If entry n is the first
+-- and authorizes a handle, these are the later entries; otherwise there are none
 abbrev pub other_entries : Whole → ℕ → List Entry
 other_entries c n = if n == 1 && nat_lt 0 (authorized_handles c.code) then drop 1 c.entries else []
 
@@ -91,8 +91,8 @@ only_encrypts e = encrypts e && not (decrypts e)
 abbrev pub hashed_command : Record → Whole → HashedParts
 hashed_command r c = OfCommand (code_number c.code) (map (name_of r) c.handles) c.parameters
 
--- the parts of the text that the HMAC of entry n authenticates. The parameters are hashed as sent,
--- with the session's hash algorithm
+-- the data that the HMAC of entry n covers, in parts. The parameters are hashed as sent, with the
+-- session's hash algorithm
 unfoldable pub entry_parts : Record → Whole → ℕ → Entry → Session → EntryParts
 entry_parts state command number entry session = record {
   hash = parameter_hash_of session.hash (hashed_command state command);
@@ -103,7 +103,7 @@ entry_parts state command number entry session = record {
 }
 
 -- whether the HMAC of an entry is right: it equals the HMAC that is computed from the key and the
--- text, or both the key and the HMAC are empty
+-- covered data, or both the key and the HMAC are empty
 unfoldable pub is_authentic : Record → Whole → ℕ → Option Grant → Entry → Session → Bool
 is_authentic state command number grant entry session =
     let value = used_auth_value state session grant in
@@ -111,7 +111,7 @@ is_authentic state command number grant entry session =
     || bytes_eq entry.hmac
     (command_mac_of session value (entry_parts state command number entry session))
 
--- whether the policy of an entry's session demands a password
+-- whether the policy of an entry's session requires a password
 abbrev pub demands_password : Option Grant → Bool
 demands_password None = false
 demands_password (Some grant) = is_password_demand grant.demand
@@ -121,8 +121,8 @@ abbrev pub granted_value : Record → Option Grant → List ℕ
 granted_value r None = []
 granted_value r (Some grant) = auth_value_of r grant.handle
 
--- whether the comparison for entry n succeeds: if the policy demands a password, the HMAC field
--- must contain the authorization value; otherwise, it must contain the right HMAC
+-- whether the HMAC field of entry n is right: if the policy requires a password, the field must
+-- contain the authorization value; otherwise, it must contain the right HMAC
 unfoldable pub comparison_holds : Record → Whole → ℕ → Option Grant → Entry → Session → Bool
 comparison_holds state command number grant entry session =
     if demands_password grant then is_password_of (granted_value state grant) entry.hmac
@@ -147,8 +147,8 @@ entry_protection r s (Some grant) =
     then or_protection (protection_of r grant.handle) (binding_protection s)
     else binding_protection s
 
--- the parts of a use that a policy checks. The entry with this number, which names a policy
--- session, has to authorize the use
+-- the facts that a policy checks about a command's use of a handle. The entry with this number,
+-- which names a policy session, has to authorize the use
 unfoldable pub use_of : Record → Whole → (locality n : ℕ) → Handle → Session → UseParts
 use_of state command locality number handle session = record {
   entry = number;
@@ -164,16 +164,16 @@ use_of state command locality number handle session = record {
   entity = policy_of state handle;
 }
 
--- An HMAC session demands nothing in its entry except that the comparison succeeds. But the
--- handle's entity must allow authorization with its authorization value.
+-- An HMAC session requires only a correct HMAC in its entry. But the handle's entity must allow
+-- authorization with its authorization value.
 abbrev by_value : Record → Whole → (n : ℕ) → Handle → Result Demand Refused
 by_value r c n handle = do
   available ← refused_if (not (is_available r handle means.AuthValue (nv_use_at c.code (n - 1))))
       (refusal check.Authorization (plain code.AuthUnavailable))
   Ok demand.None
 
--- what a policy session demands in the entry that authorizes a handle, if the policy allows the
--- use; a trial session authorizes nothing
+-- what a policy session requires in the entry that authorizes a handle, or a refusal if the policy
+-- does not allow the handle to be used; a trial session authorizes nothing
 abbrev pub by_policy : Record → Whole → (locality n : ℕ) → Handle → Session → Result Demand Refused
 by_policy state command locality number handle session =
     checked check.Authorization
@@ -193,8 +193,8 @@ unfoldable pub demanded : Record
 demanded state command locality number handle session =
     demand_by session.kind state command locality number handle session
 
--- the comparison for entry n. It is skipped, and the entry refused, if the entity whose
--- authorization value the entry uses is locked out
+-- the check of entry n's password or HMAC. If the entity whose authorization value the entry uses
+-- is locked out, nothing is compared and the entry is refused
 abbrev pub comparison : Record
     → Whole → ℕ → Option Grant → Entry → Session → Result (Option Grant) Refused
 comparison state command number grant entry session = do
@@ -204,8 +204,8 @@ comparison state command number grant entry session = do
   Ok grant
 
 -- the grant of entry n, whose handle names a session. If the entry has a handle to authorize, the
--- session must be able to authorize it. If not, even a trial session may be used, for example to
--- encrypt a parameter (a choice of this implementation)
+-- session must be able to authorize it. If it has none, even a trial session may be used, for
+-- example to encrypt a parameter (a choice of this implementation)
 unfoldable pub session_grant : Record
     → Whole → (locality n : ℕ) → Option Handle → Entry → Session → Result (Option Grant) Refused
 session_grant state command locality number None entry session =

@@ -19,7 +19,7 @@ used_handle used = used.handle
 pub record IsUsed (r : Record) (used : Resolved) : Type 0 where
   pub found : IsFound r used
 
--- the grant: the handle and the demand, without the handle's entity
+-- the grant: the handle and what the policy requires, without the handle's entity
 abbrev pub grant_by : Granted → Grant
 grant_by granted = record { handle = used_handle granted.used; demand = granted.demand }
 
@@ -29,7 +29,8 @@ pub record IsToGrant (r : Record) (session : Session) (granted : Granted) : Type
   pub used : IsUsed r granted.used
   pub takes : granted.takes_value ≡ takes_value r session (grant_by granted)
 
--- The code found the record's entity for this handle, or nothing if there is no handle.
+-- The code found the entity of this handle in the record, or there is no handle and nothing was
+-- found.
 abbrev pub IsUsedFor : Record → Option Handle → Option Resolved → Type 0
 IsUsedFor r wanted None = wanted ≡ None
 IsUsedFor r wanted (Some used) = (wanted ≡ Some (used_handle used)) × IsUsed r used

@@ -32,7 +32,7 @@ impl Cache {
 }
 
 /// The latest computed Name, and the encoded public area from which it was computed. The Name is
-/// reused as long as the area stays the same. No contract mentions this.
+/// reused as long as the area stays the same.
 #[derive(Drop)]
 pub struct LatestName {
     alg: HashAlg,

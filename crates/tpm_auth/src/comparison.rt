@@ -1,5 +1,5 @@
-//! Compares passwords, and refuses entries whose comparison fails or whose entity is locked out
-//! (TPM 2.0 Library, Part 1, section 19.4).
+//! Compares passwords, and refuses entries whose password or HMAC is wrong or whose entity is
+//! locked out (TPM 2.0 Library, Part 1, section 19.4).
 
 ghost use Rattle.std.specs.Prelude.{◌≡◌};
 ghost use Rattle.tpm_types.specs.Rc.{plain};
@@ -12,15 +12,14 @@ use tpm_lockout::Lockout;
 use tpm_session::Protection;
 use tpm_types::{Check, Counted, Refused, ResponseCode, trimmed};
 
-/// Whether a password equals this authorization value. Trailing zeros of both are ignored (TPM
-/// 2.0 Library, Part 1, section 19.4).
+/// Whether a password equals this authorization value. Trailing zeros of both are ignored.
 pub fn is_password_of(value: &[u8], password: &[u8]) -> bool
     ensures { result ≡ is_password_of value.now password.now }
 {
     trimmed(password) == trimmed(value)
 }
 
-/// The refusal if the comparison for the entry with this number fails.
+/// The refusal if the password or HMAC of the entry with this number is wrong.
 pub fn failure(check: Check, number: u8, protection: Protection) -> Refused
     ensures { result ≡ failure check number protection }
 {
@@ -55,8 +54,8 @@ pub fn lockout_refusal(grant: Option<Grant>) -> Refused
     Refused::by(check_of(grant), ResponseCode::Lockout.anywhere())
 }
 
-/// The check that is reported if an entry's comparison fails: G9 if the entry has a handle to
-/// authorize, otherwise G10.
+/// The check that is reported if an entry's password or HMAC is wrong: G9 if the entry has a handle
+/// to authorize, otherwise G10.
 pub fn check_of(grant: Option<Grant>) -> Check
     ensures { result ≡ check_of grant }
 {

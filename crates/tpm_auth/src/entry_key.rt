@@ -1,5 +1,5 @@
 //! Checks the HMAC of a session's entry. Determines the authorization value in the HMAC's key and
-//! the nonces in the HMAC's text.
+//! the nonces that the HMAC covers.
 
 ghost use Rattle.std.specs.Prelude.{◌≡◌, ◌≤◌, length, map, option_map};
 ghost use Rattle.std.specs.Option.{ForSome};
@@ -22,8 +22,8 @@ use tpm_session::{CommandText, ParameterHashes, Session};
 use tpm_types::SessionType;
 use tpm_types_command::{AuthEntry, Command};
 
-/// Whether a session is bound to an entity whose Name and authorization value are still the same.
-/// If the authorization value has changed, the Name is not looked up.
+/// Whether a session is bound to an entity that still has the Name and the authorization value from
+/// the session's start. If the authorization value has changed, the Name is not looked up.
 #[tactic(auto, unfolding(crate::specs::SessionGrant::is_bound_to, tpm_record::specs::Entity::auth_value_of, tpm_record::specs::Entity::name_of))]
 fn is_bound_to<K: Keep>(
     keep: &K,
@@ -44,7 +44,7 @@ fn is_bound_to<K: Keep>(
 }
 
 /// Whether the HMAC key of an entry includes the authorization value of the entity that the entry
-/// authorizes. `demand` is what the session's policy demands in the entry.
+/// authorizes. `demand` is what the session's policy requires in the entry.
 #[tactic(auto, unfolding(crate::specs::SessionGrant::takes_value))]
 pub fn takes_value<K: Keep>(
     keep: &K,
@@ -106,7 +106,7 @@ pub fn used_auth_value<'a, K: Keep>(
     }
 }
 
-/// The nonceTPM of an entry's session, or empty if there is no session.
+/// The nonceTPM of an entry's session. It is empty if there is no session.
 fn nonce_of<'a, K: Keep>(keep: &'a K, entry: &AuthEntry) -> &'a [u8]
     ensures { result.now ≡ entry_nonce (K.record_of keep.now) (entry_of entry.now) }
 {
@@ -141,8 +141,8 @@ fn encrypting_nonce<'a, K: Keep>(keep: &'a K, entries: &[AuthEntry]) -> &'a [u8]
     }
 }
 
-/// The other entries whose session nonces are part of an entry's HMAC text: all later entries if
-/// the entry is the first one and authorizes a handle, otherwise none.
+/// The other entries whose session nonces are covered by an entry's HMAC: if the entry is the first
+/// one and authorizes a handle, all later entries; otherwise no entries.
 fn other_entries<'a, 'b>(command: &'a Command<'b>, number: u8) -> &'a [AuthEntry<'b>]
     ensures { map entry_of result.now ≡ other_entries (whole_of command.now) number }
 {

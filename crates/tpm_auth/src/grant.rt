@@ -93,8 +93,8 @@ fn check_password<K: Keep>(
     }
 }
 
-/// Checks the entry with this number against the handle that it has to authorize, if any. Returns
-/// what the entry authorizes.
+/// Checks the entry with this number, and whether it authorizes the handle that it has to
+/// authorize, if any. Returns what the entry authorizes.
 #[tactic(auto, unfolding(crate::specs::Grant::grant))]
 fn check_grant<K: Keep>(
     keep: &K,
@@ -215,8 +215,8 @@ fn make_names<K: Keep>(
     }
 }
 
-/// Checks each handle against the entry at its position, and then the remaining entries. Returns
-/// what each entry authorizes.
+/// Checks whether each handle is authorized by the entry at the same position, and then the
+/// remaining entries. Returns what each entry authorizes.
 fn check_resolved<K: Keep>(keep: &K, sent: &Sent, cache: &mut Cache) -> Result<Grants, Refused>
     requires { IsResolved (K.record_of keep.now) sent.now }
     ensures { Gives granted_by (grants_pass (K.record_of keep.now) (whole_of sent.now.command.now)

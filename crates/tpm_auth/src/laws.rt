@@ -6,8 +6,8 @@ ghost use Rattle.tpm_record.specs.Record.{Record};
 ghost use Rattle.tpm_auth.specs.Grant.{authorize};
 ghost use Rattle.tpm_auth.specs.Granting.{IsGranting};
 
-/// If an authorization is accepted, every check has passed, and each entry has a grant for what it
-/// authorizes. A proof only: it has no effect at run time.
+/// If an authorization is accepted, every check has passed, and each entry that authorizes a handle
+/// has a grant. A proof only: it has no effect at run time.
 #[inline(always)]
 #[tactic(auto, using(crate::proofs::Granting::granting))]
 pub fn granting_laws()

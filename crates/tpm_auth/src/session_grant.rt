@@ -1,6 +1,6 @@
 //! Decides what a session's entry authorizes, by its HMAC or by its policy. Checks whether the
 //! session may authorize the handle, whether the entity whose authorization value the entry uses is
-//! locked out, and whether the comparison succeeds.
+//! locked out, and whether the password or HMAC is right.
 
 ghost use Rattle.std.specs.Prelude.{◌≡◌, ◌≤◌, length, option_map};
 ghost use Rattle.std.specs.Option.{ForSome};
@@ -27,7 +27,7 @@ use tpm_session::{ParameterHashes, Protection, Session};
 use tpm_types::{Check, Handle, Refused, ResponseCode, SessionType};
 use tpm_types_command::Command;
 
-/// A handle that an entry authorizes, and what the policy demands in that entry.
+/// A handle that an entry authorizes, and what the policy requires in that entry.
 #[derive(Clone, Copy, PartialEq, Eq)]
 pub struct Grant {
     pub handle: Handle,
@@ -84,7 +84,7 @@ fn entry_protection<K: Keep>(keep: &K, session: &Session, granted: Option<Grante
 }
 
 /// Whether a session's entry uses the authorization value of an entity that is locked out. The
-/// entity's protection is looked up only if something is locked out.
+/// entity's protection is looked up only if the device is in lockout or lockoutAuth is disabled.
 fn is_barred<K: Keep>(keep: &K, session: &Session, granted: Option<Granted>) -> bool
     requires { ForSome granted (IsToGrant (K.record_of keep.now) session.now) }
     ensures { result ≡ is_locked_out (K.record_of keep.now).fixed.lockout
@@ -107,7 +107,7 @@ fn policy_of<'a>(resolved: &'a Resolved) -> Option<EntityPolicy<'a>>
     })
 }
 
-/// Describes the use that a policy session's entry has to authorize.
+/// Describes the command's use of a handle, which a policy session's entry has to authorize.
 #[tactic(auto, unfolding(crate::specs::SessionGrant::use_of, tpm_record::specs::Entity::is_available, tpm_record::specs::Entity::written_of, tpm_record::specs::Entity::policy_of))]
 fn use_of<'a, K: Keep>(
     keep: &K,
@@ -141,8 +141,8 @@ fn use_of<'a, K: Keep>(
     }
 }
 
-/// Returns what the session's policy demands in its entry, if the policy authorizes the use of this
-/// handle.
+/// Returns what the session's policy requires in its entry, if the policy authorizes the command to
+/// use this handle.
 fn policy_demand<K: Keep>(
     keep: &K,
     sent: &Sent,
@@ -167,8 +167,8 @@ fn policy_demand<K: Keep>(
     }
 }
 
-/// Returns what a session demands in its entry, in addition to the comparison, if the session can
-/// authorize this handle.
+/// If the session can authorize this handle, returns what its policy requires in the entry. An HMAC
+/// session requires nothing in addition to its HMAC.
 #[tactic(auto, unfolding(crate::specs::SessionGrant::demanded, tpm_record::specs::Entity::is_available))]
 fn demand_of<K: Keep>(
     keep: &K,
@@ -208,8 +208,8 @@ pub fn granted_value<'a, K: Keep>(keep: &'a K, grant: Option<Grant>) -> &'a [u8]
     }
 }
 
-/// Whether the comparison of an entry succeeds: a password comparison if the session's policy
-/// demands a password, otherwise an HMAC comparison.
+/// Whether the HMAC field of an entry is right. It must contain the password if the session's
+/// policy requires one, and otherwise the HMAC.
 #[tactic(auto, unfolding(crate::specs::SessionGrant::comparison_holds, tpm_record::specs::Entity::auth_value_of))]
 fn comparison_holds<K: Keep>(
     keep: &K,
@@ -234,7 +234,7 @@ fn comparison_holds<K: Keep>(
     }
 }
 
-/// Returns the grant: the handle and the demand, without the handle's entity.
+/// Returns the grant: the handle and what the policy requires, without the handle's entity.
 fn grant_of(granted: Option<Granted>) -> Option<Grant>
     ensures { result ≡ option_map grant_by granted.entry }
 {
@@ -244,8 +244,8 @@ fn grant_of(granted: Option<Granted>) -> Option<Grant>
     }
 }
 
-/// Makes the comparison for a session's entry, unless its entity is locked out. Returns the entry's
-/// grant, if it has a handle to authorize.
+/// Checks the password or HMAC of a session's entry, unless the entity is locked out. Returns the
+/// entry's grant, if it has a handle to authorize.
 #[inline(always)]
 fn compare<K: Keep>(
     keep: &K,
@@ -273,8 +273,8 @@ fn compare<K: Keep>(
     Err(failure(check_of(grant), by.number, protection))
 }
 
-/// Checks a session's entry: whether the session can authorize the handle, if there is one, and
-/// whether the comparison succeeds. Returns the entry's grant, if any.
+/// Checks whether a session can authorize the handle, if there is one, and whether the password or
+/// HMAC in its entry is right. Returns the entry's grant, if any.
 #[tactic(auto, unfolding(crate::specs::SessionGrant::session_grant))]
 pub fn check_session<K: Keep>(
     keep: &K,
@@ -307,7 +307,7 @@ pub fn check_session<K: Keep>(
 }
 
 /// If a session's entry is accepted with an empty HMAC, then the HMAC key was empty or a policy
-/// demanded a password. A proof only: it has no effect at run time.
+/// required a password. A proof only: it has no effect at run time.
 #[inline(always)]
 #[tactic(auto, using(crate::proofs::EmptyHmac::no_key))]
 pub fn empty_hmac_laws()

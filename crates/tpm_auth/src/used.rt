@@ -31,7 +31,8 @@ pub struct SessionEntry<'a, 'b> {
     pub session: &'a Session,
 }
 
-/// What an entry of a session authorizes: a handle with its entity, and the policy's demand.
+/// What an entry of a session authorizes: a handle with its entity, and what the policy requires in
+/// the entry (`Demand`).
 #[derive(Clone, Copy)]
 pub struct Granted<'a> {
     pub used: Resolved<'a>,
@@ -41,7 +42,7 @@ pub struct Granted<'a> {
 }
 
 impl Granted<'_> {
-    /// Returns the grant: the handle and the demand, without the handle's entity.
+    /// Returns the grant: the handle and what the policy requires, without the handle's entity.
     pub fn grant(&self) -> Grant
         ensures { result ≡ grant_by self.now }
     {

@@ -60,8 +60,8 @@ accepted_answers can r random c grants (Ok a) answer effect response after (same
     ∙ ap (λ (x : List (Option Grant)). answer_to a.command x (written_of a.success.answer) a.success.after random) (sym granted) in
     answers_exactly can r random (Ok a) _ (λ i. record { response = (whole i).response; row = record { code = code_number (back i).code; check = 0 }; after = settled (back i).code (whole i).after })
 
--- an accepted command stays within the limits (`IsModest`), since the answer's buffer is limited
--- and nonces are short
+-- an accepted command stays within the limits (`IsModest`), because its answer fits the buffer and
+-- nonces are short
 pub accepted_modest : (random : List ℕ) (c : Whole) (grants : List (Option Grant)) (a : Result Accepted Refused) (answer : Answer) (effect : Record) → answer.drawn ≤ 96 → length answer.parameters ≤ answer_limit → DrawsFew random effect c.entries answer.drawn → Succeeds a c grants answer effect → IfOk a (IsModest random)
 accepted_modest random c grants (Err e) answer effect few short drawn never = tt
 accepted_modest random c grants (Ok a) answer effect few short drawn (same, granted, written, left) = (

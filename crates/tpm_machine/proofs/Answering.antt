@@ -23,8 +23,8 @@ unfolding success_text
 success_some [] handle answer area some = absurd (let none : ⊥ = omega arith in none)
 success_some (entry ∷ entries) handle answer area some = refl
 
--- If the code rolls the nonces, encrypts the parameters, answers the entries and then encodes the
--- text, the result is the one that `answer_to` defines.
+-- If the code draws new nonces, encrypts the parameters, answers the entries and then encodes the
+-- response, the result is the one that `answer_to` defines.
 answered_by : (c : Whole) (grants : List (Option Grant)) (a : Written) (effect : Record) (random : List ℕ) (mid after : Record) (left parameters area text : List ℕ) → 1 ≤ length c.entries
     → entries_rolled effect c.entries (drop a.drawn random) ≡ record { after = mid; left = left }
     → parameters ≡ encrypted_answer mid (granted_entries c grants) a.parameters

@@ -48,7 +48,7 @@ if_memory P Q (Ok handle) so holds = so holds
 if_memory P Q (Err Full) so holds = so holds
 if_memory P Q (Err NoMemory) so holds = tt
 
--- The facts that hold after an object was placed on a device. They are those that hold after every
+-- The facts that hold after an object was placed on a device. The same facts hold after every
 -- execution.
 pub record Tells (can : Bool) (old : Record) (object : Object) (result : Result Handle SlotFault) (new : Record) : Type 0 where
   pub places : Places can old result new

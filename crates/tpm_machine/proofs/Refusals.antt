@@ -16,8 +16,8 @@ use Rattle.tpm_step.specs.Safe.{IsHarmless}
 use Rattle.tpm_step.specs.Step.{Accepted, Answers, RefusesOrWantsMemory, Stepped, Steps, refusal_step, accepted, stepped_of, counted_in, refusal_without_memory, answer_without_memory, step, step_where, success_step}
 use Rattle.tpm_step.specs.declared.refused_command.RefusedCommand.{RefusedCommand}
 
--- After the elapsed time was added to the record, a refusal has a response of ten bytes, reports
--- its check, and changes only the lockout state.
+-- A refusal has a response of ten bytes and reports its check. After the elapsed time was added to
+-- the record, it changes only the lockout state.
 abbrev LeavesRecord : Record → Stepped → Type 0
 LeavesRecord r x = x.row.check ≢ 0 → (length x.response ≡ 10) × (refused : Refused) × (x.response ≡ refusal_text refused) × (x.row.check ≡ check_number refused.check) × (x.after ≡ counted_in refused.counted r)
 

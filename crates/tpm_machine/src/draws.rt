@@ -5,7 +5,7 @@ ghost use Rattle.std.specs.Prelude.{◌≡◌, ◌≤◌, ℕ, List, length, tak
 use std::marker::Model;
 use tpm_session::Nonce;
 
-/// The unused random bytes of an event. Contracts see them as a list.
+/// The unused random bytes of an event. In contracts, they are a list.
 #[derive(Drop)]
 pub struct Draws<'a> {
     left: &'a [u8],

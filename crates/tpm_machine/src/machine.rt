@@ -98,9 +98,9 @@ impl<K: Keep> Machine<K> {
         &mut self.keep
     }
 
-    /// Returns how many random bytes the latest event drew, for the command itself and for new
-    /// session nonces. An event draws its random bytes in order, starting with the first. A refused
-    /// command or a power cycle draws none.
+    /// Returns the number of random bytes that the latest event drew, for the command itself and
+    /// for new session nonces. An event draws its random bytes in order, starting with the first. A
+    /// refused command or a power cycle draws none.
     pub fn drawn(&self) -> usize
         ensures { result ≡ latest_drawn self.now }
     {
@@ -136,8 +136,7 @@ impl<K: Keep> Machine<K> {
             (plain_event event.now) outcome.new.row.check }
 
         // If the device followed a history, it now follows that history, extended by this event if
-        // it was accepted. `FollowsOn` lists what the history then determines, and what holds for
-        // each replay and for each use of a handle in it.
+        // it was accepted.
         ensures follows { FollowsOn (state_of K.record_of self.old) (plain_event event.now)
             (outcome_step (state_of K.record_of self.new) outcome.new) }
     {
@@ -195,8 +194,8 @@ impl<K: Keep> Machine<K> {
             ≡ after_all (state_of K.record_of self.old) (map plain_event events.now) }
 
         // If the device followed a history, it now follows that history, extended by the accepted
-        // events of the run. No counter that stayed defined went down, the number of failed tries
-        // is bounded, and every replay repeats a nonce or an HMAC.
+        // events of the run. No NV counter that stayed defined went down, the number of failed
+        // tries is bounded, and every replay repeats a nonce or an HMAC.
         ensures history { (history : History) → Follows (state_of K.record_of self.old) history
             → RunFollows F.FnMut K.can_refuse (state_of K.record_of self.old) tell.old
             (map plain_event events.now) (state_of K.record_of self.new) tell.new history }

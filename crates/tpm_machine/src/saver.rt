@@ -1,4 +1,4 @@
-//! Traits that save a device while it is used. A [`Saver`] receives the device, and a [`Witness`]
+//! Traits that save a device while it is in use. A [`Saver`] receives the device, and a [`Witness`]
 //! receives each event that the device executed. [`SavesNothing`] implements both, for a device
 //! that need not be saved.
 //!
@@ -22,14 +22,15 @@ use tpm_step::{Event, Outcome};
 #[derive(Clone, Copy, PartialEq, Eq)]
 pub struct Unsaved;
 
-/// Saves a device while it is used. Contracts describe each successful call as a relation between
+/// Saves a device while it is in use. Contracts describe each successful call as a relation between
 /// the saver before the call, the record of the device, and the saver after the call.
 pub trait Saver {
-    /// How a saver changes when it saves a device with this record, including its clock.
+    /// The relation between a saver before and after it saves a device with this record, including
+    /// its clock.
     ghost saves: { Self → Record → Self → Type 0 };
 
-    /// How a saver changes when it saves a device with this record. If only the clock changed, the
-    /// saver need not save.
+    /// The relation between a saver before and after it saves a device with this record. If only
+    /// the clock changed, the saver need not save.
     ghost saves_change: { Self → Record → Self → Type 0 };
 
     /// Whether a save has failed. Once true, this stays true.
@@ -54,7 +55,7 @@ pub trait Saver {
 /// successful call as a relation between the witness before the call, the execution, and the
 /// witness after the call.
 pub trait Witness {
-    /// How a witness changes when it receives an execution.
+    /// The relation between a witness before and after it receives an execution.
     ghost notes: { Self → Execution → Self → Type 0 };
 
     /// Whether a note has failed. Once true, this stays true.

@@ -1,5 +1,5 @@
-//! Maps each command code to the function that implements the command's row. It runs after the
-//! parameters are decrypted. A refusal leaves the record unchanged.
+//! Maps each command code to the function that implements the command's row. The function runs
+//! after the parameters are decrypted. A refusal leaves the record unchanged.
 
 ghost use Rattle.tpm_types.specs.Limits.{buffer_limit};
 ghost use Rattle.std.specs.Prelude.{◌≡◌, ◌≤◌, ◌&&◌, Ok, length, map};

@@ -1,5 +1,5 @@
--- The common part of the commands on NV indices: the refusal if authHandle may not read or write an
--- index, and if an index cannot be written or locked. TPM 2.0 Library, Part 3, section 31
+-- The common part of the commands on NV indices: the refusals if authHandle may not read or write
+-- an index, or if an index cannot be written or locked. TPM 2.0 Library, Part 3, section 31
 -- (non-volatile storage). The response codes and the order of the checks are choices of this
 -- implementation.
 use Rattle.tpm_types.specs.declared.action_check.ActionCheck.TheVariants as action
@@ -36,8 +36,8 @@ reader_passes target =
 
 -- the refusal of a write after check A1: by A2 if the index is locked against writing; by A3 if its
 -- type does not match the command; by A4 if the write extends past the end of the data, if it does
--- not cover all of the data although WRITEALL is set, or if the counter is at its maximum. A
--- missing index does not occur here
+-- not cover all of the data although WRITEALL is set, or if the counter is at its maximum. At this
+-- point, the index always exists
 abbrev pub writing_refusal : WriteFault → Refused
 writing_refusal write_fault.Locked = action_refusal action.Second (plain code.NvLocked)
 writing_refusal write_fault.Attributes =
@@ -48,7 +48,7 @@ writing_refusal write_fault.Exhausted = action_refusal action.Fourth (plain code
 writing_refusal write_fault.Undefined = handle_refusal
 
 -- the refusal of a lock after check A1: by A2 if no attribute of the index allows this kind of
--- lock. A missing index does not occur here
+-- lock. At this point, the index always exists
 abbrev pub lock_refusal : LockFault → Refused
 lock_refusal lock_fault.Attributes =
     action_refusal action.Second (at (place.Handle 2) (plain code.Attributes))

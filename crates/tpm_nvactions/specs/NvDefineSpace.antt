@@ -46,8 +46,8 @@ definition_refusal fault.DataSize = parameter_refusal action.Fourth 2 code.Size
 -- the row of TPM2_NV_DefineSpace. Handle: authHandle (the owner or the platform), with
 -- authorization. Refused by check A1 if auth is longer than a digest of nameAlg; by A2 if
 -- authPolicy is neither empty nor as long as a digest; by A3 if the attributes are not allowed; by
--- A4 if the type does not allow the size; by A5 if the index already exists; by A6 if there is no
--- room for it
+-- A4 if the type does not allow the size; by A5 if the index already exists; by A6 if no further
+-- index can be stored
 unfoldable pub nv_define_space_row : Record → Request → Result Success Refused
 nv_define_space_row r q = do
   auth_handle ← first_handle q.handles

@@ -9,9 +9,9 @@ use Rattle.tpm_record.specs.rows.Request.{Request}
 use Rattle.tpm_record.specs.rows.Rows.{Success, only}
 use Rattle.tpm_nvactions.specs.Access.{write_row}
 
--- the row of TPM2_NV_Extend. Handles: authHandle and nvIndex. Parameter: data, within its size
--- limit. Refused by check A1 if authHandle may not write the index; by A2 if the index is locked;
--- by A3 if its type cannot be extended
+-- the row of TPM2_NV_Extend. Handles: authHandle and nvIndex. Parameter: data, at most `data_limit`
+-- bytes. Refused by check A1 if authHandle may not write the index; by A2 if the index is locked;
+-- by A3 if it is not an extend index
 unfoldable pub nv_extend_row : Record → Request → Result Success Refused
 nv_extend_row r q =
     write_row r q (only (buffer_at data_limit q.parameters)) (λ bytes handle. extended r.nv handle bytes)

@@ -26,8 +26,8 @@ parameters_in text = do
 
 -- the row of TPM2_NV_Read. Handles: authHandle and nvIndex. Refused by A1 to A3, the checks of
 -- every command that reads an index; by A4 if the command requests more bytes than the data limit;
--- by A5 if the bytes extend past the end of the index's data. After check A4, the read can fail for
--- no other reason (reading_laws of tpm_record). Answer: the bytes that were read
+-- by A5 if the bytes extend past the end of the index's data. Once checks A1 to A4 have passed, the
+-- read can fail for no other reason (reading_laws of tpm_record). Answer: the bytes that were read
 unfoldable pub nv_read_row : Record → Request → Result Success Refused
 nv_read_row r q = do
   target ← target_of r q

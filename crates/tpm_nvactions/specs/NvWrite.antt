@@ -14,7 +14,7 @@ use Rattle.tpm_record.specs.rows.Rows.{Success, all_read, parameter}
 use Rattle.tpm_nvactions.specs.declared.nv_write.WriteParameters.{WriteParameters}
 use Rattle.tpm_nvactions.specs.Access.{write_row}
 
--- the parameters data, within its size limit, and offset
+-- the parameters data (at most `data_limit` bytes) and offset
 pub record Parameters : Type 0 where
   pub bytes : List ℕ
   pub offset : ℕ

@@ -1,5 +1,5 @@
-//! The common part of the commands on NV indices: who may write or read an index, and the refusals
-//! for errors in writing and locking.
+//! The common part of the commands on NV indices: which authHandle may write or read an index, and
+//! the refusals if an index cannot be written or locked.
 
 ghost use Rattle.std.specs.Prelude.{◌≡◌};
 ghost use Rattle.tpm_nvactions.specs.Access.{lock_refusal, reader_passes, writing_refusal, writer_passes};
@@ -31,7 +31,7 @@ pub fn check_reader(target: &Target) -> Result<(), Refused>
     }
 }
 
-/// The refusal for an error in writing an index.
+/// The refusal of a write to an index with this fault.
 pub fn writing_refusal(fault: WriteFault) -> Refused
     ensures { result ≡ writing_refusal fault }
 {
@@ -50,7 +50,7 @@ pub fn writing_refusal(fault: WriteFault) -> Refused
     }
 }
 
-/// The refusal for an error in locking an index.
+/// The refusal of a lock of an index with this fault.
 pub fn lock_refusal(fault: LockFault) -> Refused
     ensures { result ≡ lock_refusal fault }
 {

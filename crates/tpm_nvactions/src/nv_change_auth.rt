@@ -1,5 +1,5 @@
-//! TPM2_NV_ChangeAuth: sets the authorization value of an index, as specified by its row in
-//! `specs/NvChangeAuth`.
+//! TPM2_NV_ChangeAuth: sets the authorization value of an index (specified in
+//! `specs/NvChangeAuth`).
 
 ghost use Rattle.std.specs.Prelude.{◌≡◌};
 ghost use Rattle.tpm_record.specs.rows.Answer.{IsEmpty};

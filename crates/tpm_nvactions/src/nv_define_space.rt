@@ -1,5 +1,5 @@
-//! TPM2_NV_DefineSpace: defines an index, which contains no data yet, as specified by its row in
-//! `specs/NvDefineSpace`.
+//! TPM2_NV_DefineSpace: defines an index, which contains no data yet (specified in
+//! `specs/NvDefineSpace`).
 
 ghost use Rattle.tpm_bytes.specs.Reading.{Gives};
 ghost use Rattle.std.specs.Prelude.{◌≡◌, ◌==◌, IfOk, length};

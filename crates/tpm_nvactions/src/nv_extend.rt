@@ -1,5 +1,4 @@
-//! TPM2_NV_Extend: extends the digest in an index with data, as specified by its row in
-//! `specs/NvExtend`.
+//! TPM2_NV_Extend: extends the digest in an index with data (specified in `specs/NvExtend`).
 
 ghost use Rattle.std.specs.Prelude.{◌≡◌};
 ghost use Rattle.tpm_record.specs.rows.Answer.{IsEmpty};

@@ -1,4 +1,4 @@
-//! TPM2_NV_Increment: increments a counter, as specified by its row in `specs/NvIncrement`.
+//! TPM2_NV_Increment: increments a counter (specified in `specs/NvIncrement`).
 
 ghost use Rattle.std.specs.Prelude.{◌≡◌};
 ghost use Rattle.tpm_record.specs.rows.Answer.{IsEmpty};

@@ -1,4 +1,4 @@
-//! TPM2_NV_Read: returns data from an index, as specified by its row in `specs/NvRead`.
+//! TPM2_NV_Read: returns data from an index (specified in `specs/NvRead`).
 
 ghost use Rattle.std.specs.Prelude.{◌≡◌};
 ghost use Rattle.tpm_record.specs.rows.Answer.{IsEmpty};

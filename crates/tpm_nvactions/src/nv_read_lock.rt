@@ -1,5 +1,4 @@
-//! TPM2_NV_ReadLock: locks an index against reading, as specified by its row in
-//! `specs/NvReadLock`.
+//! TPM2_NV_ReadLock: locks an index against reading (specified in `specs/NvReadLock`).
 
 ghost use Rattle.std.specs.Prelude.{◌≡◌};
 ghost use Rattle.tpm_record.specs.rows.Answer.{IsEmpty};

@@ -1,5 +1,5 @@
-//! TPM2_NV_ReadPublic: returns the public area of an index and its Name, as specified by its row
-//! in `specs/NvReadPublic`.
+//! TPM2_NV_ReadPublic: returns the public area of an index and its Name (specified in
+//! `specs/NvReadPublic`).
 
 ghost use Rattle.std.specs.Prelude.{◌≡◌};
 ghost use Rattle.tpm_record.specs.rows.Answer.{IsEmpty};

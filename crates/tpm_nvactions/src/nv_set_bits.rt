@@ -1,5 +1,4 @@
-//! TPM2_NV_SetBits: sets bits in an index that is a bit field, as specified by its row in
-//! `specs/NvSetBits`.
+//! TPM2_NV_SetBits: sets bits in an index that is a bit field (specified in `specs/NvSetBits`).
 
 ghost use Rattle.std.specs.Prelude.{◌≡◌};
 ghost use Rattle.tpm_record.specs.rows.Answer.{IsEmpty};

@@ -1,4 +1,4 @@
-//! TPM2_NV_UndefineSpace: removes an index, as specified by its row in `specs/NvUndefineSpace`.
+//! TPM2_NV_UndefineSpace: removes an index (specified in `specs/NvUndefineSpace`).
 
 ghost use Rattle.std.specs.Prelude.{◌≡◌};
 ghost use Rattle.tpm_record.specs.rows.Answer.{IsEmpty};

@@ -1,4 +1,4 @@
-//! TPM2_NV_Write: writes data to an ordinary index, as specified by its row in `specs/NvWrite`.
+//! TPM2_NV_Write: writes data to an ordinary index (specified in `specs/NvWrite`).
 
 ghost use Rattle.tpm_bytes.specs.Reading.{Gives};
 ghost use Rattle.std.specs.Prelude.{◌≡◌};

@@ -1,5 +1,4 @@
-//! TPM2_NV_WriteLock: locks an index against writing, as specified by its row in
-//! `specs/NvWriteLock`.
+//! TPM2_NV_WriteLock: locks an index against writing (specified in `specs/NvWriteLock`).
 
 ghost use Rattle.std.specs.Prelude.{◌≡◌};
 ghost use Rattle.tpm_record.specs.rows.Answer.{IsEmpty};

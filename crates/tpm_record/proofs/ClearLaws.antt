@@ -9,7 +9,7 @@ use Rattle.tpm_containers.specs.Slots.{at_place, taken_count}
 use Rattle.tpm_containers.proofs.SlotLaws.{counted}
 use Rattle.tpm_record.specs.Clear.{ClearingLaws, cleared_objects, cleared_place, is_cleared, is_place_cleared}
 
--- the slots after TPM2_Clear's removals were applied to the first `count` of them
+-- the slots after TPM2_Clear has processed the first `count` of them
 abbrev pub cleared_up_to : ℕ → List (Option Object) → List (Option Object)
 cleared_up_to count places = map cleared_place (take count places) ++ drop count places
 
@@ -21,7 +21,8 @@ rest_cleared : (b : Bool) (p : Option Object) (ps qs : List (Option Object)) →
 rest_cleared true p ps qs = refl
 rest_cleared false p ps qs = refl
 
--- Clearing the next slot increases the number of cleared slots by one.
+-- If the first i slots are cleared and then the next one, the result is that of clearing the first
+-- i + 1 slots.
 pub cleared_in_turn : (places : List (Option Object)) (i : ℕ) → cond (is_place_cleared (at_place (cleared_up_to i places) i)) (slice_set (cleared_up_to i places) i None) (cleared_up_to i places) ≡ cleared_up_to (suc i) places
 cleared_in_turn [] zero = refl
 cleared_in_turn [] (suc i) = refl

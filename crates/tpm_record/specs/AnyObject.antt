@@ -14,12 +14,12 @@ use Rattle.tpm_record.specs.Objects.{Adds, object_at, object_handle, without_obj
 use Rattle.tpm_record.specs.Persistent.{next_persistent, without_persistent}
 use Rattle.tpm_record.specs.Record.{Record}
 
--- A transient object was added or refused, and nothing else in the record changed.
+-- A transient object was added, or adding it was refused; nothing else in the record changed.
 abbrev pub AddsObject : Bool → Record → Object → Result Handle SlotFault → Record → Type 0
 AddsObject can old object result new =
     Adds can old.objects object result new.objects × (new ≡ record old { objects = new.objects })
 
--- A persistent object was added or refused, and nothing else in the record changed.
+-- A persistent object was added, or adding it was refused; nothing else in the record changed.
 abbrev pub AddsPersistent : Bool → Record → Handle → Object → Result (Unit {0}) KeyFault → Record
     → Type 0
 AddsPersistent can old handle object result new =
@@ -45,7 +45,7 @@ abbrev pub least_below : (ℕ → Bool) → ℕ → Option ℕ
 least_below test zero = None
 least_below test (suc n) = or_else (least_below test n) (if test n then Some n else None)
 
--- whether a slot contains a transient object whose handle has at least this number
+-- whether a slot contains a transient object whose handle is at or above this number
 abbrev pub is_from : List (Option Object) → (number place : ℕ) → Bool
 is_from objects number place =
     nat_le number (number_of 0x80 place) && is_some (object_at objects (object_handle place))

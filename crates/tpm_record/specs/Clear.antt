@@ -47,8 +47,8 @@ pub record ClearingLaws : Type 0 where
       → at_number transient_byte places number ≡ Some object
       → is_cleared object.hierarchy ≡ false
       → at_number transient_byte (cleared_objects places) number ≡ Some object
-  -- if there was no object with this handle, there is still none, and the number of taken slots
-  -- does not grow
+  -- if there was no object with this handle, there is still none, and the number of slots in use
+  -- does not increase
   pub absent : (places : List (Option Object)) (number : ℕ)
       → at_number transient_byte places number ≡ None
       → at_number transient_byte (cleared_objects places) number ≡ None

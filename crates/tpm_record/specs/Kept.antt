@@ -1,4 +1,4 @@
--- The record that is stored in containers of any kind.
+-- The record whose parts are stored in containers of any kind.
 use Rattle.std.specs.Prelude.{List, Option}
 use Rattle.tpm_containers.specs.SortedMap.{Entries}
 use Rattle.tpm_nv.specs.Index.{NvContents}
@@ -9,9 +9,9 @@ use Rattle.tpm_record.specs.Objects.{objects_of}
 use Rattle.tpm_record.specs.Record.{Record}
 use Rattle.tpm_record.specs.declared.kept.Kept.{Kept}
 
--- the record that these containers store. Each function returns what its container stores: the
--- slots of the sessions, the slots of the transient objects, the persistent objects, or the NV
--- indices
+-- the record that these containers store. Each function argument returns the content of one
+-- container: the slots of the sessions, the slots of the transient objects, the persistent objects,
+-- or the NV indices
 abbrev pub kept_record : {S O P N : Type 0}
     → (S → List (Option Session)) → (O → List (Option Object)) → (P → Entries Object)
     → (N → NvContents) → Kept S O P N → Record

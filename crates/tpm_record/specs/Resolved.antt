@@ -1,4 +1,4 @@
--- Handles with the entities that they name. Each entity is looked up once.
+-- Handles with the entities that they name. Each entity is looked up only once.
 use Rattle.std.specs.Prelude.{◌≡◌, List, map}
 use Rattle.tpm_types.specs.declared.handle.Handle.{Handle}
 use Rattle.tpm_record.specs.Entity.{Entity, entity_at, entity_seen}

@@ -8,8 +8,8 @@ use Rattle.tpm_types.specs.declared.startup_type.StartupType.TheVariants as type
 use Rattle.tpm_record.specs.declared.saved.SavedKind.{SavedKind}
 use Rattle.tpm_record.specs.declared.saved.SavedKind.TheVariants as kind
 
--- the saved state: nothing, if there was no TPM2_Shutdown or it was cancelled; for a shutdown with
--- CLEAR, only the fact that it happened; for one with STATE, the values of the PCRs
+-- the saved state: nothing, if there was no TPM2_Shutdown or its state was discarded; for a
+-- shutdown with CLEAR, only the fact that it happened; for one with STATE, the values of the PCRs
 pub data SavedState : Type 0 where
   Nothing : SavedState
   Clear : SavedState

@@ -1,6 +1,5 @@
 //! The trait `Keep`, which types that contain the device's state implement. It provides read and
-//! write access to each part of the state. Contracts refer to a value of such a type by the record
-//! that the value represents.
+//! write access to each part of the state.
 
 ghost use Rattle.std.specs.Prelude.{◌≡◌, Bool, IfOk, OnErr, replicate, true};
 ghost use Rattle.std.specs.Borrow.{Lends, sem};
@@ -25,8 +24,8 @@ use tpm_object::Object;
 use tpm_session::{Session, Sessions};
 use tpm_types::{OBJECT_LIMIT, SESSION_LIMIT};
 
-/// A type that contains the device's state. Contracts refer to a value of this type by the record
-/// that the value represents.
+/// A type that contains the device's state. In contracts, a value of this type is the record that
+/// it represents.
 pub trait Keep: Drop + Sized {
     /// The type of the slots for sessions.
     type SessionSlots: Slots<Session, SESSION_LIMIT>;
@@ -58,7 +57,7 @@ pub trait Keep: Drop + Sized {
     /// The same state with these NV indices.
     ghost with_nv: { Self → Self.NvIndices → Self };
 
-    /// Whether an allocation can fail when the record grows.
+    /// Whether an allocation can fail when a session, an object or an NV index is added.
     ghost can_refuse: { Bool };
 
     /// Whether an allocation can fail when a value is created.

@@ -1,5 +1,5 @@
-//! A type that implements `Keep` with any kind of containers, for example with lists that grow.
-//! The state with fixed-size storage, which never allocates memory, is in tpm_slots.
+//! A type that implements `Keep` with any kind of containers, for example with growable lists. The
+//! state with fixed-size storage, which never allocates memory, is in tpm_slots.
 
 ghost use Rattle.std.specs.Prelude.{◌≡◌};
 
@@ -31,7 +31,7 @@ pub struct Kept<
     nv: N,
 }
 
-/// The device's state in lists that grow. Adding a session, object or NV index can run out of
+/// The device's state in growable lists. Adding a session, object or NV index can run out of
 /// memory.
 pub type ListKeep = Kept<
     ListSlots<Session, SESSION_LIMIT>,

@@ -4,7 +4,7 @@
 //! it.
 //!
 //! [`keep::Keep`] is the trait. [`kept::Kept`] implements it with any kind of containers, for
-//! example [`kept::ListKeep`] with lists that grow; tpm_slots contains the type with fixed-size
+//! example [`kept::ListKeep`] with growable lists; tpm_slots contains the type with fixed-size
 //! storage, which allocates no memory. [`fixed::Fixed`] is the part of fixed size, which includes
 //! the state that a shutdown saved ([`saved::Saved`]). [`objects::Objects`] are the transient
 //! objects and [`persistent::PersistentObjects`] the persistent ones; NV indices are in tpm_nv.

@@ -104,8 +104,7 @@ impl<O: Slots<Object, OBJECT_LIMIT>> Objects<O> {
         numbered::remove(&mut self.places, handle.number)
     }
 
-    /// Removes the objects in the owner and endorsement hierarchies, as TPM2_Clear does (TPM 2.0
-    /// Library, Part 3, section 24.6).
+    /// Removes the objects in the owner and endorsement hierarchies, as TPM2_Clear does.
     pub fn clear_hierarchies(&mut self)
         ensures { objects_of O.places self.new ≡ cleared_objects (objects_of O.places self.old) }
     {

@@ -16,8 +16,8 @@ use tpm_containers::{KeyFault, ListMap, Sizes, SlotMap, SortedMap};
 use tpm_object::Object;
 use tpm_types::{Handle, PERSISTENT_LIMIT};
 
-/// The persistent objects of a device, at most [`PERSISTENT_LIMIT`], keyed by handle. The calls do
-/// not check who may make an object persistent or remove it.
+/// The persistent objects of a device, at most [`PERSISTENT_LIMIT`], keyed by handle. The functions
+/// do not check whether the caller may make an object persistent or remove it.
 pub trait PersistentObjects: Drop + Sized {
     /// The handles in ascending order, each with its object.
     ghost entries: { Self → Entries ObjectParts };
@@ -57,8 +57,7 @@ pub trait PersistentObjects: Drop + Sized {
         ensures there { result ≡ is_some (persistent_at (entries self.old) handle) }
         ensures after { entries self.new ≡ without_persistent (entries self.old) handle };
 
-    /// Removes the objects in the owner and endorsement hierarchies, as TPM2_Clear does (TPM 2.0
-    /// Library, Part 3, section 24.6).
+    /// Removes the objects in the owner and endorsement hierarchies, as TPM2_Clear does.
     fn clear_hierarchies(&mut self)
         ensures { entries self.new ≡ cleared_persistent (entries self.old) };
 
@@ -73,7 +72,7 @@ pub struct StoredObjects<P: SortedMap<Object, PERSISTENT_LIMIT>> {
     objects: P,
 }
 
-/// Persistent objects in a list that grows. Adding an object can run out of memory.
+/// Persistent objects in a growable list. Adding an object can run out of memory.
 pub type ListObjects = StoredObjects<ListMap<Object, PERSISTENT_LIMIT>>;
 
 /// Persistent objects in fixed-size storage. Nothing is ever allocated, so no allocation can fail.

@@ -4,9 +4,9 @@
 //!
 //! The crates of the commands use these: tpm_actions_device, tpm_actions_policy,
 //! tpm_actions_object, tpm_actions_capability and tpm_nvactions. Each call equals its definition in
-//! `specs/`. `Acts`, defined there, is the contract of every row. It says that a success returns
-//! the row's answer and changes the record as the row says. A refusal is the row's refusal, and
-//! does not change the record.
+//! `specs/`. `Acts`, also defined there, is the contract of every row: a success returns the row's
+//! answer and changes the record as the row says. A refusal is the row's refusal, and does not
+//! change the record.
 
 pub mod answer;
 pub mod call;

@@ -1,4 +1,4 @@
-//! The state that the last TPM2_Shutdown saved for the next TPM2_Startup, unless it was cancelled
+//! The state that the last TPM2_Shutdown saved for the next TPM2_Startup, unless it was discarded
 //! (TPM 2.0 Library, Part 3, sections 9.3 and 9.4).
 
 ghost use Rattle.std.specs.Prelude.{◌≡◌, option_copied};
@@ -8,7 +8,8 @@ use std::marker::Model;
 use tpm_pcr::{Banks, SavedPcrs};
 use tpm_types::StartupType;
 
-/// The kind of the last TPM2_Shutdown; `Nothing` if there was no shutdown or it was cancelled.
+/// The kind of the last TPM2_Shutdown; `Nothing` if there was no shutdown or its state was
+/// discarded.
 #[derive(Clone, Copy, PartialEq, Eq)]
 pub enum SavedKind {
     Nothing,
@@ -16,8 +17,8 @@ pub enum SavedKind {
     State,
 }
 
-/// The state that the last TPM2_Shutdown saved for the next TPM2_Startup (TPM 2.0 Library, Part 3,
-/// sections 9.3 and 9.4). Cancelled values remain in memory but are ignored.
+/// The state that the last TPM2_Shutdown saved for the next TPM2_Startup. Discarded values remain
+/// in memory but are ignored.
 #[derive(Drop)]
 pub struct Saved {
     kind: SavedKind,
@@ -93,7 +94,7 @@ impl Saved {
         }
     }
 
-    /// Cancels the saved state.
+    /// Discards the saved state.
     pub fn cancel(&mut self)
         ensures { self.new ≡ Nothing }
     {

@@ -78,7 +78,7 @@ alike_fault {B = B} {F = F} see refused x y alike = record { is = fault_outcome 
 
 -- ---- comparing only whether rows succeed
 
--- the visible part of a success, if only the fact that it is a success is visible
+-- the visible part of a success, if only the fact that the row succeeded is visible
 abbrev pub success : {A : Type 0} → A → Unit {0}
 success a = tt
 

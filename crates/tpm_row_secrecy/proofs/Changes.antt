@@ -1,5 +1,6 @@
--- Changes of NV indices after some secrets were erased. Each change is refused in the same way, or
--- has the same result except for secrets. A counter with a secret value is the exception.
+-- Changes of NV indices after some secrets were erased. Each change is refused as on the device
+-- with its secrets, or has the same result except for secrets. This does not hold for a counter
+-- with a secret value.
 use Rattle.std.proofs.Common.{ap, refl, subst, sym, ◌∙◌}
 use Rattle.std.proofs.lemmas.Bool.{false≢true}
 use Rattle.std.proofs.lemmas.List.Folds.{fold-map}
@@ -171,8 +172,8 @@ module _ (s : Secrecy) where
         alike_step (bare_nv s) (refused_if (nat_le (2 ^ 64) (number_or n.max_count i + 1)) write_fault.Exhausted) _ _ (λ fits.
         alike_end (bare_nv s) _ _ (ap (λ (m : NvContents). counted m (number_or n.max_count i + 1)) (changed_same n handle _ _ (count_same i (to_be_bytes w64 (number_or n.max_count i + 1)))))))
 
-    -- If an index is not a counter, a device refuses its increment in the same way as the device
-    -- with its secrets erased.
+    -- If an index is not a counter, a device refuses its increment with the same fault as the
+    -- device with its secrets erased.
     no_counter : (locked counter : Bool) (f g : Unit {0} → Result NvContents WriteFault) → counter ≡ false → NvAlike ((refused_if locked write_fault.Locked >>= λ unlocked. refused_if (not counter) write_fault.Attributes) >>= f) ((refused_if locked write_fault.Locked >>= λ unlocked. refused_if (not counter) write_fault.Attributes) >>= g)
     no_counter true counter f g is = record { is = refl }
     no_counter false true f g is = absurd (false≢true (sym is))

@@ -49,9 +49,9 @@ names_policy_session r handle =
 -- Whether an authorized command reads secret data. TPM2_Unseal and TPM2_HMAC with an object, and
 -- TPM2_NV_Read of an NV index, read it if they are accepted, and reveal nothing if they are
 -- refused. TPM2_PolicyNV on a policy session compares the data of its index, and a failed
--- comparison also reveals something about the data. TPM2_NV_Increment of a counter reads it,
--- because the command is refused at the largest number. It also raises the largest value that any
--- counter ever had, which is not secret. No other command reads secret data.
+-- comparison also reveals something about the data. TPM2_NV_Increment reads the value of the
+-- counter, because the command is refused at the largest number. It may also raise the largest
+-- value that any counter ever had, which is not secret. No other command reads secret data.
 abbrev pub reads_secret : Secrecy → Record → CommandCode → Request → Bool
 reads_secret s r command.Unseal q =
     handle_passes (names_secret_object s r) (first_handle q.handles) && is_ok (unseal_row r q)

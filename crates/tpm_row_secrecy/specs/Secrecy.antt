@@ -25,9 +25,9 @@ use Rattle.tpm_types.specs.declared.handle.HierarchyAuth.TheVariants as auth
 -- the choice of what is secret on a device; each kind of secret is selected by public facts about
 -- its entity
 pub record Secrecy : Type 0 where
-  -- the NV indices whose data is secret, by handle number
+  -- for each handle number, whether the data of the NV index is secret
   pub index_data : ℕ → Bool
-  -- the KEYEDHASH objects whose sealed data or HMAC key is secret, by public area
+  -- for each public area, whether the sealed data or HMAC key of a KEYEDHASH object is secret
   pub object_data : Public → Bool
   -- the NV indices, the objects, and the hierarchies (or lockout) whose authorization value is
   -- secret

@@ -14,8 +14,8 @@ ghost use Rattle.tpm_record.specs.rows.Request.{Request};
 ghost use Rattle.tpm_row_secrecy.specs.Reads.{reads_secret};
 ghost use Rattle.tpm_row_secrecy.specs.Secrecy.{Secrecy, without_secrets};
 
-/// Whether a command reads secrets does not depend on their values: it reads them on a device
-/// exactly if it reads them on the same device with the secrets erased.
+/// Whether a command reads secrets does not depend on their values: it reads them on a device if
+/// and only if it reads them on the same device with the secrets erased.
 #[inline(always)]
 #[tactic(auto, using(crate::proofs::ReadAlike::reads_same))]
 pub fn reading_laws()

@@ -79,7 +79,7 @@ granted_used : (r : Record) (c : Whole) (locality place : ℕ) (e : Entry) (g : 
 unfolding grant
 granted_used r c locality place e g is = ok_at (IsUsed (slice_get (authorized c) place)) (grant_by (session_kind e.session) r c locality (place + 1) (slice_get (authorized c) place) e) g (used_by (session_kind e.session) r c locality (place + 1) (slice_get (authorized c) place) e) is
 
--- whether this number of authorized handles is at most one, as it is for every command
+-- whether this number is at most one, as is the number of handles that a command authorizes
 at_most_one : ℕ → Bool
 at_most_one zero = true
 at_most_one (suc zero) = true

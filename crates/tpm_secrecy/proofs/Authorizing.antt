@@ -103,7 +103,7 @@ other_name one other apart = by (bytes_eq one other) refl
     by true is = absurd (apart ((bytes_eq-Decides one other).0 is))
     by false is = refl
 
--- the refusal of an entry whose comparison is assumed to fail
+-- the refusal of an entry whose password or HMAC is assumed to be wrong
 abbrev pub wrong_comparison : Record → ℕ → Option Grant → Session → Result (Option Grant) Refused
 wrong_comparison t n g x =
     may_be_tried t.fixed.lockout g (entry_protection t x g) >>= λ tried.
@@ -223,7 +223,7 @@ module _ (s : Secrecy) (covers : CoversKeys s) (r : Record) where
         then_same (entry_passes bare c.code before e) (entry_passes r c.code before e) (λ this. entries_pass bare c.code (before ++ e ∷ []) es) (λ this. entries_pass r c.code (before ++ e ∷ []) es)
         (own_same before e) (λ this. all_own_same (before ++ e ∷ []) es)
 
-    -- ---- the text of an HMAC
+    -- ---- the message of an HMAC
 
     nonce_same : (test : Entry → Bool) (entries : List Entry) → nonce_where bare test entries ≡ nonce_where r test entries
     unfolding nonce_where
@@ -244,7 +244,7 @@ module _ (s : Secrecy) (covers : CoversKeys s) (r : Record) where
     unfolding entry_parts
     text_same n e x = rw (hash_same x.hash, nonce_same _ _, nonce_same _ _) refl
 
-    -- ---- the demand of a session
+    -- ---- what a session's policy requires in its entry
 
     use_same : (n : ℕ) (h : Handle) (x : Session) → use_of bare c locality n h x ≡ use_of r c locality n h x
     unfolding use_of

@@ -77,7 +77,7 @@ module _ (public : Public) (selection : List BankSelection) (values name referen
       either (inl met) = inl (met_opens history u refl by.session_hash met)
       either (inr broken) = inr broken
 
-  -- a command that reads the sealed data of an object with this public area opens the disk's key
+  -- a command that reads the sealed data of an object with this public area reads the disk's key
   reads_public : (p : Public) → p ≡ public → has public.attributes attribute.Sign ≡ false → has public.attributes attribute.UserWithAuth ≡ false → public.auth_policy ≡ policy_digest public.name_alg policy → (history : History) (c : AcceptedCommand) → slice_get c.views 0 ≡ Some (OfObject p) → c.command.code ≡ (if has p.attributes attribute.Sign then command.Hmac else command.Unseal) → ((policy : PolicyExpression) → has p.attributes attribute.UserWithAuth ≡ false → p.auth_policy ≡ policy_digest p.name_alg policy → IsPolicyExpression p.name_alg policy → IsUsedBySession history c 0 p.name_alg policy (λ u. IsMet (IsMetBy u) policy)) → OpensDiskKey public selection values name reference history c
   reads_public p is no_sign no_user_with_auth auth_policy history c viewed code needs = record {
     code = subst (λ (p : Public). c.command.code ≡ (if has p.attributes attribute.Sign then command.Hmac else command.Unseal)) is code ∙ ap (λ (sign : Bool). if sign then command.Hmac else command.Unseal) no_sign;

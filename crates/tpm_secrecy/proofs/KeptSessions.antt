@@ -149,7 +149,7 @@ restart_keeps r q =
     ok_bind _ (policy_session r.sessions handle) _ (λ x.
     starts_keep r.sessions (with_session_policy r.sessions handle (starting x.hash)) (policy_starts r.sessions handle (starting x.hash)))))
 
--- whether the success of a command that changes this part changes no session
+-- whether a command that changes only this part of the state changes no session
 abbrev has_no_session : Part → Bool
 has_no_session part.Sessions = false
 has_no_session part.SessionsAndObjects = false

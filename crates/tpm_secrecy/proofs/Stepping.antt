@@ -174,7 +174,7 @@ module _ (s : Secrecy) (covers : CoversKeys s) where
       ok_bind _ (authorize r c locality) _ (λ grants.
       ok_bind _ (row_of r c.code (request_in r c grants locality random)) _ (λ success. refl))
 
-  -- The command in a buffer reveals no secrets if it is accepted.
+  -- If the command in a buffer is accepted, it reveals no secrets.
   abbrev KeepsIts : Record → (locality : ℕ) → (random : List ℕ) → Accepted → Type 0
   KeepsIts r locality random a = KeepsSecrets s r a.command locality random
 

@@ -33,7 +33,7 @@ abbrev pub authorizes_secret : Secrecy → Record → Option Grant → Bool
 authorizes_secret s r granted =
     option_map_or (λ (g : Grant). has_secret_value s r g.handle) granted false
 
--- whether a policy demands the authorization value, in an HMAC key or as a password
+-- whether a policy requires the authorization value, in an HMAC key or as a password
 abbrev pub is_demanding : Demand → Bool
 is_demanding demand.None = false
 is_demanding demand.AuthValue = true
@@ -47,15 +47,16 @@ is_hmac_session type.Hmac = true
 is_hmac_session type.Policy = false
 is_hmac_session type.Trial = false
 
--- whether an entry's session decrypts the command's first parameter, or encrypts the response's
+-- whether an entry's session decrypts the command's first parameter, or encrypts the first
+-- parameter of the response
 abbrev pub uses_encryption : Entry → Bool
 uses_encryption e = decrypts e || encrypts e
 
 -- Whether an entry of this session uses a secret. It does if the session's key is secret, because
 -- of the entity to which the session was bound. It also does if the entry authorizes an entity with
--- a secret value, and this value is part of the entry's HMAC key, is demanded by its policy, or is
+-- a secret value, and this value is part of the entry's HMAC key, is required by its policy, or is
 -- part of the key that encrypts a parameter. Encryption uses the value even if the policy does not
--- demand it, and the value is not compared with anything.
+-- require it, and the value is not compared with anything.
 abbrev pub session_uses : Secrecy → Record → Session → Entry → Option Grant → Bool
 session_uses s r x e granted =
     has_secret_key s x.binding
@@ -80,8 +81,8 @@ NoneUses s r (g ∷ granted) = (uses_secret s r g.0 g.1 ≡ false) × NoneUses s
 
 -- ---- guesses
 
--- whether the session of an entry uses a secret, if the entry authorizes this handle with the
--- policy's demand; if the policy refuses the handle, nothing is compared
+-- whether the session of an entry that has to authorize this handle uses a secret, given what the
+-- policy requires in the entry; if the policy refuses the handle, nothing is compared
 abbrev pub demand_uses : Secrecy → Record → Handle → Session → Entry → Result Demand Refused → Bool
 demand_uses s r handle x e (Ok d) =
     session_uses s r x e (Some (record { handle = handle; demand = d }))

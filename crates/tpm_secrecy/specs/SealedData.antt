@@ -94,9 +94,8 @@ NoneIs Holds history (one ∷ executions) =
     ((c : AcceptedCommand) → with_execution one history ≡ Done c ∷ history → Holds history c → ⊥)
     × NoneIs Holds (with_execution one history) executions
 
--- From `other`, the same events lead, with the same responses and rows, to a device that differs
--- from `new` only in sealed data. Objects that the events place on the other device may differ in
--- this data.
+-- `other` can execute the same events with the same responses and rows, and then differs from `new`
+-- only in sealed data. Objects that the events place on the other device may differ in this data.
 abbrev pub LeadsAlike : (Public → Bool) → Bool → Record → List Execution → Record → Type 0
 LeadsAlike objects can other [] new = DifferInSecrets (sealed objects) new other
 LeadsAlike objects can other (one ∷ executions) new =
@@ -143,8 +142,8 @@ disk_policy hash selection values name reference =
     (Branch (Then Nothing (PolicySecret name reference)) NoBranch))
 
 -- The command is an accepted TPM2_Unseal of the disk's key. Unless the hash is broken, its session
--- proves one of two things: the PCRs had these values, and the PIN, which is the key's
--- authorization value, was presented; or the recovery secret was presented.
+-- proves that the PCRs had these values and the PIN, which is the key's authorization value, was
+-- presented; or that the recovery secret was presented.
 pub record OpensDiskKey (public : Public) (selection : List BankSelection)
     (values name reference : List ℕ) (history : History) (c : AcceptedCommand) : Type 0
   where

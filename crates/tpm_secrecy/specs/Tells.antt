@@ -41,7 +41,7 @@ abbrev pub decoded_reads : Secrecy → Record → (locality : ℕ) → (random :
 decoded_reads s r locality random (Ok c) = command_reads s r locality random c
 decoded_reads s r locality random (Err e) = false
 
--- whether an event reads secret data; a power cycle and a placed object do not
+-- whether an event reads secret data; a power cycle does not, nor does placing an object
 abbrev pub is_reading : Secrecy → Record → PlainEvent → Bool
 is_reading s r (Given buffer locality elapsed random) =
     decoded_reads s (ticked r elapsed) locality random (general (ticked r elapsed) buffer)
@@ -187,9 +187,9 @@ executions_of r (e ∷ es) =
     record { before = r; event = e.1; seen = x } ∷ executions_of x.after es
 
 -- Two devices that differ only in secrets, such as a PIN, return the same responses as long as
--- every guess fails on both. If recoveryTime is not 0, then in events that are executed without a
--- reset at most maxTries tries fail, plus one for each recoveryTime that passes. The number of
--- guesses that are not tries, such as an entry that encrypts, is not limited.
+-- every guess fails on both. If recoveryTime is not 0, then in events without a reset of
+-- failedTries at most maxTries tries fail, plus one for each recoveryTime that passes. The number
+-- of guesses that are not tries, such as an entry that encrypts, is not limited.
 abbrev pub WrongTriesAreFew : Type 0
 WrongTriesAreFew =
     (s : Secrecy) → CoversKeys s → (one other : Record) (events others : Attempts)

@@ -42,7 +42,7 @@ pub fn sealed_data_laws()
     ensures disk_key { DiskKeyStaysSecret }
 {}
 
-/// The laws of `sealed_data_laws` hold for every device that follows a history: a manufactured
+/// The laws of `sealed_data_laws` also hold for every device that follows a history: a manufactured
 /// device; one that is opened from an image, a state text or a journal of a device with a history;
 /// and one that is served over connections. The policy was satisfied in that history.
 #[inline(always)]
@@ -64,9 +64,9 @@ pub fn any_device_laws()
 /// Suppose that two devices differ only in authorization values and other secrets. An event reveals
 /// nothing about them if it reads no secret data and if, on both devices, every guess of a secret
 /// value fails. The same holds for a list of events. If recoveryTime is not 0 and the list contains
-/// no reset, at most maxTries tries fail, plus one for each recoveryTime that passes. An entry that
-/// encrypts with a secret value counts as a guess, although nothing is compared. The number of
-/// guesses that are not tries is not limited.
+/// no reset of failedTries, at most maxTries tries fail, plus one for each recoveryTime that
+/// passes. An entry that encrypts with a secret value counts as a guess, although nothing is
+/// compared. The number of guesses that are not tries is not limited.
 #[inline(always)]
 pub fn guess_laws()
     ensures event { WrongGuessesTellNothing }

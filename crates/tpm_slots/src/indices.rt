@@ -8,7 +8,7 @@ use tpm_nv::{
 use tpm_types::{AuthValue, Handle};
 use tpm_types_nv::NvPublic;
 
-/// Slots for all NV indices that a device can have, and space for their data.
+/// A slot for each NV index that a device can have, and space for its data.
 #[derive(Drop)]
 pub struct IndexPlaces {
     stored: SlotIndices,

@@ -12,8 +12,8 @@ use tpm_record::{Fixed, Keep, PersistentObjects};
 use tpm_session::Sessions;
 
 /// The device's state in fixed slots, one for each session, object and index that a device can
-/// have. It allocates no memory, so it never runs out of memory. A value takes about 40,300 bytes.
-/// Therefore it is created once, and then passed by reference.
+/// have. A value takes about 40,300 bytes. Therefore it is created once, and then passed by
+/// reference.
 #[derive(Drop)]
 pub struct SlotKeep {
     fixed: Fixed,

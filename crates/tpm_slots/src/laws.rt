@@ -11,8 +11,8 @@ use tpm_session::Session;
 use tpm_types::{OBJECT_LIMIT, SESSION_LIMIT};
 
 /// With the state in fixed slots, an allocation never fails, neither when the state is created nor
-/// when it grows. The same holds for each of its containers. A proof only: it has no effect at run
-/// time.
+/// when a value is added. The same holds for each of its containers. A proof only: it has no effect
+/// at run time.
 #[inline(always)]
 pub fn fixed_laws()
     ensures never_refused { ⟦<SlotKeep as Keep>⟧.can_refuse ≡ false }

@@ -138,8 +138,8 @@ module _ (r : Record) (c : AcceptedCommand) (history : History) (are : AreIndice
   abbrev q : Request
   q = c.request
 
-  -- If the assertion that the device makes meets its condition, so does the assertion that the
-  -- history determines for the command.
+  -- If the device's assertion meets its condition, so does the assertion that the history
+  -- determines for the command.
   abbrev Agrees : Code → (Session → Assertion) → Type 0
   Agrees code made =
       (s : Session) (told : Assertion) → assertion_by code c history s.hash s.nonce_tpm ≡ Ok told

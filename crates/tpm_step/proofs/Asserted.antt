@@ -56,19 +56,19 @@ second_name r (first ∷ second ∷ handles) handle is = view_named r second ∙
 
 -- ---- the assertion of a command
 
--- Two assertions change every policy in the same way.
+-- Two assertions have the same effect on every policy.
 abbrev MakesAs : HashAlg → Assertion → Assertion → Type 0
 MakesAs hash one other = (trial : Bool) (policy : Policy) → policy_with hash trial one policy ≡ policy_with hash trial other policy
 
--- The history determines an assertion for the command on this session. That assertion changes every
--- policy in the same way as the device's assertion.
+-- The history determines an assertion for the command on this session. It has the same effect on
+-- every policy as the device's assertion.
 pub record Tells (c : AcceptedCommand) (history : History) (code : Code) (s : Session) (a : Assertion) : Type 0 where
   pub told : Assertion
   pub is : assertion_by code c history s.hash s.nonce_tpm ≡ Ok told
   pub makes : MakesAs s.hash a told
 
--- The history determines an assertion for the command on every session. That assertion changes
--- every policy in the same way as the device's assertion.
+-- The history determines an assertion for the command on every session. It has the same effect on
+-- every policy as the device's assertion.
 abbrev pub IsAsserted : AcceptedCommand → History → Code → (Session → Assertion) → Type 0
 IsAsserted c history code assertion = (s : Session) → Tells c history code s (assertion s)
 

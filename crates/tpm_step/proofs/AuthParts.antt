@@ -25,7 +25,7 @@ use Rattle.tpm_step.proofs.HandleMap.{same_handle}
 
 -- ---- values that do not change
 
--- If there is a new value, the old value was the same.
+-- If the new value exists, the old value exists and is the same.
 abbrev pub Kept : (old new : Option (List ℕ)) → Type 0
 Kept old new = (value : List ℕ) → new ≡ Some value → old ≡ Some value
 
@@ -50,8 +50,8 @@ Keeps old new handle = Kept (auth_seen old handle) (auth_seen new handle)
 abbrev pub KeepsAll : (old new : Record) → Type 0
 KeepsAll old new = (handle : Handle) → Keeps old new handle
 
--- a handle keeps its authorization value if each part of the record that could contain this value
--- keeps it
+-- the authorization value of a handle is unchanged if it is unchanged in each part of the record
+-- that could contain it
 pub parts_keep : (old new : Record) (h : Handle) → Kept (index_auth (index_at old.nv h)) (index_auth (index_at new.nv h)) → Kept (object_auth (persistent_at old.persistent h)) (object_auth (persistent_at new.persistent h)) → Kept (object_auth (object_at old.objects h)) (object_auth (object_at new.objects h)) → permanent_auth_value new h ≡ permanent_auth_value old h → Keeps old new h
 parts_keep old new h index persistent transient permanent = by (is_nv_index h) (is_persistent h) (is_transient h)
   where

@@ -81,7 +81,7 @@ module _ (r t : Record) (c : Whole) (locality : ℕ) (same : HaveSame r t) where
       bind_same (entry_passes r c.code before e) (entry_passes t c.code before e) (λ this. entries_pass r c.code (before ++ e ∷ []) es) (λ this. entries_pass t c.code (before ++ e ∷ []) es)
       (entry_same before e) (λ this. entries_same (before ++ e ∷ []) es)
 
-  -- ---- the key and the text of an HMAC
+  -- ---- the key and the message of an HMAC
 
   bound_same : (s : Session) (handle : Handle) → is_bound_to r s handle ≡ is_bound_to t s handle
   unfolding is_bound_to

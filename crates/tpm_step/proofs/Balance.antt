@@ -132,7 +132,7 @@ refusal_pays s counted.None counts unlocked = same_pays s s (refl, refl, refl, r
 refusal_pays s counted.Try counts unlocked = failure_pays s counts (unlocked refl)
 refusal_pays s counted.Lockout counts unlocked = same_pays s (closed_by_failure s) (closing_same s)
 
--- ---- a stretch of events
+-- ---- a sequence of events
 
 -- Either no try has failed since this state, or no more tries have failed than maxTries and the
 -- elapsed milliseconds allow.

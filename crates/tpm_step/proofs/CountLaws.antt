@@ -14,8 +14,8 @@ use Rattle.tpm_step.proofs.Indices.{some_none, some_same}
 
 -- ---- the effect of one event on the counter of a handle
 
--- A counter did not change, or it was incremented, or an index was defined at its handle and the
--- counter has no value.
+-- A counter did not change, or it was incremented, or an index was defined with its handle, and
+-- then the counter has no value.
 abbrev Moves : Counters → Counters → (defined : Bool) → Handle → Type 0
 Moves c d defined handle =
     (d.at handle ≡ c.at handle)

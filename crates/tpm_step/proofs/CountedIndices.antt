@@ -1,5 +1,4 @@
--- A command's row changes the counters among a device's NV indices in the same way as the counters
--- of the history.
+-- A row has the same effect on the NV counters of a device as on those of the history.
 use Rattle.std.proofs.Common.{arith, ◌≡◌, ℕ, zero, suc, ◌+◌, ◌<◌, ◌^◌, Bool, true, false, cond, List, [], ◌∷◌, get_or, Option, Some, None, IfOk, refl, sym, ap, subst, ◌∙◌, inl, inr}
 use Rattle.std.specs.Prelude.{◌&&◌, max, ◌==◌}
 use Rattle.std.specs.Int.{w64, from_be_bytes, to_be_bytes}
@@ -223,7 +222,7 @@ starts_counted old new c (inr starts) are = same_counted (started old) new c sta
 
 -- ---- the rows of all commands
 
--- whether a success that touches this part of the state changes no counter
+-- whether a command that changes only this part of the state changes no counter
 abbrev keeps_counters : Part → Bool
 keeps_counters NvCounter = false
 keeps_counters NvDefined = false

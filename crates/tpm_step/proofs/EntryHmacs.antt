@@ -1,4 +1,4 @@
--- The history determines the key and the text of an entry's HMAC, and the password that an entry
+-- The history determines the key and the message of an entry's HMAC, and the password that an entry
 -- needs.
 use Rattle.std.proofs.Common.{◌≡◌, ◌⊎◌, ℕ, zero, suc, ◌+◌, arith, Bool, true, false, cond, List, [], ◌∷◌, ◌++◌, length, take, map, Option, Some, None, option_map, slice_get, refl, ap, sym, ◌∙◌, inl, inr}
 use Rattle.std.specs.Prelude.{◌==◌, ◌&&◌, ◌||◌}

@@ -1,4 +1,5 @@
--- In a stretch of events without a reset, the number of failed tries is within its bound.
+-- In a sequence of events without a reset of failedTries, the number of failed tries is within its
+-- bound.
 use Rattle.std.proofs.Common.{arith, ◌≡◌, ◌≢◌, ◌⊎◌, ℕ, ◌+◌, Bool, true, false, cond, List, [], ◌∷◌, ◌++◌, Result, Ok, Err, IfOk, refl, sym, subst, ap, ◌∙◌, inl, inr}
 use Rattle.std.specs.List.{AllByRecursion}
 use Rattle.std.proofs.lemmas.Bool.{false≢true}
@@ -89,7 +90,7 @@ execution_pays can old event x executes counts quiet =
     let stepped = step_pays refused old event counts (subst (λ (y : Stepped). HasNoReset (recorded old event y.row.check [])) is quiet) in
     subst (λ (y : Stepped). PaysFor old.fixed.lockout y.after.fixed.lockout (fails_try old event) (elapsed_of event)) (sym is) stepped
 
--- ---- stretches of events
+-- ---- sequences of events
 
 all_parts : {X : Type 0} (P : X → Type 0) (xs ys : List X) → AllByRecursion P (xs ++ ys) → AllByRecursion P xs × AllByRecursion P ys
 all_parts P [] ys all = (tt, all)

@@ -81,7 +81,7 @@ record_shape r is = record { sessions_many = is.sessions; objects_many = is.obje
 
 -- ---- accepted commands
 
--- At least 64 random bytes are left after the new nonces.
+-- At least 64 random bytes are left after the new nonces were drawn.
 abbrev LeavesSome : List ℕ → Accepted → Type 0
 LeavesSome random a = 64 ≤ length (entries_rolled a.success.after a.command.entries (drop a.success.answer.drawn random)).left
 
@@ -265,7 +265,7 @@ execution_follows can old event x history executes follows =
         subst (λ (y : Stepped). Follows y.after (recorded old event y.row.check history)) (sym same)
         (step_follows refused old event history executes.happens (leaves_after old event (step_where refused old event).row.check executes.happens (λ passes. executes.modest (ap (λ (y : Stepped). y.row.check) same ∙ passes))) (subst (λ (y : Stepped). IsSound y.after) same sound) follows)
 
--- ---- stretches of events, with their history
+-- ---- sequences of events, with their history
 
 pub stretch_follows : (can : Bool) (old : Record) (executions : List Execution) (new : Record) (history : History) → Leads can old executions new → Follows old history → StretchFollows can old executions new history
 stretch_follows can old executions new history leads follows =

@@ -88,14 +88,15 @@ absent places handle not = by (at_place places (place_of handle.number))
     by None = refl
     by (Some s) = rw (of_kind s.kind handle not) refl
 
--- no session ends if the handle is not that of a session
+-- ending the session at a handle changes nothing if the handle is not that of a session
 pub none_ended_live : (places : List (Option Session)) (handle : Handle) (live : LiveSessions) → is_session handle ≡ false → AreLive places live → AreLive places (without_session handle live)
 none_ended_live places handle live not are =
     replaced places places handle None live (ap (option_map session_facts) (absent places handle not)) (λ other apart. refl) are
 
 -- ---- changing a session
 
--- The device's session changes in the same way as the history's session with the same facts.
+-- The change has the same effect on the device's session as on the history's session with the same
+-- facts.
 abbrev pub ChangesAs : (Session → Session) → (LiveSession → LiveSession) → Session → Type 0
 ChangesAs change retell s = (l : LiveSession) → session_facts s ≡ facts_of l → session_facts (change s) ≡ facts_of (retell l)
 

@@ -1,4 +1,4 @@
--- Each row changes the PCRs of a device in the same way as the PCRs of the history.
+-- Each row has the same effect on the PCRs of a device as on those of the history.
 use Rattle.std.proofs.Common.{arith, ◌≡◌, ℕ, ◌+◌, ◌-◌, ◌<◌, ◌≤◌, ◌++◌, Bool, true, false, cond, List, [], ◌∷◌, length, drop, get_or, fold, Some, None, Result, Ok, Err, IfOk, refl, ap, sym, ◌∙◌, inl, inr, ◌⊎◌}
 use Rattle.std.specs.Prelude.{◌==◌, nat_lt, replicate, slice_index_or}
 use Rattle.std.proofs.lemmas.Bool.{cases_lt, le-ltb, lt-ltb}
@@ -46,8 +46,8 @@ use Rattle.tpm_step.specs.DevicePcrs.{AreSaved, IsSavedAs}
 use Rattle.tpm_step.specs.Pcrs.{count_in, extended_by_all, if_pcr, measured_by, names_pcr, pcr_by, resumed, updates_by}
 use Rattle.tpm_pcr.proofs.OneValue.{event_digest, extensions_at, extensions_count, zeros_at}
 
--- A success changes the PCR values and the number of updates of a device in the same way as those
--- of the history. `saved` contains the values that the last shutdown saved.
+-- A success has the same effect on the PCR values and the update counter of a device as on those of
+-- the history. `saved` contains the values that the last shutdown saved.
 pub record Measures (code : CommandCode) (q : Request) (saved : PcrValues) (old new : BankValues) : Type 0 where
   pub values : (bank : HashAlg) (n : ℕ) → n < 24 → pcr_value new bank n ≡ pcr_by code q bank n (saved bank n) (pcr_value old bank n)
   pub updates : new.update_count ≡ updates_by code q old.update_count
@@ -57,13 +57,13 @@ SoMeasures code q saved r s = Measures code q saved r.fixed.banks s.after.fixed.
 
 -- ---- the PCR that a handle names
 
--- If the handle names a PCR, this PCR has the values `new`, and the number of updates grew by
+-- If the handle names a PCR, this PCR has the values `new`, and the update counter increased by
 -- `count`. All other PCRs have their old values.
 record IsChanged (handle : Handle) (new : HashAlg → ℕ → List ℕ) (count : ℕ) (old banks : BankValues) : Type 0 where
   values : (bank : HashAlg) (n : ℕ) → n < 24 → pcr_value banks bank n ≡ cond (handle.number == n) (new bank n) (pcr_value old bank n)
   updates : banks.update_count ≡ old.update_count + cond (nat_lt handle.number 24) count 0
 
--- The PCR with this number has the values `new`, and the number of updates grew by `count`. All
+-- The PCR with this number has the values `new`, and the update counter increased by `count`. All
 -- other PCRs have their old values.
 record IsMade (pcr : ℕ) (new : HashAlg → ℕ → List ℕ) (count : ℕ) (old banks : BankValues) : Type 0 where
   values : (bank : HashAlg) (n : ℕ) → n < 24 → pcr_value banks bank n ≡ cond (pcr == n) (new bank n) (pcr_value old bank n)

@@ -1,4 +1,4 @@
--- What policies with a single assertion require of each use.
+-- What policies with a single assertion require when their entity is used.
 use Rattle.std.proofs.Common.{◌≡◌, ℕ, Bool, false, List, [], ◌∷◌, Option, Some, None, ap, sym, subst, ◌∙◌}
 use Rattle.std.specs.Prelude.{IfSome}
 use Rattle.std.specs.List.{AllByRecursion, list_any}
@@ -16,8 +16,8 @@ use Rattle.tpm_step.specs.QuietPcrs.{HoldsOf, is_pcr}
 use Rattle.tpm_step.specs.Sessions.{LiveSession, policy_in}
 use Rattle.tpm_step.proofs.QuietValues.{quiet_since}
 
--- a session's policy digest is the digest of its assertions; therefore the entity's authPolicy is
--- this digest
+-- if a session meets an entity's authPolicy, the authPolicy is the digest of the session's
+-- assertions
 its_assertions : (s : LiveSession) (found : Option EntityParts) (assertions : List Assertion) → s.kind ≡ type.Policy → s.assertions ≡ assertions → IsPolicyOf s found → HasPolicyOf s.hash assertions found
 its_assertions s None assertions kind are is = is
 its_assertions s (Some entity) assertions kind are is =

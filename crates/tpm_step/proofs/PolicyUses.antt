@@ -1,5 +1,5 @@
--- Unless the hash is broken, each use by a policy session meets every policy whose digest is the
--- entity's authPolicy.
+-- Unless the hash is broken, each use of an entity by a policy session meets every policy whose
+-- digest is the entity's authPolicy.
 use Rattle.std.proofs.Common.{◌≡◌, ◌⊎◌, ℕ, Bool, true, false, cond, List, [], ◌∷◌, Option, Some, None, IfSome, IfOk, refl, ap, sym, subst, ◌∙◌, inl, inr}
 use Rattle.std.proofs.lemmas.Option.{same_Some}
 use Rattle.std.specs.Int.{bit_at, w8, w32}
@@ -129,7 +129,7 @@ module _ (u : PolicyUse) (used : used_in u.command.command u.place ≡ Some u.ha
   policy_is : policy_in u.session ≡ evaluated hash false assertions
   policy_is = ap (λ (k : SessionType). evaluated hash (is_trial k) assertions) kind
 
-  -- the authorization value in the HMAC key, given the policy's demand
+  -- the authorization value in the HMAC key, given what the policy requires in the entry (`Demand`)
   abbrev value_by : SessionType → Demand → List ℕ
   value_by k d = cond (has_value_in_key k (is_bound_to u.session (name_in u.command.views u.place) (auth_of u.history u.handle)) d) (auth_of u.history u.handle) []
 
@@ -160,7 +160,8 @@ module _ (u : PolicyUse) (used : used_in u.command.command u.place ≡ Some u.ha
       }
   secret_shown name reference one says origin = absurd says
 
-  -- if a written policy contains an assertion that the session has, the use meets that assertion
+  -- if a policy expression contains an assertion that the session has, the use of the entity meets
+  -- that assertion
   met_by : (written : PolicyAssertion) (one : Assertion) → IsAmong one assertions → Says one written → IsMetBy u written
   met_by (PolicyPcr selection digest) (assertion.Pcr parts) among says =
       let holds = meets.pcrs (any_pcr parts assertions among) in

@@ -1,5 +1,5 @@
--- The update counter that a policy session recorded is right, given the history. It does not exceed
--- the history's counter, and if the two are equal, the session's assertions about PCRs hold.
+-- The PCR update counter that a policy session recorded is consistent with the history. It does not
+-- exceed the history's counter, and if the two are equal, the session's assertions about PCRs hold.
 use Rattle.tpm_types.specs.YesNo.{yes_no_at}
 use Rattle.std.proofs.Common.{◌≡◌, ◌≢◌, ◌⊎◌, ℕ, ◌+◌, ◌≤◌, arith, Bool, true, false, List, [], ◌∷◌, ◌++◌, append_assoc, length, Option, Some, None, option_map, Result, Ok, Err, IfOk, refl, ap, sym, subst, ◌∙◌, inl, inr}
 use Rattle.std.specs.Prelude.{not, ◌&&◌, ◌||◌}
@@ -174,7 +174,7 @@ the_one : (code : Code) → is_policy_pcr code ≡ true → code ≡ command.Pol
 the_one command.PolicyPcr is = refl
 the_one _ is = absurd cc
 
--- ---- stretches of a history
+-- ---- parts of a history
 
 joined : (since : History) (first : PastEvent) (before : History) → (since ++ first ∷ []) ++ before ≡ since ++ first ∷ before
 joined since first before = append_assoc since (first ∷ []) before

@@ -1,4 +1,4 @@
--- A replay repeats a nonce, or two different texts have the same HMAC.
+-- A replay repeats a nonce, or two different messages have the same HMAC.
 use Rattle.std.proofs.Common.{◌≡◌, ◌≢◌, ◌⊎◌, ℕ, ◌+◌, ◌≤◌, arith, Bool, true, false, List, [], ◌∷◌, ◌++◌, append_assoc, length, length-append, take, drop, Option, Some, None, slice_get, refl, ap, sym, subst, ◌∙◌, inl, inr}
 use Rattle.std.specs.Str.{bytes_eq}
 use Rattle.std.proofs.lemmas.Bool.{false≢true}
@@ -54,7 +54,7 @@ done_renews c history place e old new shows unstarted entry before after =
     by mid (inl same) earlier among = subst (λ (nonce : List ℕ). IsAmong nonce new.earlier_nonces) (sym same) among
     by mid (inr had) earlier among = earlier old.nonce_tpm had
 
--- ---- a session before and after a stretch of events
+-- ---- a session before and after a sequence of events
 
 lived_on : (handle : Handle) (events before : History) (new : LiveSession) → AllShowHmacs (events ++ before) → LivesThrough handle events before → sessions_of (events ++ before) handle ≡ Some new → Was Continues (sessions_of before handle) new
 lived_on handle [] before new shows through lives = (new, lives, continues_self new)
@@ -79,7 +79,7 @@ lives_last : (handle : Handle) (events before : History) → sessions_of before 
 lives_last handle [] before some through = some
 lives_last handle (event ∷ events) before some through = through.1
 
--- ---- the texts of HMACs
+-- ---- the messages of HMACs
 
 both_parts : (a b c d : List ℕ) → length a ≡ length c → a ++ b ≡ c ++ d → (a ≡ c) × (b ≡ d)
 both_parts a b c d same is = (
@@ -90,8 +90,8 @@ both_parts a b c d same is = (
 spread : (front decrypt encrypt attributes : List ℕ) → front ++ decrypt ++ encrypt ++ attributes ≡ front ++ (decrypt ++ (encrypt ++ attributes))
 spread front decrypt encrypt attributes = append_assoc (front ++ decrypt) encrypt attributes ∙ append_assoc front decrypt (encrypt ++ attributes)
 
--- Two HMAC texts with hashes and nonces of the same sizes, and with the same nonceCaller, are equal
--- only if their nonceTPMs are equal.
+-- Two HMAC messages with hashes and nonces of the same sizes, and with the same nonceCaller, are
+-- equal only if their nonceTPMs are equal.
 nonce_alone : (hash other caller nonce again : List ℕ) (d e a d2 e2 a2 : List ℕ) → length hash ≡ length other → length nonce ≡ length again → hash ++ caller ++ nonce ++ d ++ e ++ a ≡ other ++ caller ++ again ++ d2 ++ e2 ++ a2 → nonce ≡ again
 nonce_alone hash other caller nonce again d e a d2 e2 a2 hashes nonces is =
     let heads : length (hash ++ caller) ≡ length (other ++ caller) = omega (arith, length-append hash caller, length-append other caller, hashes) in

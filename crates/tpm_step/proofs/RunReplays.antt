@@ -1,4 +1,4 @@
--- Two accepted events of a run with the same buffer are a replay in the history of the run.
+-- If two accepted events of a run have the same buffer, they are a replay in the run's history.
 use Rattle.std.proofs.Common.{◌≡◌, ℕ, Bool, List, [], ◌∷◌, ◌++◌, Some, Result, Ok, Err, IfOk, slice_get, refl, ap, sym, subst, ◌∙◌}
 use Rattle.tpm_bytes.proofs.Fields.{ok_is}
 use Rattle.tpm_types.specs.declared.rc.Rc.{Rc}

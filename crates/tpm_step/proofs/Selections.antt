@@ -49,7 +49,7 @@ filter_below f g (suc n) few same =
     rw (filter-append f (numbers_below n) (n ∷ []), filter-append g (numbers_below n) (n ∷ []))
     (one_more n (f n) (g n) _ _ (filter_below f g n (omega arith) same) (same n (omega arith)))
 
--- the PCRs that an encoded selection selects
+-- the PCRs in an encoded selection
 abbrev pcrs_in : List ℕ → List ℕ
 pcrs_in octets = filter (is_selected (select_of octets)) (numbers_below 24)
 

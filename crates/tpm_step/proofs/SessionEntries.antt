@@ -1,4 +1,4 @@
--- After a row, the step changes the sessions of a device in the same way as those of the history:
+-- After a row, the step has the same effect on the sessions of a device as on those of the history:
 -- it draws new nonces, resets policies and ends sessions.
 use Rattle.std.proofs.Common.{◌≡◌, ℕ, Bool, true, false, cond, List, [], ◌∷◌, length, take, drop, Option, Some, None, refl, ap, sym, subst, ◌∙◌}
 use Rattle.std.specs.Prelude.{not, is_some}

@@ -1,4 +1,4 @@
--- A row changes the sessions of a device in the same way as those of the history.
+-- A row has the same effect on the sessions of a device as on those of the history.
 use Rattle.std.proofs.Common.{◌≡◌, ℕ, Bool, true, false, cond, List, [], ◌∷◌, length, take, map, Option, Some, None, option_map, Result, Ok, IfOk, slice_set, refl, ap, sym, subst, ◌∙◌}
 use Rattle.std.specs.Prelude.{◌==◌, not, ok_or}
 use Rattle.tpm_bytes.specs.Reading.{refused_if}

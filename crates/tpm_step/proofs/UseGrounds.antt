@@ -1,4 +1,4 @@
--- What an accepted use by a policy session implies about the session's policy.
+-- What follows for a session's policy if the session authorized an accepted command.
 use Rattle.std.proofs.Common.{◌≡◌, ◌≢◌, ℕ, zero, suc, ◌<◌, arith, Bool, true, false, List, [], Option, Some, None, IfOk, refl, ap, subst}
 use Rattle.std.specs.Prelude.{◌==◌, ◌&&◌, ◌||◌, not, IfSome}
 use Rattle.std.specs.Int.{bit_at}

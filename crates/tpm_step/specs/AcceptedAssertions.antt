@@ -14,8 +14,8 @@ use Rattle.tpm_step.specs.Sessions.{LiveSession, sessions_of}
 
 -- The assertion meets its condition, given the policy before it. The digests of TPM2_PolicyOR
 -- contain the policy's digest. A command code, a cpHash or a written state was not recorded before,
--- or was recorded with the same value. A command code has 32 bits. TPM2_PolicyNV could read the
--- bytes that it compares.
+-- or was recorded with the same value. A command code has 32 bits. The bytes that TPM2_PolicyNV
+-- compares could be read.
 abbrev pub Finds : Assertion → Policy → Type 0
 Finds (assertion.Or digests) p = IsAmong p.digest digests
 Finds (assertion.CommandCode number) p =
@@ -35,14 +35,14 @@ AllFind hash [] = Unit {0}
 AllFind hash (latest ∷ earlier) =
     (Finds latest (evaluated hash false earlier) × HasWidths hash latest) × AllFind hash earlier
 
--- In each policy session that exists after a history, each assertion met its condition when it was
+-- Each assertion of a policy session that exists after a history met its condition when it was
 -- accepted.
 abbrev pub SessionsFind : History → Type 0
 SessionsFind history =
     (handle : Handle) (s : LiveSession) → sessions_of history handle ≡ Some s
     → s.kind ≡ type.Policy → AllFind s.hash s.assertions
 
--- The request of each accepted command of a history has the same handles as the command.
+-- For each accepted command of a history, the recorded request has the same handles as the command.
 abbrev pub AllAskForTheirHandles : History → Type 0
 AllAskForTheirHandles [] = Unit {0}
 AllAskForTheirHandles (Done c ∷ history) =

@@ -59,14 +59,14 @@ pub record Written : Type 0 where
 abbrev pub written_of : AnswerParts → Written
 written_of a = record { handle = a.handle; parameters = answer_body_text a.body; drawn = a.drawn }
 
--- an answer that the code wrote, as a plain value
+-- the code's `Answer` as a plain value
 abbrev pub text_of : Answer → Written
 text_of a = record { handle = a.handle; parameters = a.parameters; drawn = a.drawn }
 
 -- the answer to a command after its effect, given the grant of each entry. First, new nonces are
--- drawn from the random bytes that the command left. Then the parameters are encrypted if an entry
--- asks for it, and each entry is answered. Last, the policy sessions that authorized a handle are
--- reset, and sessions without continueSession end
+-- drawn from the random bytes that the command left. Then the first parameter is encrypted if an
+-- entry asks for it, and the response to each entry is computed. Last, the policy sessions that
+-- authorized a handle are reset, and sessions without continueSession end
 unfoldable pub answer_to : Whole → List (Option Grant) → Written → Record → List ℕ → Answered
 answer_to c grants a effect random =
     let granted : List Granted = granted_entries c grants in

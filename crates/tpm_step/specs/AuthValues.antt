@@ -88,7 +88,7 @@ cleared_values values =
 
 -- the authorization values after an accepted command, given its request, the handle that it
 -- returned, and the sensitive area that it loaded. A command that removes an object or an index
--- changes no value: its handle then names no entity, and the next entity with this handle gets a
+-- changes no value: the handle then names no entity, and the next entity with this handle gets a
 -- value of its own
 abbrev pub values_by : CommandCode → Request → (made : Option Handle) → Option Sensitive
     → AuthValues → AuthValues
@@ -104,7 +104,7 @@ values_by command.Clear q made area values = cleared_values values
 values_by _ q made area values = values
 
 -- the authorization value of each handle after a history. At first all values are empty, and a
--- power cycle changes none of them. An object from a saved context brings its own value, without
+-- power cycle changes none of them. An object from a saved context has its own value, without
 -- trailing zeros
 abbrev pub auth_of : History → AuthValues
 auth_of [] handle = []

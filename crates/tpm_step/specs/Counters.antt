@@ -12,8 +12,8 @@ use Rattle.tpm_nvactions.specs.NvDefineSpace.{parameters_in}
 use Rattle.tpm_step.specs.HandleMap.{by_handle, with_at}
 use Rattle.tpm_step.specs.History.{AcceptedCommand, Done, History, ObjectPlaced, PastEvent, PowerCycled}
 
--- the value of the counter at each handle, if it was incremented since its definition; and all
--- values that any counter ever had, the latest first
+-- the counters: the value at each handle, if the counter was incremented since its definition; and
+-- all values that any counter ever had, the latest first
 pub record Counters : Type 0 where
   pub at : Handle → Option ℕ
   pub all : List ℕ
@@ -51,8 +51,8 @@ defined_handle text = do
   Ok p.public.nv_index
 
 -- the counters after an accepted command. A command that removes an index, such as
--- TPM2_NV_UndefineSpace and TPM2_Clear, changes nothing here: its handle names no counter until an
--- index is defined again, and this index begins without a value
+-- TPM2_NV_UndefineSpace or TPM2_Clear, changes nothing here: the handle names no counter until an
+-- index is defined with it again, and this index begins without a value
 abbrev pub counters_by : CommandCode → Request → Counters → Counters
 counters_by command.NvIncrement q c = by_handle (second_handle q.handles) counted_at c
 counters_by command.NvDefineSpace q c = by_handle (defined_handle q.parameters) begun_at c

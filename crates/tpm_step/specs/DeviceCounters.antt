@@ -9,8 +9,8 @@ use Rattle.tpm_step.specs.rows.IndexChanges.{IsCounter, stored_count}
 use Rattle.tpm_step.specs.Counters.{AllBelow, Counters, HasNoDefinition, counters_of, counts_of, defines, largest}
 use Rattle.tpm_step.specs.History.{History, PastEvent}
 
--- The NV index contains this counter value, or has no value yet if it is None. No startup clears
--- the index.
+-- The NV index is a counter with this value, or without a value if `count` is None. No startup
+-- clears the index.
 pub record IsCounted (index : NvIndex) (count : Option ℕ) : Type 0 where
   pub stays : index_has index attribute.ClearStClear ≡ false
   pub value : stored_count index ≡ count
@@ -42,8 +42,8 @@ KeepsCounter old new meanwhile handle before after =
     → stored_count before ≡ Some n
     → (m : ℕ) × (stored_count after ≡ Some m) × (n ≤ m)
 
--- If a counter had no value before a stretch of events and has one after it, this value exceeds all
--- values that any counter had before the stretch.
+-- If a counter had no value before a sequence of events and has one after it, this value exceeds
+-- all values that any counter had before these events.
 abbrev pub BeginsAbove : (old new : Record) → (history : History) → Handle
     → NvIndex → NvIndex → Type 0
 BeginsAbove old new history handle before after =
@@ -56,8 +56,8 @@ BeginsAbove old new history handle before after =
     → stored_count after ≡ Some n
     → AllBelow n (counts_of history)
 
--- The value of a counter that was defined in a stretch of events exceeds all values that any
--- counter had before this definition, in the stretch or before it.
+-- The value of a counter that was defined in a sequence of events exceeds all values that any
+-- counter had before this definition, during or before the sequence.
 abbrev pub ExceedsEarlier : (new : Record) → (history meanwhile : History) → Handle → NvIndex
     → Type 0
 ExceedsEarlier new history meanwhile handle after =

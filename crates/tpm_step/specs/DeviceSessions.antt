@@ -62,8 +62,8 @@ pub record AreSessions (places : List (Option Session)) (is_started : Bool) (his
 abbrev pub HasSessions : Record → History → Type 0
 HasSessions r history = AreSessions r.sessions r.fixed.started history
 
--- A session of the device has the policy, the nonceTPM and the key that the history determines for
--- its handle, and was started as the history says.
+-- The history determines the policy, the nonceTPM and the key of the device's session at this
+-- handle, and how it was started.
 pub record IsLive (history : History) (handle : Handle) (s : Session) : Type 0 where
   pub policy : policy_of history handle ≡ Some s.policy
   pub nonce_tpm : nonce_of history handle ≡ Some s.nonce_tpm

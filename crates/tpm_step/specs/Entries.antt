@@ -59,7 +59,7 @@ password_answer = 0 ∷ 0 ∷ 1 ∷ 0 ∷ 0 ∷ []
 
 -- the HMAC in the response to an entry. Its key contains the entity's authorization value after the
 -- command's effect. If the command changed this value, a session that was bound to the entity is no
--- longer bound to it. The HMAC is empty if the policy demanded a password. It is also empty if the
+-- longer bound to it. The HMAC is empty if the policy required a password. It is also empty if the
 -- command's HMAC was empty, even if the key is no longer empty (a choice of this implementation)
 unfoldable pub answer_mac : Record → HashedParts → Option Grant → Entry → Session → List ℕ
 answer_mac r hashed grant e s =

@@ -59,7 +59,7 @@ value_in_key history c place s (Some handle) =
 abbrev pub key_in : History → AcceptedCommand → ℕ → LiveSession → List ℕ
 key_in history c place s = s.key ++ value_in_key history c place s (used_in c.command place)
 
--- ---- the text of an HMAC
+-- ---- the message of an HMAC
 
 -- cpHash: H(commandCode || Names of the handles || parameters as sent)
 abbrev pub cp_hash_in : AcceptedCommand → HashAlg → List ℕ
@@ -71,12 +71,12 @@ abbrev pub entry_nonce : History → Entry → List ℕ
 entry_nonce history e =
     option_map_or (λ (s : LiveSession). s.nonce_tpm) (sessions_of history e.session) []
 
--- the nonceTPM for the first entry that passes a test, or empty if no entry passes it
+-- the nonceTPM of the session of the first entry that passes a test, or empty if no entry passes it
 abbrev pub nonce_where : History → (Entry → Bool) → List Entry → List ℕ
 nonce_where history test entries = option_map_or (entry_nonce history) (find test entries) []
 
--- the HMAC text of an entry: cpHash || nonceCaller || nonceTPM || nonceTPM of the decrypt session
--- || nonceTPM of the encrypt session || sessionAttributes
+-- the message of an entry's HMAC: cpHash || nonceCaller || nonceTPM || nonceTPM of the decrypt
+-- session || nonceTPM of the encrypt session || sessionAttributes
 unfoldable pub text_in : History → AcceptedCommand → ℕ → Entry → LiveSession → List ℕ
 text_in history c place e s =
     let others : List Entry = other_entries c.command (place + 1) in
@@ -89,7 +89,7 @@ abbrev pub hmac_in : History → AcceptedCommand → ℕ → Entry → LiveSessi
 hmac_in history c place e s =
     hmac_of s.hash (key_in history c place s) (text_in history c place e s)
 
--- The entry contains the HMAC of its text with its key. Or both its key and its HMAC are empty.
+-- The entry contains the HMAC of its message with its key, or both its key and its HMAC are empty.
 abbrev pub HasHmac : History → AcceptedCommand → ℕ → Entry → LiveSession → Type 0
 HasHmac history c place e s =
     (e.hmac ≡ hmac_in history c place e s)

@@ -8,12 +8,11 @@ use Rattle.tpm_step.specs.Safe.{AcceptsModestly, IsHarmless}
 use Rattle.tpm_step.specs.Step.{Stepped, Steps, step}
 
 -- The event was executed on the old record. Its outcome x contains the response, the row and the
--- new record. The event is one that can occur. The outcome is that of the table's step; but if an
--- allocation can fail, a command that may allocate can return MEMORY instead of succeeding. The new
--- record satisfies the invariant of all records. A refusal adds the elapsed time to the record, and
--- changes nothing else except the lockout state, if it counts as a failed try or disables
--- lockoutAuth. A success draws few random bytes and has a short answer. No response is longer than
--- the limit.
+-- new record. The event is one that can occur. The outcome is the one that `step` defines; but if
+-- an allocation can fail, a command that may allocate can return MEMORY instead of succeeding. The
+-- new record satisfies the invariant of all records. A refusal only adds the elapsed time to the
+-- record, and changes the lockout state if it counts as a failed try or disables lockoutAuth. A
+-- success draws few random bytes and has a short answer. No response is longer than the limit.
 pub record Executes (can : Bool) (old : Record) (event : PlainEvent) (x : Stepped) : Type 0 where
   pub happens : IsEvent event
   pub steps : Steps can old event x

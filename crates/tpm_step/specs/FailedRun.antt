@@ -74,7 +74,7 @@ failed_run =
     ∷ stepped_at (tried 3 999999 999999) (wrong_after 1)
     ∷ []
 
--- The failed run is a stretch of events without a reset of failedTries, and the device's
+-- The failed run is a sequence of events without a reset of failedTries, and the device's
 -- recoveryTime is not 0. Four tries fail in it, which is the largest number that may fail.
 pub record IsFailedRun : Type 0 where
   pub leads : Leads false (tried 0 0 0) failed_run (tried 3 0 1000000)

@@ -40,13 +40,13 @@ pub record Shape (sessions : List (Option Session)) (objects : List (Option Obje
   pub indices_ascend : Ascends indices
 
 -- A device follows a history: its counters, PCRs, authorization values and sessions are those that
--- the history determines. In the history, each entry of an HMAC session had the right HMAC;
--- therefore each replay repeats a nonce or an HMAC. The update counters that policies recorded are
--- right. Each use of a handle was authorized. The assertions of policy sessions met their
--- conditions. Therefore, unless the hash is broken, each use by a policy session met every policy
--- whose digest is the used entity's authPolicy. No decrement of failedTries is overdue. The record
--- has all its slots, and its persistent objects and NV indices are sorted by handle. The fields of
--- its sessions and NV indices have the right sizes.
+-- the history determines. In the history, each entry of an HMAC session had the right HMAC. A
+-- replay was accepted only if its nonceTPM or an HMAC repeated. The PCR update counters that
+-- policies recorded are consistent with the history. Each use of a handle was authorized. The
+-- assertions of policy sessions met their conditions. Therefore, unless the hash is broken, each
+-- use by a policy session met every policy whose digest is the used entity's authPolicy. No
+-- decrement of failedTries is overdue. The record has all its slots, and its persistent objects and
+-- NV indices are sorted by handle. The fields of its sessions and NV indices have the right sizes.
 pub record Follows (r : Record) (history : History) : Type 0 where
   pub counters : HasCounters r history
   pub forgiving : IsForgiving r.fixed.lockout
@@ -89,12 +89,12 @@ pub record FollowsOn (old : Record) (event : PlainEvent) (x : Stepped) : Type 0 
   pub grounds : After (λ r. AllHaveGrounds) old event x
   pub policies : After (λ r. AllMeetPolicies) old event x
 
--- ---- a stretch of events on a device that follows a history
+-- ---- a sequence of events on a device that follows a history
 
 -- The executions led from a device that follows a history to a device that follows the history
--- after the executions. No counter went down unless an index was defined again with its handle. The
--- first value of a counter exceeds all earlier values of any counter. The number of failed tries is
--- within its bounds. Every replay repeats a nonce or an HMAC.
+-- after the executions. No NV counter went down unless an index was defined again with its handle.
+-- The first value of a counter exceeds all earlier values of any counter. The number of failed
+-- tries is within its bounds. Every replay repeats a nonce or an HMAC.
 pub record StretchFollows (can : Bool) (old : Record) (executions : List Execution) (new : Record)
     (history : History) : Type 0
   where

@@ -1,7 +1,7 @@
 -- The order of refusals: the checks that every command passes before its own parameters are read.
 -- The response reports the first check that fails. The checks are those of TPM 2.0 Library, Part 3,
 -- sections 5.2 (header), 5.3 (mode), 5.4 (handles) and 5.5 (sizes of the session area). Their order
--- and their response codes are this device's choice.
+-- and response codes are a choice of this implementation.
 use Rattle.std.specs.Prelude.{◌≡◌, ℕ, ◌==◌, ◌&&◌, nat_lt, not, Bool, true, false, List, Result, Ok, Err}
 use Rattle.tpm_bytes.specs.Many.{each_at}
 use Rattle.tpm_bytes.specs.Reading.{◌>>=◌, refused_if}
@@ -31,7 +31,7 @@ use Rattle.tpm_types.specs.declared.check.Check.TheVariants as check
 use Rattle.tpm_types.specs.declared.refused.Refused.{Refused}
 use Rattle.tpm_step.specs.declared.refused_command.RefusedCommand.{RefusedCommand}
 
--- adds the code of the command to a refusal, because the row reports it
+-- a result with the code of the command added to the refusal, because the row reports it
 abbrev pub in_command : {X : Type 0} → CommandCode → Result X Refused → Result X RefusedCommand
 in_command c (Ok x) = Ok x
 in_command c (Err e) = Err (record { code = code_number c; refused = e })
@@ -51,8 +51,8 @@ abbrev pub in_header : Result (Header × List ℕ) HeaderFault → Result (Heade
 in_header (Ok h) = Ok h
 in_header (Err f) = Err (header_refusal f)
 
--- whether a command is TPM2_Startup. Check G5 refuses every other command before TPM2_Startup, and
--- refuses a second TPM2_Startup after it
+-- whether a command is TPM2_Startup. Check G5 refuses every other command before the device is
+-- started, and TPM2_Startup afterwards
 abbrev pub is_startup : CommandCode → Bool
 is_startup c = code_number c == code_number command.Startup
 
@@ -73,15 +73,15 @@ sessions_pass c tag = do
   refused_if (not (has_sessions tag) && nat_lt 0 (authorized_handles c))
       (refusal check.Sessions (plain code.AuthMissing))
 
--- handle n in a command's text, if its rule allows the handle and the handle names an existing
--- entity
+-- the handle with number n, decoded from the start of the bytes, if its rule allows the handle and
+-- the handle names an existing entity
 unfoldable pub present_handle_at : Record → ℕ → HandleRule → List ℕ → Result (Handle × List ℕ) Rc
 present_handle_at r n rule text = do
   handle ← allowed_handle_at n rule text
   present ← refused_if (not (is_present r handle.0)) (absence_rc n handle.0)
   Ok handle
 
--- the handles in a command's text, one for each handle rule of the command
+-- the handles at the start of the bytes after the header, one for each handle rule of the command
 abbrev pub present_handles_at : Record → CommandCode → List ℕ → Result (List Handle × List ℕ) Rc
 present_handles_at r code text = each_at (present_handle_at r) 1 (shape_of code).handles text
 

@@ -5,7 +5,8 @@ use Rattle.tpm_types_command.specs.AuthEntry.{Entry}
 use Rattle.tpm_types_command.specs.Command.{Whole}
 use Rattle.tpm_auth.specs.declared.session_grant.Grant.{Grant}
 
--- an entry and, if it authorizes a handle, its grant: this handle and the policy's demand
+-- an entry and, if it authorizes a handle, its grant: this handle, and what the policy requires in
+-- the entry
 abbrev pub Granted : Type 0
 Granted = Entry × Option Grant
 

@@ -59,12 +59,12 @@ abbrev pub NamesCommand : Role → Option ℕ → Type 0
 NamesCommand role.User number = Unit {0}
 NamesCommand role.Admin number = is_some number ≡ true
 
--- A policy session may authorize the entity at this position of a command's handles. The entity
--- accepts policies, and the session meets its authPolicy. Since the first TPM2_PolicyPCR no PCR was
--- written and no TPM2_Clear was accepted; therefore every assertion about PCRs still holds. If the
--- policy recorded a command code, it is this command's code; the role ADMIN requires a recorded
--- code. A recorded cpHash is that of this command, and a recorded written state is that of this NV
--- index. The command's locality is allowed.
+-- A policy session may authorize the use of the entity at this position of a command's handles. The
+-- entity accepts policies, and the session meets its authPolicy. Since the first TPM2_PolicyPCR no
+-- PCR was written and no TPM2_Clear was accepted; therefore every assertion about PCRs still holds.
+-- If the policy recorded a command code, it is this command's code; the role ADMIN requires a
+-- recorded code. A recorded cpHash is that of this command, and a recorded written state is that of
+-- this NV index. The command's locality is allowed.
 pub record MeetsPolicy (history : History) (c : AcceptedCommand) (place : ℕ) (e : Entry)
     (s : LiveSession) : Type 0 where
   pub allowed : allows_in means.Policy c place ≡ true
@@ -76,8 +76,8 @@ pub record MeetsPolicy (history : History) (c : AcceptedCommand) (place : ℕ) (
   pub written : IfSome (policy_in s).nv_written (λ is_written. written_at c place ≡ Some is_written)
   pub locality : bit_at (policy_in s).localities c.request.locality ≡ 1
 
--- The entry of a policy session contains the password if the session's policy demands one, and
--- otherwise the right HMAC.
+-- If the policy requires a password (true), the entry contains the password, and otherwise the
+-- right HMAC.
 abbrev pub HasDemanded : Bool → History → AcceptedCommand → ℕ → Entry → LiveSession → Type 0
 HasDemanded true history c place e s = HasPassword history c place e
 HasDemanded false history c place e s = HasHmac history c place e s

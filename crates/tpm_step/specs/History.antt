@@ -88,8 +88,8 @@ with_command r (Ok a) zero history = Done (command_of r a) ∷ history
 with_command r (Ok a) (suc check) history = history
 with_command r (Err e) check history = history
 
--- the history with one more object, which got this handle. If it got none, all slots were taken,
--- and nothing is recorded
+-- the history with one more placed object, which got this handle. If all slots were taken, the
+-- handle is None, and nothing is recorded
 abbrev pub with_placed : Option Handle → Object → History → History
 with_placed (Some handle) object history = ObjectPlaced handle object ∷ history
 with_placed None object history = history

@@ -1,6 +1,6 @@
 -- Policies, computed from the history alone. TPM 2.0 Library, Part 3, section 23, and Part 1,
--- section 19.7. An accepted assertion passed its checks. Therefore only its effect on the policy is
--- defined here.
+-- section 19.7. An accepted assertion has passed its checks. Therefore only its effect on the
+-- policy is defined here.
 use Rattle.std.specs.Prelude.{ℕ, Bool, List, [], ◌∷◌, Result, Ok, Err}
 use Rattle.std.specs.Int.{w8, w32}
 use Rattle.tpm_bytes.specs.Reading.{◌>>=◌, number_at, or_fault}
@@ -82,7 +82,7 @@ assertion_by command.PolicyNv c history hash nonce_tpm = do
   }))
 assertion_by _ c history hash nonce_tpm = Err handle_refusal
 
--- the list of assertions, with the new assertion added at the front if it could be parsed
+-- the list of assertions, with the new assertion prepended if it could be parsed
 abbrev pub with_assertion : Result Assertion Refused → List Assertion → List Assertion
 with_assertion (Ok assertion) assertions = assertion ∷ assertions
 with_assertion (Err e) assertions = assertions

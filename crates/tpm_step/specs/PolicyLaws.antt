@@ -1,6 +1,5 @@
--- What a policy with a single assertion requires of each use of its entity. TPM 2.0 Library, Part
--- 3, sections 23.7 (TPM2_PolicyPCR), 23.11 (TPM2_PolicyCommandCode) and 23.20
--- (TPM2_PolicyNvWritten).
+-- What a policy with a single assertion requires when its entity is used. TPM 2.0 Library, Part 3,
+-- sections 23.7 (TPM2_PolicyPCR), 23.11 (TPM2_PolicyCommandCode) and 23.20 (TPM2_PolicyNvWritten).
 use Rattle.std.specs.Prelude.{◌≡◌, ◌<◌, ℕ, Bool, false, List, [], ◌∷◌, Option, Some, None}
 use Rattle.tpm_mac.specs.declared.algorithm.HashAlg.{HashAlg}
 use Rattle.tpm_policy.specs.Assertion.{Assertion, CommandCode, NvWritten, Pcr, PcrParts}
@@ -34,7 +33,7 @@ pcrs_as_in history hash selection = record {
 }
 
 -- If a session whose only assertion is TPM2_PolicyPCR authorizes the use of an entity, the entity's
--- policy requires the values that the selected PCRs have at the use.
+-- policy requires the current values of the selected PCRs.
 abbrev pub UsesPcrsAsTheyAre : Type 0
 UsesPcrsAsTheyAre =
     (history : History) (c : AcceptedCommand) (place : ℕ) (e : Entry) (s : LiveSession)
@@ -53,8 +52,8 @@ UsesItsCommand =
     → HasPolicyOf s.hash (CommandCode (code_number c.command.code) ∷ []) (policy_at c place)
 
 -- If a session whose only assertion is TPM2_PolicyNvWritten authorizes the use of an entity, the
--- entity is an NV index, and it has WRITTEN set or not as its policy requires. Therefore an index
--- whose policy requires that it is not written does not have WRITTEN set at the use.
+-- entity is an NV index, and its WRITTEN attribute is as its policy requires. Therefore, if the
+-- policy requires that WRITTEN is clear, it is clear.
 abbrev pub UsesAsWritten : Type 0
 UsesAsWritten =
     (history : History) (c : AcceptedCommand) (place : ℕ) (e : Entry) (s : LiveSession)

@@ -1,4 +1,4 @@
--- What common kinds of authPolicy require of each use of their entity. TPM 2.0 Library, Part 1,
+-- What common kinds of authPolicy require when their entity is used. TPM 2.0 Library, Part 1,
 -- section 19.7 (enhanced authorization), and Part 3, sections 23.4 (TPM2_PolicySecret), 23.6
 -- (TPM2_PolicyOR), 23.7 (TPM2_PolicyPCR), 23.9 (TPM2_PolicyNV), 23.17 (TPM2_PolicyAuthValue) and
 -- 23.20 (TPM2_PolicyNvWritten).
@@ -68,8 +68,8 @@ pub record WritesIndex (c : AcceptedCommand) (place : ℕ) (public : NvPublic)
     pub no_auth_write : index_has public.attributes mark.AuthWrite ≡ false
     pub auth_policy : public.auth_policy ≡ policy_digest public.name_alg policy
 
--- The entry at this position of a command names a policy session with this hash. Unless texts of
--- the policy and of the session break the hash, the property holds for the use.
+-- The entry at this position of a command names a policy session with this hash. Unless the hash is
+-- broken (`BreaksHash`), the property holds for the use of the handle at this position.
 pub record IsUsedBySession (history : History) (c : AcceptedCommand) (place : ℕ) (hash : HashAlg)
     (policy : PolicyExpression) (Holds : PolicyUse → Type 0) : Type 0
   where
@@ -92,8 +92,8 @@ pub record IsUsedBySession (history : History) (c : AcceptedCommand) (place : �
 
 -- ---- policies of any kind
 
--- Only policy sessions authorize the use of an object without userWithAuth, and each use meets the
--- object's policy.
+-- Only policy sessions authorize a command to use an object without userWithAuth, and each use
+-- meets the object's policy.
 abbrev pub NeedsItsPolicy : History → AcceptedCommand → Type 0
 NeedsItsPolicy history c =
     (place : ℕ) (public : Public) (policy : PolicyExpression) → UsesObject c place public policy
@@ -102,12 +102,12 @@ NeedsItsPolicy history c =
 
 -- ---- policies of PCRs
 
--- the written policy that requires these concatenated values of the selected PCRs
+-- the policy expression that requires these concatenated values of the selected PCRs
 abbrev pub by_pcrs : HashAlg → List BankSelection → (values : List ℕ) → PolicyExpression
 by_pcrs hash selection values = Then Nothing (PolicyPcr selection (hash_of hash values))
 
--- The selected PCRs have these values after a history. Or their values are a different text with
--- the same hash.
+-- After a history, the selected PCRs have these concatenated values, or different ones with the
+-- same hash.
 abbrev pub HavePcrValues : History → HashAlg → List BankSelection → (values : List ℕ) → Type 0
 HavePcrValues history hash selection values =
     let found : List ℕ = concat (flat_map (values_in history) selection) in
@@ -136,8 +136,8 @@ NeedsPcrsAndPin history c =
 
 -- ---- policies of a PIN or a recovery secret
 
--- the written policy that requires either the entity's own authorization value or that of the
--- entity with this Name
+-- the policy expression that requires either the authorization value of the entity itself or that
+-- of the entity with this Name
 abbrev pub by_pin_or_secret : (name reference : List ℕ) → PolicyExpression
 by_pin_or_secret name reference =
     PolicyOr (Branch (Then Nothing PolicyAuthValue)
@@ -155,8 +155,8 @@ NeedsPinOrSecret history c =
 
 -- ---- the policy of an index that is written once
 
--- If the policy of an NV index requires that it is not WRITTEN, commands write the index only while
--- it is not WRITTEN.
+-- If the policy of an NV index requires that WRITTEN is clear, commands write the index only while
+-- WRITTEN is clear.
 abbrev pub IsWrittenOnce : History → AcceptedCommand → Type 0
 IsWrittenOnce history c =
     (place : ℕ) (public : NvPublic)
@@ -168,7 +168,8 @@ IsWrittenOnce history c =
 -- ---- the policy that a counter has reached a number
 
 -- If an object's policy requires that a counter (the NV index with this Name) has reached a number,
--- the object is used only after an accepted TPM2_PolicyNV that compared the two.
+-- the object is used only after an accepted TPM2_PolicyNV that compared the counter with the
+-- number.
 abbrev pub NeedsCount : History → AcceptedCommand → Type 0
 NeedsCount history c =
     (place : ℕ) (public : Public) (name number : List ℕ)

@@ -1,6 +1,6 @@
--- What an authPolicy requires of each use that a policy session authorizes. TPM 2.0 Library, Part
--- 1, section 19.7 (enhanced authorization), and Part 3, section 23: the section of each assertion
--- says what a use must meet.
+-- What an authPolicy requires when a policy session authorizes a command to use the entity. TPM 2.0
+-- Library, Part 1, section 19.7 (enhanced authorization), and Part 3, section 23: the section of
+-- each assertion says what a use must meet.
 use Rattle.std.specs.Prelude.{◌≡◌, ◌⊎◌, ℕ, List, [], ◌∷◌, Some, slice_get}
 use Rattle.std.specs.Int.{bit_at}
 use Rattle.tpm_mac.specs.declared.algorithm.HashAlg.{HashAlg}
@@ -23,9 +23,9 @@ use Rattle.tpm_step.specs.Pcrs.{digest_in}
 use Rattle.tpm_step.specs.QuietPcrs.{AreQuietSince}
 use Rattle.tpm_step.specs.Sessions.{LiveSession}
 
--- a use of an entity that a policy session authorizes: the history before it; the command; the used
--- handle, and its position among the command's handles, counted from 0; the entry at the same
--- position; and the entry's session
+-- a command's use of an entity, authorized by a policy session: the history before it; the command;
+-- the used handle, and its position among the command's handles, counted from 0; the entry at the
+-- same position; and the entry's session
 pub record PolicyUse : Type 0 where
   pub history : History
   pub command : AcceptedCommand
@@ -52,10 +52,10 @@ ShowsAuthValue u =
     × (value_in_key u.history u.command u.place u.session (Some u.handle)
     ≡ auth_of u.history u.handle)
 
--- A use meets an assertion of its policy. The command code, the cpHash, the locality and the
--- written state that the assertion requires are those of the use (Part 3, sections 23.11, 23.13,
--- 23.8 and 23.20). TPM2_PolicySecret and TPM2_PolicyNV were accepted for its session before the
--- use.
+-- A use of an entity meets this assertion of the entity's policy. The command code, the cpHash, the
+-- locality and the written state that the assertion requires are those of the use (Part 3, sections
+-- 23.11, 23.13, 23.8 and 23.20). TPM2_PolicySecret and TPM2_PolicyNV were accepted for the session
+-- before the use.
 abbrev pub IsMetBy : PolicyUse → PolicyAssertion → Type 0
 IsMetBy u (PolicyPcr selection digest) = HasPcrsNow u selection digest
 IsMetBy u PolicyAuthValue = ShowsAuthValue u
@@ -80,9 +80,9 @@ pub record HasAuthPolicy (c : AcceptedCommand) (place : ℕ) (hash : HashAlg)
     pub auth_policy : policy_at c place
         ≡ Some (record { hash = hash; digest = policy_digest hash policy })
 
--- If a policy session authorizes a use, then, unless texts of the policy and of the session break
--- the hash, the use meets every policy whose digest is the entity's authPolicy, along one branch at
--- each TPM2_PolicyOR.
+-- If a policy session authorizes a command to use an entity, then, unless the hash is broken
+-- (`BreaksHash`), the use meets every policy whose digest is the entity's authPolicy, along one
+-- branch at each TPM2_PolicyOR.
 abbrev pub MeetsPolicies : (history : History) (c : AcceptedCommand) (place : ℕ) → Handle
     → (e : Entry) → Ground history c place e → Type 0
 MeetsPolicies history c place handle e (ByPassword names takes has) = Unit {0}
@@ -100,15 +100,16 @@ MeetsPolicies history c place handle e (ByPolicy s lives kind meets has) =
     → IsMet (IsMetBy u) policy ⊎ BreaksHash hash policy s.assertions
 
 -- For each handle that needs authorization, the entry at the same position authorizes it by a
--- password, an HMAC or a policy. The use meets every policy of the handle's entity.
+-- password, an HMAC or a policy. If a policy session authorizes it, the use meets every policy of
+-- the handle's entity (`MeetsPolicies`).
 abbrev pub UsesMeetPolicies : History → AcceptedCommand → Type 0
 UsesMeetPolicies history c =
     (place : ℕ) (handle : Handle) → used_in c.command place ≡ Some handle
     → (e : Entry) × (slice_get c.command.entries place ≡ Some e)
     × (ground : Ground history c place e) × MeetsPolicies history c place handle e ground
 
--- Each command of a history met the policies of the entities that it used, given the history before
--- the command.
+-- In each command of a history, each handle that needs authorization was authorized, and each use
+-- by a policy session met the policies of the used entity, given the history before the command.
 abbrev pub AllMeetPolicies : History → Type 0
 AllMeetPolicies [] = Unit {0}
 AllMeetPolicies (Done c ∷ history) = UsesMeetPolicies history c × AllMeetPolicies history

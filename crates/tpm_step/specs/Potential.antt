@@ -1,5 +1,5 @@
--- The failed tries, and the time that counts towards the next decrement of failedTries, as one sum.
--- TPM 2.0 Library, Part 1, section 19.8 (failedTries, maxTries, recoveryTime).
+-- An inequality about failed tries and the time that counts towards the next decrement of
+-- failedTries. TPM 2.0 Library, Part 1, section 19.8 (failedTries, maxTries, recoveryTime).
 use Rattle.std.specs.Prelude.{◌≡◌, ◌≢◌, ◌⊎◌, ◌≤◌, ◌<◌, ◌+◌, ◌*◌, ◌==◌, ℕ, if◌then◌else◌}
 use Rattle.tpm_lockout.specs.Lockout.{LockoutState, milliseconds}
 
@@ -18,9 +18,9 @@ IsForgiving s = s.fields.recovery_time ≢ 0 → s.forgiving_time < period s
 
 -- Between the old and the new state, this many tries failed, this many milliseconds passed, and the
 -- parameters did not change. Each try that was counted in the old state, or failed since, is still
--- counted or was forgiven. Each forgiven try used up one recoveryTime, taken from the elapsed
--- milliseconds plus those already credited in the old state. If a try failed, failedTries is at
--- most maxTries now.
+-- counted or was forgiven. Each forgiven try consumed one recoveryTime of the elapsed milliseconds
+-- plus those already credited in the old state. If a try failed, failedTries is at most maxTries
+-- now.
 pub record Pays (old new : LockoutState) (failed elapsed : ℕ) : Type 0 where
   pub recovery_time : new.fields.recovery_time ≡ old.fields.recovery_time
   pub max_tries : new.fields.max_tries ≡ old.fields.max_tries

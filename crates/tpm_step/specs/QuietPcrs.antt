@@ -17,7 +17,7 @@ use Rattle.tpm_step.specs.History.{AcceptedCommand, Done, History, ObjectPlaced,
 use Rattle.tpm_step.specs.Pcrs.{digest_in, updates_of, writes}
 use Rattle.tpm_step.specs.Sessions.{LiveSession, policy_in, sessions_of}
 
--- whether TPM2_PolicyPCR made this assertion; and whether it made one of a session's assertions
+-- whether an assertion is by TPM2_PolicyPCR; and whether one of a session's assertions is
 abbrev pub is_pcr : Assertion → Bool
 is_pcr (Pcr parts) = true
 is_pcr _ = false
@@ -44,7 +44,8 @@ KeepsPcrs handle (event ∷ events) before =
     (has_pcrs (event ∷ events ++ before) handle ≡ true) × KeepsPcrs handle events before
 
 -- The history contains the first TPM2_PolicyPCR of the session at this handle, and only quiet
--- events after it. Since then the session has had an assertion by TPM2_PolicyPCR after every event.
+-- events after it. After every event since then, the session has had an assertion by
+-- TPM2_PolicyPCR.
 pub record AreQuietSince (handle : Handle) (history : History) : Type 0 where
   pub since : History
   pub first : AcceptedCommand

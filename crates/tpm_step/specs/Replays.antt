@@ -58,7 +58,7 @@ HasNonceAgain earlier now =
     (now.nonce_tpm ≡ earlier.nonce_tpm) × IsAmong now.nonce_tpm now.earlier_nonces
 
 -- The entry has the same HMAC at both events, each with the key at its event, but the two HMACs
--- cover different texts.
+-- cover different messages.
 abbrev pub HaveOneHmac : (before : History) (first : AcceptedCommand) (after : History)
     (second : AcceptedCommand) (place : ℕ) (e : Entry) (s t : LiveSession) → Type 0
 HaveOneHmac before first after second place e s t =
@@ -66,7 +66,7 @@ HaveOneHmac before first after second place e s t =
     × (e.hmac ≡ hmac_in before first place e s) × (e.hmac ≡ hmac_in after second place e t)
 
 -- At the second event of a replay, the session has the same hash as at the first. Its nonceTPM is
--- again that of the first event, or two different texts have the same HMAC.
+-- again that of the first event, or two different messages have the same HMAC.
 pub record Repeats (before : History) (first : AcceptedCommand) (between : History)
     (second : AcceptedCommand) (place : ℕ) (e : Entry) (s : LiveSession) : Type 0 where
   pub now : LiveSession
@@ -75,7 +75,7 @@ pub record Repeats (before : History) (first : AcceptedCommand) (between : Histo
   pub repeats : HasNonceAgain s now
       ⊎ HaveOneHmac before first (between ++ Done first ∷ before) second place e s now
 
--- Every replay in a history repeats a nonce or an HMAC.
+-- Every replay in a history repeats a nonceTPM or an HMAC.
 abbrev pub ReplaysRepeat : History → Type 0
 ReplaysRepeat history =
     (buffer : List ℕ) (before : History) (first : AcceptedCommand) (between : History)

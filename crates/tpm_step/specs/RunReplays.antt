@@ -48,8 +48,8 @@ pub record IsRunReplay (history : History) (earlier : List Execution) (one : Exe
     pub lives_on : LivesThrough e.session (history_after [] (one ∷ meanwhile))
         (history_after history earlier)
 
--- The commands that were accepted at the two events of a replay repeat a nonce, or two different
--- texts have the same HMAC.
+-- The two accepted commands of a replay repeat a nonceTPM, or two different messages have the same
+-- HMAC.
 pub record RunRepeats (history : History) (earlier : List Execution) (one : Execution)
     (meanwhile : List Execution) (two : Execution) (place : ℕ) (e : Entry) (s : LiveSession) : Type 0
   where

@@ -21,8 +21,8 @@ only_ticked r (Placed object) = r
 
 -- A refused command gets a response of ten bytes with the refusal's code, and the row reports the
 -- check. The elapsed time is added to the record. Nothing else changes, except the lockout state if
--- the refusal counts as a failed try or disables lockoutAuth. Which command the row names is
--- unspecified here.
+-- the refusal counts as a failed try or disables lockoutAuth. The command code in the row is
+-- unspecified.
 abbrev pub IsHarmless : Record → PlainEvent → Stepped → Type 0
 IsHarmless r event x = x.row.check ≢ 0
     → (length x.response ≡ 10)

@@ -45,8 +45,8 @@ pub record Bound : Type 0 where
   pub protection : Protection
 
 -- a live session. Its type, hash, symmetric algorithm, binding and key do not change after its
--- start. It has its latest nonceTPM, and the earlier ones, the latest first. Its assertions, the
--- latest first, are those since its start, its latest TPM2_PolicyRestart, or its latest use for
+-- start. It contains the latest nonceTPM, and the earlier ones, the latest first. Its assertions,
+-- the latest first, are those since its start, its latest TPM2_PolicyRestart, or its latest use for
 -- authorization, whichever came last
 pub record LiveSession : Type 0 where
   pub kind : SessionType
@@ -58,7 +58,7 @@ pub record LiveSession : Type 0 where
   pub earlier_nonces : List (List ℕ)
   pub assertions : List Assertion
 
--- the policy of a live session: its digest, and the values that are compared when the session
+-- the policy of a live session: its digest, and the values that are checked when the session
 -- authorizes a command
 abbrev pub policy_in : LiveSession → Policy
 policy_in s = evaluated s.hash (is_trial s.kind) s.assertions

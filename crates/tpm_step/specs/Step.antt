@@ -67,8 +67,8 @@ acceptance r c locality random = do
   success ← row_of r c.code q
   Ok (record { command = c; grants = grants; request = q; success = success })
 
--- The command is refused as the definition says. Or an allocation can fail, and a command that
--- would succeed, but may allocate, is refused with MEMORY.
+-- The command is refused as the definition says. If an allocation can fail, a command that may
+-- allocate can be refused with MEMORY instead of succeeding.
 abbrev pub RefusesOrWantsMemory : Bool → Whole → Result Accepted Refused → Refused → Type 0
 RefusesOrWantsMemory can c (Err refused) e = e ≡ refused
 RefusesOrWantsMemory can c (Ok a) e =
@@ -82,8 +82,8 @@ Succeeds (Ok a) c grants answer new =
     × (new ≡ a.success.after)
 Succeeds (Err refused) c grants answer new = ⊥
 
--- The code accepted or refused the command as the definition says, and with the same grants. A
--- refusal leaves the record unchanged.
+-- The code accepts or refuses the command as the definition says. If it accepts, it returns the
+-- definition's grants. A refusal leaves the record unchanged.
 abbrev pub Accepts : Bool → Result Accepted Refused → Whole → List (Option Grant)
     → Record → Result (Unit {0}) Refused → Answer → Record → Type 0
 Accepts can a c grants old (Ok done) answer new = Succeeds a c grants answer new
@@ -96,7 +96,7 @@ accepted r buffer locality random = do
   command ← general r buffer
   in_command command.code (acceptance r command locality random)
 
--- how a refusal changes the lockout state: not at all; by a failed try on a protected entity; or by
+-- the lockout state after a refusal: unchanged; after a failed try on a protected entity; or after
 -- a failed try on lockoutAuth, which disables lockoutAuth
 abbrev pub lockout_counted : Counted → LockoutState → LockoutState
 lockout_counted counted.None s = s
@@ -115,7 +115,7 @@ refusal_step r e = record {
 }
 
 -- the record after a success, which discards the state that a TPM2_Shutdown saved unless the
--- command keeps it (Part 3, section 9.4)
+-- command preserves it (Part 3, section 9.4)
 abbrev pub settled : CommandCode → Record → Record
 settled code r = if (shape_of code).keeps_shutdown then r else with_saved r Nothing
 

@@ -60,15 +60,14 @@ fails_try r (Given buffer locality elapsed random) =
 fails_try r Cycled = false
 fails_try r (Placed object) = false
 
--- The device checks an entry with the authorization value of one entity: the entry touches this
--- entity. It is the entity that the entry has to authorize, if its value is compared with the
--- password or is part of the HMAC's key. Otherwise it is the entity to which the session was bound
--- at its start. If a session may not authorize the entity, nothing is compared and nothing is
--- touched.
+-- An entry touches the entity whose authorization value is used to check it. This is the entity
+-- that the entry has to authorize, if the password is compared with its value or the HMAC key
+-- contains the value. Otherwise it is the entity to which the session was bound at its start. If a
+-- session may not authorize the entity, no entity is touched.
 
 -- the protection of the entity whose authorization value is used to check a session's entry, if the
--- entry has to authorize this handle. The last argument is the policy's demand, or the refusal if
--- the session may not authorize the handle
+-- entry has to authorize this handle. The last argument is what the policy requires in the entry,
+-- or the refusal if the session may not authorize the handle
 abbrev pub touched_where : Record → Session → Handle → Result Demand Refused → Protection
 touched_where r s handle (Ok demand) =
     entry_protection r s (Some (record { handle = handle; demand = demand }))
@@ -142,14 +141,14 @@ IsAnsweredTry r (Given buffer locality elapsed random) x =
 IsAnsweredTry r Cycled x = ⊥
 IsAnsweredTry r (Placed object) x = ⊥
 
--- ---- a stretch of events
+-- ---- a sequence of events
 
 abbrev pub elapsed_of : PlainEvent → ℕ
 elapsed_of (Given buffer locality elapsed random) = elapsed
 elapsed_of Cycled = 0
 elapsed_of (Placed object) = 0
 
--- the milliseconds that pass in a stretch of events, and the number of failed tries among the
+-- the milliseconds that pass in a sequence of events, and the number of failed tries among the
 -- events
 abbrev pub elapsed_in : List Execution → ℕ
 elapsed_in executions = sum_by (λ (one : Execution). elapsed_of one.event) executions
@@ -173,14 +172,14 @@ is_reset (ObjectPlaced at object) = false
 abbrev pub HasNoReset : History → Type 0
 HasNoReset history = AllByRecursion (λ (one : PastEvent). is_reset one ≡ false) history
 
--- the number of tries that may fail in a stretch of events: maxTries, and one more for each
+-- the number of tries that may fail in a sequence of events: maxTries, and one more for each
 -- recoveryTime that passes
 abbrev pub tries_within : Record → List Execution → ℕ
 tries_within old executions =
     old.fixed.lockout.fields.max_tries + elapsed_in executions / period old.fixed.lockout
 
--- In a stretch of events without a reset, at most `tries_within` tries fail, if recoveryTime is not
--- 0.
+-- In a sequence of events without a reset of failedTries, at most `tries_within` tries fail, if
+-- recoveryTime is not 0.
 abbrev pub FailsWithin : Bool → Record → List Execution → Record → Type 0
 FailsWithin can old executions new =
     Leads can old executions new
@@ -188,7 +187,7 @@ FailsWithin can old executions new =
     → old.fixed.lockout.fields.recovery_time ≢ 0
     → failures_in executions ≤ tries_within old executions
 
--- a bound on the number of tries that fail in a stretch of events: maxTries plus one, and one more
+-- a bound on the number of tries that fail in a sequence of events: maxTries plus one, and one more
 -- for each recoveryTime that passes
 abbrev pub tries_at_most : Record → List Execution → ℕ
 tries_at_most old executions =

@@ -37,8 +37,8 @@ impl<'a> Event<'a> {
     ) -> Event<'a>
         ensures value { result ≡ Command buffer.entry locality elapsed_ms random }
 
-        // The event is one that can occur: its locality is 0 to 4, its elapsed time has 32 bits,
-        // and it has 256 random bytes.
+        // The returned event can occur: its locality is 0 to 4, its elapsed time has 32 bits, and
+        // it has 256 random bytes.
         ensures event { IsEvent (plain_event result) }
     {
         Event::Command {
@@ -51,7 +51,8 @@ impl<'a> Event<'a> {
 }
 
 /// The row of an event: the command's code, and the number of the check that refused it. The code
-/// is 0 for a power cycle, and if no code was found; the check is 0 if no check refused.
+/// is 0 for a power cycle, and for a command whose code was not found. The check is 0 if no check
+/// refused the event.
 #[derive(Clone, Copy, PartialEq, Eq)]
 pub struct Row {
     pub code: u32,

@@ -1,6 +1,6 @@
 //! Laws about histories: the PCRs, sessions, policies, authorization values and counters of a
 //! device follow from what the device has accepted. Further laws say how each use of an entity was
-//! authorized, what a replay repeats, and how many tries may fail.
+//! authorized, which nonce or HMAC repeats in a replay, and how many tries may fail.
 //!
 //! Each law is the contract of a function that does nothing. The laws follow from the definitions
 //! of the step and from the laws about all rows in [`crate::rows`]. Apart from these, their proofs
@@ -71,10 +71,10 @@ pub fn following_laws()
         → Follows r history → Follows (cycled r) (PowerCycled ∷ history) }
 {}
 
-/// A stretch of events is a list of executions, one after another. A power cycle is a stretch by
-/// itself, and so is placing an object that satisfies the invariant of loaded objects. Two
-/// stretches make one if the second begins where the first ended. A stretch that is possible if no
-/// allocation can fail is also possible if allocations can fail.
+/// Laws about sequences of executions. A power cycle is a sequence by itself, and so is placing an
+/// object that satisfies the invariant of loaded objects. Two sequences make one if the second
+/// begins with the record that the first left. A sequence that is possible if no allocation can
+/// fail is also possible if allocations can fail.
 #[inline(always)]
 pub fn stretch_laws()
     ensures power_cycle { (can : Bool) (r : Record)
@@ -88,8 +88,8 @@ pub fn stretch_laws()
         → Leads false old executions new → Leads can old executions new }
 {}
 
-/// If a device follows a history, then after a stretch of events it follows the same history with
-/// all accepted events of the stretch added. The other properties of `StretchFollows` hold too.
+/// If a device follows a history, then after a sequence of events it follows the same history with
+/// all accepted events added. The other properties of `StretchFollows` hold too.
 #[inline(always)]
 pub fn stretch_history_laws()
     ensures { (can : Bool) (old : Record) (executions : List Execution) (new : Record)
@@ -166,7 +166,7 @@ pub fn count_laws()
 
 /// No counter of a device goes down until an index is defined again with its handle. The first
 /// value of a counter exceeds every value that any counter had before, whether the counter was
-/// defined before a stretch of events or in it.
+/// defined before a sequence of events or in it.
 #[inline(always)]
 pub fn counter_laws()
     ensures keeps { (old new : Record) (history meanwhile : History) (handle : Handle)
@@ -202,7 +202,7 @@ pub fn grounds_laws()
 {}
 
 /// If a buffer with an HMAC is accepted twice, and its HMAC session survives in between, then the
-/// session has the nonceTPM of the first event again, or two different texts have the same HMAC.
+/// session has the nonceTPM of the first event again, or two different messages have the same HMAC.
 /// Each of the two HMACs is computed with the key at its event.
 #[inline(always)]
 pub fn replay_laws()
@@ -211,11 +211,11 @@ pub fn replay_laws()
 {}
 
 /// Each of these laws is about a policy session with a single assertion, which authorizes the use
-/// of an entity. If the assertion is TPM2_PolicyPCR, the entity's policy requires the values that
-/// the PCRs have at the use, unchanged since the first TPM2_PolicyPCR. If it is
+/// of an entity. If the assertion is TPM2_PolicyPCR, the entity's policy requires the current
+/// values of the PCRs, which have not changed since the first TPM2_PolicyPCR. If it is
 /// TPM2_PolicyCommandCode, the policy requires the code of the command that uses the entity. If it
-/// is TPM2_PolicyNvWritten, the entity is an NV index, and it is WRITTEN or not as the assertion
-/// says.
+/// is TPM2_PolicyNvWritten, the entity is an NV index, and its WRITTEN attribute is as the
+/// assertion says.
 #[inline(always)]
 pub fn policy_laws()
     ensures pcrs { UsesPcrsAsTheyAre }
@@ -256,7 +256,7 @@ pub fn failed_run_laws()
     ensures { IsFailedRun }
 {}
 
-/// In a stretch of events at most maxTries tries fail, and one more for each whole recoveryTime
+/// In a sequence of events at most maxTries tries fail, and one more for each whole recoveryTime
 /// that passes. This holds if recoveryTime is not 0, and no TPM2_DictionaryAttackLockReset,
 /// TPM2_DictionaryAttackParameters or TPM2_Clear is accepted. The bound `tries_at_most` is higher
 /// by one.
@@ -279,9 +279,9 @@ pub fn alike_laws()
 {}
 
 /// In every history of a device, each use of an entity was authorized by a password, an HMAC
-/// session or a policy session. Unless texts of the policy and of the session break the hash, each
-/// use by a policy session met every policy whose digest is the authPolicy of the used entity,
-/// along one branch at each TPM2_PolicyOR.
+/// session or a policy session. Unless the hash is broken (`BreaksHash`), each use by a policy
+/// session met every policy whose digest is the authPolicy of the used entity, along one branch at
+/// each TPM2_PolicyOR.
 #[inline(always)]
 pub fn auth_policy_laws()
     ensures { (can : Bool) (random : List ℕ) (executions : List Execution) (new : Record)

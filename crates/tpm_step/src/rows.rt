@@ -77,9 +77,9 @@ pub fn answer_shape_laws()
         → IfOk (row_of r c q) (AnswersItsShape c) }
 {}
 
-/// The success of a command that grows fills one more slot. The success of any other command fills
-/// no further slot. The exception is TPM2_EvictControl, which may also remove an object: it fills
-/// or frees one slot.
+/// The success of a command that adds an entity or a session fills one more slot. The success of
+/// any other command fills no further slot. The exception is TPM2_EvictControl, which fills one
+/// slot or frees one.
 #[inline(always)]
 #[tactic(auto, using(crate::proofs::rows::Table::row_grows))]
 pub fn growth_laws()
@@ -126,8 +126,8 @@ pub fn row_secrecy_laws()
 {}
 
 /// A row refuses no handle if the handles fit the rules of its command's shape. The row is defined
-/// for every request, and therefore it also refuses a handle that is missing or names no entity;
-/// but the general checks have already excluded these cases.
+/// for every request, so it also refuses a handle that is missing or names no entity; but the
+/// general checks have already excluded these cases.
 #[inline(always)]
 #[tactic(auto, using(crate::proofs::rows::Table::row_passes))]
 pub fn row_handle_laws()
@@ -205,8 +205,9 @@ pub fn granted_session_laws()
         → RefusesAuthorization (grants_pass r c locality [] c.entries) }
 {}
 
-/// A successful authorization has one element for each entry, a grant or none. The first entries
-/// are granted the handles that need authorization, in order, and the other entries no handle.
+/// A successful authorization returns a list with one element for each entry: a grant, or None. The
+/// first entries are granted the handles that need authorization, in order, and the other entries
+/// no handle.
 #[inline(always)]
 #[tactic(auto, using(crate::proofs::rows::Grants::grants_fit))]
 pub fn grant_laws()

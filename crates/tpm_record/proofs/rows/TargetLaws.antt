@@ -1,5 +1,5 @@
--- After the checks of a command that reads an NV index have passed, the read fails only if it goes
--- past the end of the index's data.
+-- After the checks of a command that reads an NV index have passed, the read fails only if it
+-- extends past the end of the index's data.
 use Rattle.std.proofs.Common.{◌≡◌, ℕ, ◌+◌, Bool, true, false, Some, Result, Ok, Err, IfOk, IfErr, refl, sym, subst}
 use Rattle.std.specs.Prelude.{not, nat_lt}
 use Rattle.std.proofs.lemmas.Bool.{not-false}
@@ -22,7 +22,7 @@ ok_where : {A B : Type 0} (P : A → Type 0) (x : Result A B) → ((a : A) → x
 ok_where P (Ok a) h = h a refl
 ok_where P (Err e) h = tt
 
--- If a check is followed by a success, the only possible fault is that of the check.
+-- If nothing after a check can fail, the only possible fault is that of the check.
 only_if : {A B : Type 0} (b : Bool) (e : B) (a : A) → IfErr (refused_if b e >>= λ u. Ok a) (λ fault. fault ≡ e)
 only_if true e a = refl
 only_if false e a = tt
@@ -37,7 +37,7 @@ target_is r q target is =
     let same = subst (λ (t : Target). (index_at r.nv t.handle ≡ Some index.0) × (t.attributes ≡ index.0.public.attributes)) (ok_is _ _ attributes.2) (ok_or_ok (index_at r.nv handle.0) handle_refusal index.0 index.1, sym (ok_is _ _ index.2)) in
     (index.0, same.0, same.1)
 
--- If an NV index has WRITTEN set and is not locked against reading, a read fails only if it goes
+-- If an NV index has WRITTEN set and is not locked against reading, a read fails only if it extends
 -- past the end of the data.
 read_within : (nv : NvContents) (handle : Handle) (offset size : ℕ) (index : NvIndex) → index_at nv handle ≡ Some index → has index.public.attributes attribute.ReadLocked ≡ false → has index.public.attributes attribute.Written ≡ true → IfErr (read_at nv handle offset size) (λ fault. fault ≡ PastData)
 unfolding read_at

@@ -22,7 +22,7 @@ begins_sized (SizedFirst bytes rest) = true
 begins_sized (Plain text) = false
 
 -- an answer: the handle of the entity that the command created, if there is one; the parameters;
--- and the number of random bytes drawn from the start of the event's random bytes
+-- and the number of bytes that the command drew from the start of the event's random bytes
 pub record AnswerParts : Type 0 where
   pub handle : Option Handle
   pub body : Body

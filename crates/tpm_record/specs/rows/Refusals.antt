@@ -29,11 +29,11 @@ parameter_refusal action parameter fault = action_refusal action (at (place.Para
 abbrev pub fault_refusal : ActionFault → Refused
 fault_refusal fault = action_refusal fault.check fault.rc
 
--- the refusal because memory ran out, by check M
+-- the refusal by check M, because memory ran out
 abbrev pub memory_refusal : Refused
 memory_refusal = refusal check.Memory (plain code.Memory)
 
--- the result of a call to a part of the device; a fault of the part becomes the command's refusal
+-- the result of a call to a part of the device, whose fault becomes the command's refusal
 abbrev pub or_refusal : {X F : Type 0} → (F → Refused) → Result X F → Result X Refused
 or_refusal refusal (Ok x) = Ok x
 or_refusal refusal (Err fault) = Err (refusal fault)

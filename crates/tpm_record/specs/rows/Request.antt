@@ -22,18 +22,18 @@ request_of call = record {
   random = call.random.now;
 }
 
--- the first handle, for commands that have one; a request has as many handles as its command's
--- shape requires
+-- the first handle of a command that has one; a request has as many handles as its command's shape
+-- requires
 abbrev pub first_handle : List Handle → Result Handle Refused
 first_handle [] = Err handle_refusal
 first_handle (handle ∷ handles) = Ok handle
 
--- the second handle, for commands that have two
+-- the second handle of a command that has at least two
 abbrev pub second_handle : List Handle → Result Handle Refused
 second_handle (first ∷ handle ∷ handles) = Ok handle
 second_handle handles = Err handle_refusal
 
--- the third handle, for commands that have three
+-- the third handle of a command that has three
 abbrev pub third_handle : List Handle → Result Handle Refused
 third_handle (first ∷ second ∷ handle ∷ handles) = Ok handle
 third_handle handles = Err handle_refusal

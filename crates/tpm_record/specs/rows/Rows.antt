@@ -17,8 +17,8 @@ use Rattle.tpm_record.specs.declared.rows.answer.Answer.{Answer}
 abbrev pub parameter_refusal : ℕ → Rc → Refused
 parameter_refusal n rc = refusal check.Parameters (at (place.Parameter n) rc)
 
--- the value of a parameter and the bytes after it; if reading it failed, the refusal of this
--- parameter
+-- the value of a parameter and the bytes after it, or the refusal of this parameter if reading it
+-- failed
 abbrev pub parameter : {X : Type 0} → ℕ → Result X Rc → Result X Refused
 parameter n (Ok x) = Ok x
 parameter n (Err rc) = Err (parameter_refusal n rc)
@@ -43,11 +43,11 @@ pub record Success : Type 0 where
 abbrev pub unchanged : Record → AnswerParts → Success
 unchanged r answer = record { answer = answer; after = r }
 
--- A command that grows the state did one of two things. It changed the record and returned the
--- answer as its row says; or it was refused with MEMORY instead of succeeding, which requires that
--- an allocation can fail. A refusal does not change the record. After a refusal of any command, the
--- content of the answer is unspecified: it may contain part of a success's answer. The response to
--- a refused command depends only on the refusal.
+-- A command that may allocate did what its row says: it changed the record and returned the answer,
+-- or it was refused. If an allocation can fail, a command that would succeed may have been refused
+-- with MEMORY. A refusal does not change the record. After a refusal of any command, the content of
+-- the answer is unspecified: it may contain part of a success's answer. The response to a refused
+-- command depends only on the refusal.
 abbrev pub ActsIfRoom : Bool → Result Success Refused
     → Record → Result (Unit {0}) Refused → Answer → Record → Type 0
 ActsIfRoom can (Ok s) old (Ok done) answer new = IsAnswer s.answer answer × (new ≡ s.after)
@@ -56,8 +56,9 @@ ActsIfRoom can (Ok s) old (Err e) answer new =
 ActsIfRoom can (Err refused) old (Ok done) answer new = ⊥
 ActsIfRoom can (Err refused) old (Err e) answer new = (e ≡ refused) × (new ≡ old)
 
--- A command that does not grow the state changed the record and returned the answer as its row
--- says. A refusal does not change the record, and the content of the answer is then unspecified.
+-- A command that allocates nothing changed the record and returned the answer as its row says, or
+-- was refused. A refusal does not change the record, and the content of the answer is then
+-- unspecified.
 abbrev pub Acts : Result Success Refused
     → Record → Result (Unit {0}) Refused → Answer → Record → Type 0
 Acts row old result answer new = ActsIfRoom false row old result answer new

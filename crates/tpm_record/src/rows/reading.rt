@@ -1,4 +1,4 @@
-//! Reads a command's parameters. Each fault gets the number of its parameter.
+//! Reads a command's parameters. Each refusal contains the number of the parameter at fault.
 
 ghost use Rattle.std.specs.Prelude.{◌≡◌};
 ghost use Rattle.tpm_bytes.specs.Reading.{or_fault};
@@ -16,7 +16,7 @@ fn at_parameter(number: u8, rc: Rc) -> Refused
     Refused::by(Check::Parameters, rc.at_parameter(number))
 }
 
-/// The value that was read for the parameter with this number, or the refusal of the parameter.
+/// The value of the parameter with this number, or its refusal if reading it failed.
 pub fn parameter<T>(place: u8, read: Result<T, Rc>) -> Result<T, Refused>
     ensures { result ≡ parameter place read }
 {
@@ -26,8 +26,8 @@ pub fn parameter<T>(place: u8, read: Result<T, Rc>) -> Result<T, Refused>
     }
 }
 
-/// The integer that was read for the parameter at this position, or the refusal of the parameter.
-/// Reading an integer fails only if its bytes are truncated.
+/// The integer parameter with this number, or its refusal if reading it failed. Reading an integer
+/// fails only if its bytes are truncated.
 pub fn number<T>(place: u8, read: Result<T, Short>) -> Result<T, Refused>
     ensures { result ≡ parameter place (or_fault read (plain code.Insufficient)) }
 {
@@ -37,7 +37,7 @@ pub fn number<T>(place: u8, read: Result<T, Short>) -> Result<T, Refused>
     }
 }
 
-/// Refuses a command with bytes after its last parameter.
+/// Refuses a command that has bytes after its last parameter.
 pub fn end(parameters: &Cursor) -> Result<(), Refused>
     ensures { result ≡ all_read parameters.now }
 {

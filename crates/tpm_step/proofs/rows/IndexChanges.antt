@@ -154,7 +154,8 @@ auth_changes contents handle value =
 
 -- ---- the number of indices
 
--- whether a change of this part keeps the number of NV indices
+-- whether a command that changes only this part of the state leaves the number of NV indices
+-- unchanged
 abbrev pub keeps_count : Part → Bool
 keeps_count NvData = true
 keeps_count NvCounter = true

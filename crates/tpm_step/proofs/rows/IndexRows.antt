@@ -86,8 +86,8 @@ late_if : {F : Type 0} (Fit : Type 0) (refusal : F → Refused) (b : Bool) (faul
 late_if Fit refusal true fault late = late
 late_if Fit refusal false fault late = tt
 
--- A step that looks up an index refuses late (`Late`), if the index exists whenever the handles
--- fit, and if the later steps refuse late.
+-- If an index exists whenever the handles fit, and the later steps refuse late (`Late`), the step
+-- that looks up the index refuses late too.
 late_index : {X F : Type 0} (Fit : Type 0) (refusal : F → Refused) (nv : NvContents) (h : Handle)
     (absence : F) (f : NvIndex → Result X F) → refusal absence ≡ handle_refusal
     → (Fit → is_some (index_at nv h) ≡ true) → ((i : NvIndex) → Late Fit (or_refusal refusal (f i)))

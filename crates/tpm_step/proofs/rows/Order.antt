@@ -1,4 +1,5 @@
--- The order in which a row refuses (`Orders`): its proof, step by step, and its consequences.
+-- The order in which a row reports refusals (`Orders`): its proof, step by step, and its
+-- consequences.
 use Rattle.std.specs.Option.{option_map_or}
 use Rattle.std.specs.Prelude.{◌==◌, ◌||◌, if◌then◌else◌, is_some, not, ok_or}
 use Rattle.std.proofs.Common.{◌+◌, ◌∙◌, ◌∷◌, ◌≡◌, ◌⊎◌, Bool, Err, IfErr, List, None, Ok, Option}
@@ -40,8 +41,8 @@ use Rattle.tpm_step.proofs.rows.Readings.{read_one, trimmed_read}
 
 -- ---- consequences of the order
 
--- a row that refuses in order (`InOrder`) does not refuse parameters of its kinds, and refuses
--- others with their first fault, unless it refuses a handle first
+-- unless it refuses a handle, a row that satisfies `InOrder` accepts parameters of its kinds, and
+-- refuses others with their first fault
 pub in_order_reads : {X : Type 0} (Fit : Type 0) (s : Result (Unit {0}) Refused)
     (row : Result X Refused) → InOrder Fit s row → ReadsParameters s row
 in_order_reads Fit (Ok u) (Ok x) order = tt
@@ -53,7 +54,7 @@ in_order_reads Fit (Err fault) (Err e) (inl handle) = inr handle.0
 in_order_reads Fit (Err fault) (Err e) (inr (inl same)) = inl (sym cc)
 in_order_reads Fit (Err fault) (Err e) (inr (inr late)) = let never = late.0 in absurd cc
 
--- a row that refuses in order (`InOrder`) refuses no handle if the handles fit
+-- if the handles fit, a row that satisfies `InOrder` refuses no handle
 pub in_order_passes : {X : Type 0} (Fit : Type 0) (s : Result (Unit {0}) Refused)
     (row : Result X Refused) → IfErr s (λ e. e.check ≡ check.Parameters) → InOrder Fit s row → Fit
     → Passes check.Handles row
@@ -65,7 +66,7 @@ in_order_passes Fit s (Err e) faults (inr (inl fault)) fit = λ same.
     absurd cc
 in_order_passes Fit s (Err e) faults (inr (inr late)) fit = λ same. subst (IsLate Fit) same late.1 fit
 
--- a row that refuses in order (`InOrder`) never refuses with MEMORY
+-- a row that satisfies `InOrder` never refuses with MEMORY
 pub in_order_wants : {X : Type 0} (Fit : Type 0) (s : Result (Unit {0}) Refused)
     (row : Result X Refused) → IfErr s (λ e. e.check ≡ check.Parameters) → InOrder Fit s row
     → Passes check.Memory row

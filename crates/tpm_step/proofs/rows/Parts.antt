@@ -1,4 +1,4 @@
--- The part of the state that a success changes determines how many further slots the success fills,
+-- The part of the state that a command changes determines how many further slots its success fills,
 -- and what it does to sessions.
 use Rattle.std.specs.Prelude.{is_some}
 use Rattle.std.proofs.Common.{◌∙◌, ◌≡◌, ◌≤◌, Bool, List, Option, ap, arith, false, inl, inr, length}
@@ -21,7 +21,7 @@ use Rattle.tpm_commands.specs.Part.{Saved, Sessions, SessionsAndObjects}
 use Rattle.tpm_step.specs.rows.Sessions.{SessionsStay}
 use Rattle.tpm_step.specs.rows.Shapes.{Grows, taken_in}
 
--- ---- taken slots
+-- ---- slots in use
 
 -- The number of NV indices is unchanged.
 abbrev pub SameCount : NvContents → NvContents → Type 0
@@ -48,8 +48,8 @@ pub same_sessions : (r : Record) (sessions : List (Option Session))
     → Grows false r (record r { sessions = sessions })
 same_sessions r sessions same = omega (arith, same)
 
--- whether a success that changes this part never needs another slot for a session, an object
--- (transient or persistent) or an NV index, however it changes the part
+-- whether a command that changes only this part of the state never needs another slot for a
+-- session, an object (transient or persistent) or an NV index
 abbrev pub keeps_places : Part → Bool
 keeps_places Nothing = true
 keeps_places AuthValues = true
@@ -86,7 +86,7 @@ touched_grows _ old new keeps touches = absurd (false≢true keeps)
 
 -- ---- sessions
 
--- whether a change of this part leaves the sessions unchanged
+-- whether a command that changes only this part of the state leaves the sessions unchanged
 abbrev pub leaves_sessions : Part → Bool
 leaves_sessions Sessions = false
 leaves_sessions SessionsAndObjects = false

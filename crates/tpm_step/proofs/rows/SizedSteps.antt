@@ -1,4 +1,4 @@
--- The fields of sessions keep the right sizes in steps and runs.
+-- After every step and run, the fields of sessions have the right sizes.
 use Rattle.std.proofs.Common.{arith, ◌≡◌, ℕ, Bool, true, false, cond, List, [], ◌∷◌, length, take, Option, Some, None, Result, Ok, Err, IfOk, refl, ◌+◌, ◌*◌, drop, subst, sym, Bor, ◌≤◌}
 use Rattle.std.specs.Prelude.{IfSome, is_some, not}
 use Rattle.std.specs.Option.{option_map_or}

@@ -20,7 +20,7 @@ use Rattle.tpm_step.proofs.Binding.{ok_at, ok_bind, ok_weaker}
 use Rattle.tpm_step.proofs.rows.Table.{row_touches}
 use Rattle.tpm_step.proofs.rows.Leaving.{success_leaves}
 
--- whether a success that changes this part can start a device
+-- whether a command that changes this part of the state can start the device
 abbrev begins : Part → Bool
 begins Beginning = true
 begins _ = false

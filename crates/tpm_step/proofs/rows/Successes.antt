@@ -17,8 +17,7 @@ use Rattle.tpm_step.proofs.Binding.{ok_bind}
 use Rattle.tpm_step.proofs.rows.Parts.{keeps_places, leaves_sessions, sessions_same}
 use Rattle.tpm_step.proofs.rows.Parts.{touched_grows, touched_same}
 
--- The command does not grow: if a success fills no further slot, this is what the command's shape
--- requires.
+-- If a success of the command fills no further slot, it fits the command's shape.
 abbrev pub GrowsNothing : CommandCode → Type 0
 GrowsNothing c = (old new : Record) → Grows false old new → GrowsAsShaped c old new
 
@@ -52,7 +51,7 @@ pub in_place : (c : CommandCode) (r : Record) (q : Request) (s : Success)
 in_place c r q s leaves keeps nothing touches changes answers draws =
     beside_sessions c r q s leaves touches (nothing r s.after (touched_grows (part_of c) r s.after keeps touches)) changes answers draws
 
--- a success that draws no random bytes stays within the limit
+-- drawing no random bytes stays within the limit
 pub none_drawn : 0 ≤ 96
 none_drawn = omega arith
 

@@ -30,8 +30,8 @@ bytes_requested parameters =
 -- the number of random bytes that a command draws. TPM2_GetRandom draws the bytes that it returns,
 -- at most 32. TPM2_StartAuthSession draws a nonceTPM of the size of nonceCaller. TPM2_Create draws
 -- a key and a seedValue, and the 16 bytes of an initial vector. TPM2_Clear draws a seed and two
--- proofs of 32 bytes. TPM2_Startup may draw a seed and a proof. They count as 0 here, since
--- TPM2_Startup has no entries, and therefore no nonces are drawn after them
+-- proofs of 32 bytes. TPM2_Startup may draw a seed and a proof, but counts as 0 here: it has no
+-- entries, and therefore no nonces are drawn after them
 abbrev pub draws_of : CommandCode → Request → ℕ
 draws_of command.GetRandom q =
     read_or_none (λ requested. min requested 32) (bytes_requested q.parameters)

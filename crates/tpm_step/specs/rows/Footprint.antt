@@ -19,7 +19,7 @@ use Rattle.tpm_commands.specs.Part.{Beginning, Saved, DisableClear, Cleared}
 abbrev pub KeepsSecrets : Hierarchies → Hierarchies → Type 0
 KeepsSecrets old new = (h : HierarchyHandle) → secrets_of new h ≡ secrets_of old h
 
--- the fixed part f after a startup. The fields that a startup sets are taken from the second
+-- the fixed part f after a startup. The fields that a startup sets are copied from the second
 -- argument: whether the device is started, resetCount and restartCount, platformAuth and the null
 -- hierarchy, whether lockoutAuth is disabled, and the PCRs. The number of PCR updates is 0
 abbrev pub begun : Fixed → Fixed → Fixed
@@ -44,7 +44,7 @@ abbrev pub StartsNv : NvContents → NvContents → Type 0
 StartsNv old new = (new ≡ old) ⊎ (new ≡ started old)
 
 -- the fixed part f after TPM2_Clear. The owner's new seed and proof, and the endorsement
--- hierarchy's new proof, are taken from the second argument. All authorization values are empty
+-- hierarchy's new proof, are copied from the second argument. All authorization values are empty
 -- except platformAuth. The failed tries are cleared, the number of PCR updates is incremented, and
 -- Clock, resetCount and restartCount are 0
 abbrev pub emptied : Fixed → Fixed → Fixed

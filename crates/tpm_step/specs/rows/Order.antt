@@ -22,9 +22,8 @@ IsLate Fit _ = ⊥
 abbrev pub Late : {X : Type 0} → Type 0 → Result X Refused → Type 0
 Late Fit row = IfErr row (λ e. IsLate Fit e.check)
 
--- The refusal is one of three, in this order: a handle is refused, if the handles do not fit; the
--- first fault of the parameters is reported; or a late check fails, after the parameters could be
--- parsed.
+-- The refusal is the first of these: a handle does not fit its rule; the parameters have a fault;
+-- or, after they could be parsed, a late check fails.
 abbrev pub IsInPlace : Type 0 → Result (Unit {0}) Refused → Refused → Type 0
 IsInPlace Fit spelling e =
     ((e.check ≡ check.Handles) × (Fit → ⊥))
@@ -35,8 +34,8 @@ abbrev pub InOrder : {X : Type 0} → Type 0 → Result (Unit {0}) Refused → R
 InOrder Fit spelling (Ok x) = spelling ≡ Ok tt
 InOrder Fit spelling (Err e) = IsInPlace Fit spelling e
 
--- The row of a command with these handle rules and these kinds of parameters refuses in order.
--- `row` may also be the rest of a row after some of its steps.
+-- The row of a command with these handle rules and these kinds of parameters reports refusals in
+-- the order of its checks. `row` may also be the rest of a row after some of its steps.
 pub record Orders {X : Type 0} (r : Record) (rules : List HandleRule) (handles : List Handle)
     (kinds : List ParameterKind) (text : List ℕ) (row : Result X Refused) : Type 0 where
   pub order : InOrder (HandlesFit r rules handles) (spelled 1 kinds text) row

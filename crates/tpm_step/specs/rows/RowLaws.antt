@@ -30,9 +30,9 @@ pub record SuccessLaws (c : CommandCode) (r : Record) (q : Request) (s : Success
   pub stays : (shape_of c).forbids_sessions ≡ false → SessionsStay r s.after
   pub sized : 32 ≤ length q.random → AreSized r → AreSized s.after
 
--- Each success of the row satisfies these laws. Its refusals come in order. They neither count as
--- failed tries nor disable lockoutAuth. Unless the command reads a secret, the row has the same
--- result on the device and on the device without its secrets.
+-- Each success of the row satisfies `SuccessLaws`. The row reports refusals in the order of its
+-- checks. No refusal counts as a failed try or disables lockoutAuth. Unless the command reads a
+-- secret, the row has the same result on the device and on the device without its secrets.
 pub record RowLaws (c : CommandCode) (row : Record → Request → Result Success Refused)
     : Type 0 where
   pub success : (r : Record) (q : Request) → IfOk (row r q) (SuccessLaws c r q)

@@ -1,4 +1,4 @@
--- Sessions that the entries of a command name.
+-- The sessions named by a command's entries.
 use Rattle.std.specs.Prelude.{◌≡◌, true, List, [], ◌∷◌, is_some}
 use Rattle.tpm_session.specs.Sessions.{session_at}
 use Rattle.tpm_types.specs.declared.handle.Handle.{Handle}

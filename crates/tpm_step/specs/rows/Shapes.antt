@@ -1,4 +1,5 @@
--- How a command's shape determines the answer of its success, its growth and its parameters.
+-- What a command's shape determines: the answer of a success, whether it fills another slot, and
+-- the kinds of the parameters.
 use Rattle.std.specs.Prelude.{◌≡◌, ◌≤◌, ◌⊎◌, ℕ, ◌+◌, Bool, true, false, List, [], ◌∷◌, length, is_some, Result, Ok, Err}
 use Rattle.std.specs.Int.{w8, w16, w32, w64}
 use Rattle.tpm_bytes.specs.Reading.{◌>>=◌, number_at, or_fault}
@@ -46,14 +47,14 @@ abbrev pub taken_in : Record → ℕ
 taken_in r =
     taken_count r.sessions + taken_count r.objects + length r.persistent + length r.nv.indices
 
--- If the command grows something, it fills one more slot. Otherwise, no more slots are filled than
--- before.
+-- If the command adds an entity or a session, one more slot is filled. Otherwise, no more slots are
+-- filled than before.
 abbrev pub Grows : Bool → Record → Record → Type 0
 Grows true old new = taken_in new ≡ taken_in old + 1
 Grows false old new = taken_in new ≤ taken_in old
 
 -- A success of TPM2_EvictControl fills or frees one slot. A success of any other command fills one
--- more slot if and only if its shape says that it grows.
+-- more slot if and only if its shape says so.
 abbrev pub GrowsAsShaped : CommandCode → Record → Record → Type 0
 GrowsAsShaped command.EvictControl old new = Grows true old new ⊎ Grows true new old
 GrowsAsShaped c old new = Grows (shape_of c).grows old new

@@ -3,8 +3,8 @@ use Rattle.tpm_types_command.specs.AuthEntry.{entry_of}
 use Rattle.tpm_step.specs.Entries.{entries_rolled}
 use Rattle.tpm_machine.proofs.entries.roll_entries.Given as goal
 
--- Rolling the remaining entries from the current state gives the same result as rolling all entries
--- from the initial state.
+-- Drawing nonces for the remaining entries in the current state has the same result as drawing
+-- nonces for all entries in the initial state.
 abbrev pub invariant-loop-entry : goal.invariant-loop-entry
 invariant-loop-entry g l =
     let record_of = g.K.Keep.record_of in

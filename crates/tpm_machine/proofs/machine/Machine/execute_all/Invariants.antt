@@ -5,8 +5,8 @@ use Rattle.tpm_step.specs.Events.{plain_event}
 use Rattle.tpm_step.specs.Run.{Runs}
 use Rattle.tpm_machine.proofs.machine.Machine.execute_all.Given as goal
 
--- If the remaining events are a run from the current state, then all events are a run from the
--- initial state.
+-- If a run executes the remaining events from the current state, then a run executes all events
+-- from the initial state.
 abbrev pub invariant-loop-event : goal.invariant-loop-event
 invariant-loop-event g l =
     let record_of = g.K.Keep.record_of in
