@@ -219,8 +219,8 @@ size_known (t ∷ u ∷ a ∷ []) is = omega arith
 size_known (t ∷ u ∷ a ∷ b ∷ []) is = omega arith
 size_known (t ∷ u ∷ a ∷ b ∷ c ∷ []) is = omega arith
 
--- If a stream has not ended and its next buffer is not complete, it can store at least one more
--- byte.
+-- If a stream has not ended and its next buffer is not complete, the stream can store at least one
+-- more byte.
 pub next_room : (s : Stream) → next_of s ≡ None → s.ended ≡ false → length s.taken < buffer_limit
 next_room s none lives = by s.ended s.taken (buffer_size s.taken) refl none lives
   where

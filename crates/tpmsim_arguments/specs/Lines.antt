@@ -7,7 +7,7 @@ use Rattle.tpm_number.specs.Number.{decimal_of}
 use Rattle.tpmsim_arguments.specs.Answers.{AreTaken}
 use Rattle.tpmsim_arguments.specs.Invocation.{Invocation, Kept, asked_by, in_image, in_state, serve}
 
--- clap accepts these words, and they request this.
+-- clap accepts these words, and they make this request.
 abbrev pub AskFor : List Text → Invocation → Type 0
 AskFor words asked = AreTaken words × (asked_by words ≡ Some asked)
 

@@ -1,5 +1,5 @@
--- How the device of a script is kept: the saver is notified of the device line by line, and only
--- the output of lines that were played is written.
+-- How a run saves its device: the saver is notified after each command and each power cycle, and
+-- only the output of lines that were played is written.
 use Rattle.std.specs.Prelude.{◌≡◌, ℕ, ◌+◌, Bool, true, false, List, [], ◌∷◌, ◌++◌, length}
 use Rattle.std.specs.Prelude.{Option, Some, None, IfSome, Result, Ok, Err}
 use Rattle.std.specs.Io.KnownBytes.{Appends, append_known}
@@ -91,10 +91,10 @@ pub record Played {S : Type 0} (saves saves_change : S → Record → S → Type
   pub written : Writes result old new print
   pub last : Last end
 
--- A run kept its device: the output is that of the played lines, and the saver was notified of each
--- of them. The state after these lines satisfies `Last`. If a save failed at a line, that line does
--- not count as played, and none of its output was written. In that case `Last` is not claimed, and
--- if the writer failed too, the output is unspecified.
+-- A run saved its device: the output is that of the played lines, and the saver was notified of
+-- each of them. The state after these lines satisfies `Last`. If a save failed at a line, that line
+-- does not count as played, and none of its output was written. In that case `Last` is not claimed,
+-- and if the writer failed too, the output is unspecified.
 abbrev pub KeepsDevice : {S : Type 0} → (saves saves_change : S → Record → S → Type 0)
     → (text left old new : Option (List ℕ)) → (writer : Marks) → Kept S
     → Result (Unit {0}) ScriptFault → (Last : Kept S → Type 0) → Type 0

@@ -91,7 +91,7 @@ impl Lines {
     }
 
     /// Moves the next bytes to the line, up to the end of the line. If the bytes that were read do
-    /// not contain it, moves all of them.
+    /// not contain that end, moves all of them.
     pub fn find(&mut self) -> Next
         requires { IsUnbroken (line_of self.old) }
         ensures found { Finds self.old result self.new }
