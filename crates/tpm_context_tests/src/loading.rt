@@ -22,8 +22,8 @@ const FLUSH: &[u8] = b"\x80\x01\0\0\0\x0e\0\0\x01\x65\x80\0\0\0";
 /// The header of TPM2_ContextLoad for the key's context of 127 bytes.
 const LOAD_HEADER: &[u8] = b"\x80\x01\0\0\0\x89\0\0\x01\x61";
 
-/// Four responses: one with the first transient handle; one without parameters; the refusal
-/// OBJECT_MEMORY; and the refusal INTEGRITY for parameter 1.
+/// Four responses: one with the first transient handle; one without parameters; the error
+/// OBJECT_MEMORY; and the error INTEGRITY for parameter 1.
 const LOADED: &[u8] = b"\x80\x01\0\0\0\x0e\0\0\0\0\x80\0\0\0";
 
 const DONE: &[u8] = b"\x80\x01\0\0\0\x0a\0\0\0\0";

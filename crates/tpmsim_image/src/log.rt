@@ -32,7 +32,7 @@ use tpm_machine::{Machine, Unsaved, Witness};
 use tpm_record::Keep;
 use tpm_step::{Event, Outcome};
 
-/// The size of a buffer for a head.
+/// The size of the buffer for a log's head.
 const HEAD_ROOM: usize = 57_472;
 
 /// A log. After a write has failed, nothing more is added.

@@ -91,10 +91,10 @@ pub record Played {S : Type 0} (saves saves_change : S → Record → S → Type
   pub written : Writes result old new print
   pub last : Last end
 
--- A run saved its device: the output is that of the played lines, and the saver was notified of
--- each of them. The state after these lines satisfies `Last`. If a save failed at a line, that line
--- does not count as played, and none of its output was written. In that case `Last` is not claimed,
--- and if the writer failed too, the output is unspecified.
+-- A run saved its device: the output is that of the played lines, and the saver was notified as
+-- `Tells` defines. The state after these lines satisfies `Last`. If a save failed at a line, that
+-- line does not count as played, and none of its output was written. In that case `Last` is not
+-- claimed, and if the writer failed too, the output is unspecified.
 abbrev pub KeepsDevice : {S : Type 0} → (saves saves_change : S → Record → S → Type 0)
     → (text left old new : Option (List ℕ)) → (writer : Marks) → Kept S
     → Result (Unit {0}) ScriptFault → (Last : Kept S → Type 0) → Type 0

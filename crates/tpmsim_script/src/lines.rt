@@ -152,8 +152,8 @@ impl Lines {
         }
     }
 
-    /// Reads more bytes, with one read of the reader. All output must have been written before: the
-    /// author of a script may need it to write the next line.
+    /// Reads more bytes, with one read of the reader. All output must have been written before the
+    /// call: the author of a script may need it to write the next line.
     pub fn fill<R: Read>(&mut self, reader: &mut Tap<R>, _answers: &Answers) -> Result<(), Failed>
         requires rest { rest_of self.old ≡ [] }
         requires written { backlog _answers.now ≡ [] }
