@@ -1,5 +1,5 @@
--- A run that plays a script line by line satisfies `KeepsDevice`: the saver is notified of each
--- line that was played, and only the output of these lines is written.
+-- A run that plays a script line by line satisfies `KeepsDevice`: the saver is notified after each
+-- command and power cycle, and only the output of played lines is written.
 use Rattle.std.proofs.Common.{◌≡◌, ℕ, ◌+◌, ◌<◌, List, [], ◌∷◌, ◌++◌, length, Bool, true, false, Option, Some, None, IfSome, refl, sym, ap, subst, ◌∙◌, append_assoc, append-nil, length-append, arith}
 use Rattle.std.proofs.lemmas.Bool.{false≢true}
 use Rattle.std.specs.Prelude.{Result, Ok, Err, OnOk, OnErr}

@@ -31,8 +31,8 @@ Tells saves saves_change (Some (ExecutesWords words)) device old new = saves_cha
 Tells saves saves_change (Some CyclesPower) device old new = saves old device new
 Tells saves saves_change other device old new = new ≡ old
 
--- A line was played: the line is not bad and prints this text, and the saver was notified of the
--- line.
+-- A line was played: the line is not bad and prints this text, and the saver was notified as
+-- `Tells` defines.
 pub record PlaysLine {S : Type 0} (saves saves_change : S → Record → S → Type 0)
     (old : Kept S) (line text : List ℕ) (new : Kept S) : Type 0 where
   pub performed : perform_line old.playing line ≡ Some (record { text = text; next = new.playing })
