@@ -56,8 +56,8 @@ Counts other count = Unit {0}
 
 -- The lines that a run has not played. If the run ended well, there are none. If it stopped at a
 -- bad line, they are that line and all later ones. If the reader failed, they are the line that it
--- had begun to return and all later ones (`left` is the text that the reader has not returned). If
--- there were too many lines, at least one was not played.
+-- had begun to return and all later ones; `left` is the text that it has not returned. If there
+-- were too many lines, at least one was not played.
 abbrev pub Leaves : Result (Unit {0}) ScriptFault → (left : Option (List ℕ)) → Playing
     → List (List ℕ) → Type 0
 Leaves (Ok done) left p rest = rest ≡ []
