@@ -29,7 +29,7 @@ const BINDING: Binding = Binding {
     restart_count: 5,
 };
 
-/// The first context with this binding: the context of the key without stClear.
+/// The first context with `BINDING`: the context of the key without stClear.
 const CONTEXT: &[u8] =
     b"\x00\x00\x00\x00\x00\x00\x00\x01\x80\x00\x00\x00\x40\x00\x00\x01\x00\x6d\x00\x20\
     \xb1\x9c\x79\xc3\xbd\x74\x4f\x40\x25\xd6\x20\x0d\x32\x8b\x3e\x65\x51\x2e\x9e\x6d\
@@ -39,7 +39,7 @@ const CONTEXT: &[u8] =
     \x01\xed\x1b\x04\xd6\x6a\x3c\x7c\x12\xe4\x45\xa1\x77\xaf\xc6\xdc\x89\x0b\x2c\x79\
     \xd2\x4e\x88\x7e\x7c\xbf\xd2";
 
-/// The second context with this binding: the context of the key with stClear.
+/// The second context with `BINDING`: the context of the key with stClear.
 const ST_CLEAR_CONTEXT: &[u8] =
     b"\x00\x00\x00\x00\x00\x00\x00\x02\x80\x00\x00\x02\x40\x00\x00\x01\x00\x6d\x00\x20\
     \xe0\x1c\xf9\xb0\x99\xce\xf2\x97\xd5\xf9\xd1\xff\x55\xd8\x39\x2d\x8c\x4a\xc9\x8f\
@@ -100,7 +100,7 @@ fn a_context_opens_as_its_object(rt: HostRuntime) {
     );
 }
 
-/// Returns the fault of opening the context, or None if it opens.
+/// Opens the context, and returns the fault, or None on success.
 fn fault_of(context: &[u8], binding: Binding) -> Option<ContextFault> {
     open(&hierarchies(7), binding, context).err()
 }
@@ -132,7 +132,7 @@ fn a_context_is_bound_to_the_start_and_the_counts(rt: HostRuntime) {
     }
 }
 
-/// Replaces the byte at `place` in the key's context, and returns the fault of opening the result.
+/// Replaces the byte at `place` in the key's context, opens the result, and returns the fault.
 fn fault_with(place: usize, byte: u8) -> Option<ContextFault> {
     let mut bytes = [0; 127];
     bytes.copy_from_slice(CONTEXT);

@@ -19,11 +19,11 @@ const SAVE: &[u8] = b"\x80\x01\0\0\0\x0e\0\0\x01\x62\x80\0\0\0";
 
 const FLUSH: &[u8] = b"\x80\x01\0\0\0\x0e\0\0\x01\x65\x80\0\0\0";
 
-/// The header of TPM2_ContextLoad of the key's context, which has 127 bytes.
+/// The header of TPM2_ContextLoad for the key's context of 127 bytes.
 const LOAD_HEADER: &[u8] = b"\x80\x01\0\0\0\x89\0\0\x01\x61";
 
-/// Four responses: one with the first transient handle; one without parameters; the refusal
-/// OBJECT_MEMORY; and the refusal INTEGRITY for parameter 1.
+/// Four responses: one with the first transient handle; one without parameters; the error
+/// OBJECT_MEMORY; and the error INTEGRITY for parameter 1.
 const LOADED: &[u8] = b"\x80\x01\0\0\0\x0e\0\0\0\0\x80\0\0\0";
 
 const DONE: &[u8] = b"\x80\x01\0\0\0\x0a\0\0\0\0";
@@ -32,7 +32,7 @@ const FULL: &[u8] = b"\x80\x01\0\0\0\x0a\0\0\x09\x02";
 
 const BROKEN: &[u8] = b"\x80\x01\0\0\0\x0a\0\0\x01\xdf";
 
-/// A device with its layer, and the latest outcome.
+/// A device with the completing layer, and its latest outcome.
 #[derive(Drop)]
 struct Bench {
     machine: Machine<SlotKeep>,
@@ -41,7 +41,7 @@ struct Bench {
 }
 
 impl Bench {
-    /// A started device with the key.
+    /// A device after TPM2_Startup, with the key loaded.
     fn new(alloc: Global) -> Result<Bench, Fail> {
         let mut bench = Bench {
             machine: Machine::manufacture(alloc, &[7; 256])?,
@@ -87,7 +87,7 @@ impl Bench {
         load
     }
 
-    /// Whether the first transient handle names the key.
+    /// Whether the first transient handle refers to the key.
     fn has_key(&self) -> bool {
         let handle = Handle {
             number: 0x8000_0000,

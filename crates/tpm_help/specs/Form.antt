@@ -26,7 +26,7 @@ handle_word kind.Object = codes "Object"
 handle_word kind.PolicySession = codes "Policy"
 handle_word kind.NvIndex = codes "Index"
 
--- the word for a parameter of this kind; a structure is written as a buffer with its bytes
+-- the word for a parameter of this kind; a structure in a sized buffer is written as a buffer
 unfoldable pub parameter_word : ParameterKind → List ℕ
 parameter_word parameter.SessionType = codes "u8"
 parameter_word parameter.YesNo = codes "u8"

@@ -83,8 +83,8 @@ warnings = (0x901, codes "CONTEXT_GAP")
     ∷ (0x923, codes "NV_UNAVAILABLE")
     ∷ []
 
--- the names of the codes that can identify a handle, a parameter or a session (RC_FMT1); the codes
--- are without the bits that identify one
+-- the names of the codes that can identify a handle, a parameter or a session (RC_FMT1); each code
+-- is listed without the bits that identify one
 unfoldable pub located : List (ℕ × List ℕ)
 located = (0x081, codes "ASYMMETRIC")
     ∷ (0x082, codes "ATTRIBUTES")

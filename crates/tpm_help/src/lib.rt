@@ -5,8 +5,7 @@
 //! response code ([`response_code`]).
 //!
 //! The crate uses `tpm_commands` for the shapes of commands, and `tpm_text` for faults. Each call
-//! equals its definition in `specs/`. No definition covers the examples; a test assembles each of
-//! them.
+//! returns what `specs/` defines. No definition covers the examples; a test assembles each of them.
 
 pub mod example;
 pub mod form;

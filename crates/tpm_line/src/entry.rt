@@ -55,7 +55,7 @@ pub fn put_area<W: Write>(fields: &mut Cursor, line: &mut W) -> Result<(), Spell
     Ok(())
 }
 
-/// Adds an entry to the line: as a password if it has exactly the form of one, and otherwise as a
+/// Adds an entry to the line: as a password if it is exactly a password's entry, and otherwise as a
 /// session.
 fn put_entry<W: Write>(entry: &AuthEntry, line: &mut W) -> fmt::Result {
     let attributes = entry.attributes.octet;

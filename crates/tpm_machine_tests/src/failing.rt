@@ -4,8 +4,8 @@
 use std::io;
 use std::io::{ErrorKind, Read, Write};
 
-/// A reader of a text. It reads at most `size` bytes at a time, succeeds `reads` times, and then
-/// fails.
+/// A reader of the bytes in `left`. It reads at most `size` bytes at a time, succeeds `reads`
+/// times, and then fails.
 #[derive(Drop)]
 pub struct Source<'a> {
     pub left: &'a [u8],

@@ -118,7 +118,7 @@ const READ: &[u8] = &[
 /// The number of bytes before the value in the response of TPM2_PCR_Read.
 const BEFORE_VALUE: usize = 30;
 
-/// Feeds the measurements of the connections in an order, and checks the value that TPM2_PCR_Read
+/// Feeds the measurements of the connections in this order, and checks the value that TPM2_PCR_Read
 /// then returns.
 fn measure<K: Keep, R: Abort>(
     rt: &R,

@@ -12,8 +12,7 @@ use tpm_record::Keep;
 use tpm_step::Event;
 use tpm_types::Locality;
 
-/// A text as pieces. Each piece consists of hex digits, and the number of zero bytes that follow
-/// them.
+/// Bytes in pieces. Each piece consists of hex digits, and the number of zero bytes after them.
 type Pieces = &'static [(&'static str, usize)];
 
 /// The image of a new device, made from the random bytes 00 to ff, as in
@@ -117,7 +116,7 @@ const SAVED: Pieces = &[
     ),
 ];
 
-/// The bytes of a text.
+/// Decodes the pieces to bytes.
 fn bytes_of(alloc: Global, pieces: Pieces) -> Result<Vec<u8>, Fail> {
     let mut text = Vec::new(alloc);
     for (digits, zeros) in pieces {
@@ -180,8 +179,8 @@ fn the_image_of_a_new_device(rt: HostRuntime) -> Result<(), Fail> {
     run_over_both(NewDevice, &rt, rt.alloc())
 }
 
-/// The error for a text of this size that begins like the image of the new device, but has a
-/// different byte at one offset.
+/// Truncates the image of the new device to `length` bytes, changes the byte at `place`, and
+/// returns the error of opening it.
 fn fault_of<K: Keep>(
     alloc: Global,
     length: usize,
@@ -196,7 +195,7 @@ fn fault_of<K: Keep>(
     Ok(outcome.err())
 }
 
-/// The size of a text, the offset of its changed byte, and the error.
+/// The size of an image, the offset of its changed byte, and the error.
 const FAULTS: [(usize, usize, ImageFault); 5] = [
     (41, 0, ImageFault::Short),
     (355, 0, ImageFault::Magic),

@@ -1,5 +1,5 @@
-//! NV indices: each call once, with lists and with fixed slots, and a digest computed by Python's
-//! `hashlib`.
+//! NV indices: makes each call once, with lists and with fixed slots, and compares a digest with
+//! one from Python's `hashlib`.
 
 use super::comparison::check;
 use std::alloc::Global;
@@ -44,7 +44,7 @@ const SHORT_COUNTER: &[u8] = b"\x01\0\0\x02\0\x0b\0\x04\0\x14\0\0\0\x04";
 const DIGEST: &[u8] =
     b"\x82\x6e\xb4\x34\xa3\xb9\x98\xd5\x2e\x8f\x8d\x6f\xf9\x74\x18\xcb\x60\xd5\x25\x6e";
 
-/// The outcome of defining an index: the text is not a public area, a check failed, or the call
+/// The outcome of defining an index: the bytes are not a public area, a check failed, or the call
 /// returned a result.
 #[derive(Clone, Copy, PartialEq, Eq)]
 enum Outcome {
@@ -91,7 +91,7 @@ fn has_auth<N: Indices>(indices: &N, handle: Handle, bytes: &[u8]) -> bool {
     }
 }
 
-/// Whether an index has the public area that a text encodes.
+/// Whether an index has the public area that these bytes encode.
 fn has_public<N: Indices>(indices: &N, handle: Handle, text: &[u8]) -> bool {
     let mut sink: Sink<46> = Sink::new();
     match public(indices, handle) {

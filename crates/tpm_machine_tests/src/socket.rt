@@ -40,7 +40,7 @@ fn joined(rt: &HostRuntime) -> Result<(UnixListener, UnixStream), Fail> {
     Ok((listener, client))
 }
 
-/// Sends the first buffers, and nothing else.
+/// Sends the buffers in `FIRST`, and nothing else.
 fn send_first(client: &UnixStream) -> Result<(), Fail> {
     let mut writer = client;
     writer.write_all(FIRST)?;

@@ -1,4 +1,5 @@
--- No assertion of a session survives an event that leaves the session without assertions.
+-- After an event that satisfies `LeavesNoAssertion`, no earlier assertion of the session is still
+-- in effect.
 use Rattle.std.proofs.Common.{◌≡◌, ◌⊎◌, ℕ, Bool, true, false, cond, List, [], ◌∷◌, ◌++◌, length, take, drop, map, Option, Some, None, option_map, Result, Ok, Err, refl, ap, sym, subst, ◌∙◌, inl, inr}
 use Rattle.std.specs.Prelude.{is_some, ok_or}
 use Rattle.std.specs.List.{zip}

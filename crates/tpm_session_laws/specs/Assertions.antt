@@ -17,7 +17,8 @@ LeavesNoAssertion (Done c) handle =
 LeavesNoAssertion PowerCycled handle = Unit {0}
 LeavesNoAssertion (ObjectPlaced at object) handle = ⊥
 
--- No assertion of a session survives an event that leaves the session without assertions.
+-- After an event that satisfies `LeavesNoAssertion`, no earlier assertion of the session is still
+-- in effect.
 abbrev pub NoneStandsThrough : Type 0
 NoneStandsThrough =
     (one : Assertion) (handle : Handle) (since : History) (event : PastEvent)

@@ -1,4 +1,5 @@
--- What a cpHash policy requires. TPM 2.0 Library, Part 3, section 23.13 (TPM2_PolicyCpHash).
+-- What a policy that consists of TPM2_PolicyCpHash requires. TPM 2.0 Library, Part 3, section 23.13
+-- (TPM2_PolicyCpHash).
 use Rattle.std.specs.Prelude.{◌≡◌, ℕ, List}
 use Rattle.tpm_types_object.specs.declared.public.Public.{Public}
 use Rattle.tpm_policy_meaning.specs.Expression.{PolicyExpression, Nothing, Then, PolicyCpHash}
@@ -7,7 +8,7 @@ use Rattle.tpm_step.specs.EntryHmacs.{cp_hash_in}
 use Rattle.tpm_step.specs.History.{AcceptedCommand, History}
 use Rattle.tpm_step.specs.PolicyReviews.{IsUsedBySession, UsesObject}
 
--- An object whose policy requires a cpHash is used only by a command with this cpHash.
+-- An object whose policy is a single TPM2_PolicyCpHash is used only by a command with that cpHash.
 abbrev pub NeedsCpHash : History → AcceptedCommand → Type 0
 NeedsCpHash history c =
     (place : ℕ) (public : Public) (cp_hash : List ℕ)

@@ -19,8 +19,8 @@ pub fn assertion_laws()
     ensures { NoneStandsThrough }
 {}
 
-/// Unless the hash is broken, an object without userWithAuth whose policy requires a cpHash was
-/// used, since the device was manufactured, only by commands with this cpHash.
+/// Unless the hash is broken, an object without userWithAuth whose policy is a single
+/// TPM2_PolicyCpHash has only ever been used by commands with that cpHash.
 #[inline(always)]
 #[tactic(auto, using(crate::proofs::CpHash::each_needs_cp_hash))]
 pub fn cp_hash_laws()

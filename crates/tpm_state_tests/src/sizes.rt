@@ -31,8 +31,8 @@ const POLICY_DIGEST: Field = Field {
     end: 1_671,
 };
 
-/// Replaces this sized field of the text by one with `size` zero bytes, and corrects the length and
-/// the digest.
+/// Replaces this sized field of the state text by one with `size` zero bytes, and corrects the
+/// text's length and digest.
 fn sized(alloc: Global, text: &[u8], field: Field, size: u8) -> Result<Vec<u8>, Fail> {
     if text.len() != 1_733 || field.start < 10 || field.end < field.start || field.end > 1_701 {
         return Err(Fail::new("no such field"));

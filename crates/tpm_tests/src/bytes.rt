@@ -83,8 +83,8 @@ impl Conduct {
     }
 }
 
-/// A reader and writer. Each of its calls behaves as the next of `conducts` says. Later calls read
-/// or write nothing.
+/// A reader and writer. Each call behaves as the next entry of `conducts` says. After the last
+/// entry, calls read or write nothing.
 #[derive(Drop)]
 struct Device {
     conducts: &'static [Conduct],

@@ -83,7 +83,7 @@ fn printed_bytes()
 }
 
 /// The ciphertexts of a block of zeros, computed by OpenSSL. Each key repeats one byte. The first
-/// round and the first round key look up only this byte.
+/// round and the first round key look up only this byte in the S-box.
 const ZEROS_BY_ONE_BYTE: [(u8, [u8; 16]); 2] = [
     (
         0x00,
@@ -109,8 +109,8 @@ fn bytes_of_the_s_box(rt: HostRuntime) {
     }
 }
 
-// The ciphertext of a text's prefix is a prefix of the text's ciphertext, because each block
-// depends only on the blocks before it.
+// The ciphertext of a prefix of the plaintext is a prefix of the whole ciphertext, because each
+// block depends only on the blocks before it.
 #[test]
 fn feedback_of_every_length_there_and_back(rt: HostRuntime) {
     let cipher = Aes128::new(&KEY);

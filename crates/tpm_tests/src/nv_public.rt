@@ -27,14 +27,14 @@ fn public_of(text: &[u8]) -> Option<NvPublic> {
     NvPublic::read_sized(&mut Cursor::new(text)).ok()
 }
 
-/// The public area decoded from a text, and encoded again with its size.
+/// The public area decoded from these bytes, and encoded again with its size.
 fn rewritten(text: &[u8]) -> Option<ArrayVec<u8, 48>> {
     let mut sink = Sink::new();
     public_of(text)?.copy().write_sized(&mut sink).ok()?;
     Some(sink.into_bytes())
 }
 
-/// The public area decoded from a text, and encoded again without its size.
+/// The public area decoded from these bytes, and encoded again without its size.
 fn rewritten_bare(text: &[u8]) -> Option<ArrayVec<u8, 46>> {
     let mut sink = Sink::new();
     public_of(text)?.write(&mut sink).ok()?;

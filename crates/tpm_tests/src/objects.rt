@@ -23,10 +23,11 @@ const KEY: &[u8] = b"\0\x10\0\x08\0\x0b\0\x04\x04\x40\0\0\0\x05\0\x0b\0\0";
 /// The public area of a storage key, in a sized buffer.
 const STORAGE: &[u8] = b"\0\x12\0\x25\0\x0b\0\x03\0\x72\0\0\0\x06\0\x80\0\x43\0\0";
 
-/// The inSensitive of a template, in a sized buffer: no authorization value, and the key "Jefe".
+/// The parameter inSensitive, in a sized buffer: an empty authorization value, and the key "Jefe".
 const JEFE: &[u8] = b"\0\x08\0\0\0\x04Jefe";
 
-/// The inSensitive of a template, in a sized buffer: neither an authorization value nor a key.
+/// The parameter inSensitive, in a sized buffer, with an empty authorization value and an empty
+/// key.
 const NOTHING: &[u8] = b"\0\x04\0\0\0\0";
 
 /// The Name of the HMAC key that is derived from `SEED`.
@@ -41,20 +42,20 @@ fn given_of(text: &[u8]) -> Option<SensitiveCreate> {
     SensitiveCreate::read_sized(&mut Cursor::new(text)).ok()
 }
 
-/// The primary object that is derived from a template and its inSensitive.
+/// The primary object that is derived from a template and an inSensitive.
 fn primary_of(template: &[u8], given: &[u8]) -> Option<Object> {
     let (template, given) = (public_of(template)?, given_of(given)?);
     Some(derive_primary(HierarchyHandle::Owner, SEED, &template, &given))
 }
 
-/// The public area decoded from a text, and encoded again without its size.
+/// The public area decoded from these bytes, and encoded again without its size.
 fn rewritten_public(text: &[u8]) -> Option<ArrayVec<u8, 82>> {
     let mut sink = Sink::new();
     public_of(text)?.copy().write(&mut sink).ok()?;
     Some(sink.into_bytes())
 }
 
-/// The sensitive area decoded from a text, and encoded again without its size.
+/// The sensitive area decoded from these bytes, and encoded again without its size.
 fn rewritten_sensitive(text: &[u8]) -> Option<ArrayVec<u8, 200>> {
     let area = Sensitive::read_sized(&mut Cursor::new(text)).ok()?;
     let mut sink = Sink::new();
@@ -62,7 +63,7 @@ fn rewritten_sensitive(text: &[u8]) -> Option<ArrayVec<u8, 200>> {
     Some(sink.into_bytes())
 }
 
-/// The creation data decoded from a text, and encoded again without their size.
+/// The creation data decoded from these bytes, and encoded again without their size.
 fn rewritten_creation(text: &[u8]) -> Option<ArrayVec<u8, 245>> {
     let creation = CreationData::read_sized(&mut Cursor::new(text)).ok()?;
     let mut sink = Sink::new();
@@ -103,7 +104,7 @@ fn a_primary_object_has_the_name_that_was_computed_outside(rt: HostRuntime) {
     check(&rt, is_named(primary_of(STORAGE, NOTHING), NAME), false);
 }
 
-/// Whether the template is refused, and whether its inSensitive is refused.
+/// Whether the template is refused, and whether the inSensitive is refused.
 fn faults_of(template: &[u8], given: &[u8]) -> Option<(bool, bool)> {
     let (template, given) = (public_of(template)?, given_of(given)?);
     let is_fixed_wrongly = check_template(&template, false) == Err(TemplateFault::Attributes);

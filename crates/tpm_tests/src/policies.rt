@@ -1,5 +1,5 @@
-//! Policy digests computed by Python's `hashlib`, and the conditions of a policy, each of which can
-//! refuse its use.
+//! Policy digests computed by Python's `hashlib`, and the conditions of a policy. If one fails, the
+//! use of the policy is refused.
 
 use super::comparison::check;
 use std::process::Abort;
@@ -34,7 +34,7 @@ const LOCALITY: &[u8] = b"\x77\x64\x49\x1d\x5a\xfe\x71\x90\x35\xc0\xc0\x9f\xaa\x
 const PCR: &[u8] = b"\x09\x3c\xeb\x41\x18\x1d\x47\x80\x88\x62\xd7\x94\x62\x68\xee\x6a\
     \x17\xa1\x0e\x3d\x1b\x79\xb3\x23\x51\xbc\x56\xe4\xbe\xac\xef\xf0";
 
-/// The hash of 32 zeros.
+/// The SHA-256 digest of 32 zero bytes.
 const ZEROS_HASH: &[u8] = b"\x66\x68\x7a\xad\xf8\x62\xbd\x77\x6c\x8f\xc1\x8b\x8e\x9f\x8e\x20\
     \x08\x97\x14\x85\x6e\xe2\x33\xb3\x90\x2a\x59\x1d\x0d\x5f\x29\x25";
 
@@ -117,8 +117,8 @@ fn either_branch_leads_to_one_digest(rt: HostRuntime) {
     check(&rt, state.digest(), OR);
 }
 
-/// Asserts PCR 0 (with pcrUpdateCounter 7), TPM2_GetRandom, its cpHash, a written index, and
-/// locality 0.
+/// Asserts PCR 0 (with pcrUpdateCounter 7), TPM2_GetRandom, the endorsement secret, a cpHash, a
+/// written index, and locality 0.
 fn assert_all(state: &mut PolicyState, selection: &PcrSelection) -> Result<(), ActionFault> {
     let name = Name::of_handle(Handle::ENDORSEMENT);
     state.pcr(HashAlg::Sha256, false, &pcr(selection))?;

@@ -29,7 +29,8 @@ const DIGESTS: &[u8] = b"\x00\x00\x00\x02\
     \x00\x0b\x02\x02\x02\x02\x02\x02\x02\x02\x02\x02\x02\x02\x02\x02\x02\x02\
     \x02\x02\x02\x02\x02\x02\x02\x02\x02\x02\x02\x02\x02\x02\x02\x02";
 
-/// Response codes that contain the number of a parameter, handle or session, and others.
+/// Response codes: five contain the number of a parameter, session or handle, and the last does
+/// not.
 fn placed_codes() -> [(Rc, u32); 6] {
     [
         (ResponseCode::Value.anywhere().at_parameter(1), 0x1c4),
@@ -198,7 +199,7 @@ fn rewritten_command(buffer: &[u8]) -> Option<ArrayVec<u8, 32>> {
     Some(sink.into_bytes())
 }
 
-/// The PCR selection decoded from a text, and encoded again.
+/// The PCR selection decoded from these bytes, and encoded again.
 fn rewritten_selection(text: &[u8]) -> Option<ArrayVec<u8, 10>> {
     let Ok(selection) = PcrSelection::read(&mut Cursor::new(text)) else {
         return None;
@@ -210,7 +211,7 @@ fn rewritten_selection(text: &[u8]) -> Option<ArrayVec<u8, 10>> {
     Some(sink.into_bytes())
 }
 
-/// The digests decoded from a text, and encoded again.
+/// The digests decoded from these bytes, and encoded again.
 fn rewritten_digests(text: &[u8]) -> Option<ArrayVec<u8, 62>> {
     let Ok(digests) = DigestValues::read(&mut Cursor::new(text)) else {
         return None;
@@ -222,7 +223,7 @@ fn rewritten_digests(text: &[u8]) -> Option<ArrayVec<u8, 62>> {
     Some(sink.into_bytes())
 }
 
-/// Whether `bytes` exists and equals this text.
+/// Whether `bytes` is present and equals `text`.
 fn is_text<const N: usize>(bytes: Option<ArrayVec<u8, N>>, text: &[u8]) -> bool {
     match bytes {
         Some(bytes) => bytes.as_slice() == text,
@@ -241,7 +242,7 @@ fn what_is_read_is_written_so(rt: HostRuntime) {
     check(&rt, is_text(rewritten_digests(DIGESTS), DIGESTS), true);
 }
 
-/// Whether a text encodes a PCR selection of these banks.
+/// Whether these bytes encode a PCR selection with these banks.
 fn has_banks(text: &[u8], banks: &[BankSelection]) -> bool {
     match PcrSelection::read(&mut Cursor::new(text)) {
         Ok(selection) => selection.banks.as_slice() == banks,
@@ -249,7 +250,7 @@ fn has_banks(text: &[u8], banks: &[BankSelection]) -> bool {
     }
 }
 
-/// Whether a text encodes these digests.
+/// Whether these bytes encode these digests.
 fn has_digests(text: &[u8], values: &[DigestValue]) -> bool {
     match DigestValues::read(&mut Cursor::new(text)) {
         Ok(digests) => digests.values.as_slice() == values,

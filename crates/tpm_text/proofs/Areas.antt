@@ -19,11 +19,11 @@ pub no_area : (old : Option (List ℕ)) → (let none : Option (List ℕ) = None
 unfolding with_area
 no_area old = refl
 
--- The size of a draft's text is the number of bytes written.
+-- The size of a draft's contents is the number of bytes written.
 pub taken_size : (draft : Draft) (size : ℕ) → draft.used ≡ Some size → length (take size draft.bytes) ≡ size
 taken_size draft size e = let small = draft.within size e in length-take-le size draft.bytes (omega (arith, small, draft.capacity))
 
--- If a header overwrites the first ten bytes, the text consists of the header and the bytes after
+-- If a header overwrites the first ten bytes, the result consists of the header and the bytes after
 -- the first ten.
 pub headed : (header bytes : List ℕ) (size : ℕ) → length header ≡ 10 → 10 ≤ size → take size (header ++ drop 10 bytes) ≡ header ++ drop 10 (take size bytes)
 headed header bytes size ten large =

@@ -30,7 +30,7 @@ unfoldable pub finished : Tag → CommandCode → Option (List ℕ) → Result (
 finished tag code None = Err TooLong
 finished tag code (Some text) = Ok (header_text tag (length text) code ++ drop 10 text)
 
--- A call appended to the draft the text that its definition returns, or failed with the
+-- A call appended to the draft the bytes that its definition returns, or failed with the
 -- definition's fault.
 abbrev pub Drafts : {E : Type 0}
     → Result (List ℕ) E → Option (List ℕ) → Result (Unit {0}) E → Option (List ℕ) → Type 0

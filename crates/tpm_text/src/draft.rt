@@ -65,7 +65,7 @@ impl Draft {
         self.used = Some(end);
     }
 
-    /// Decodes hex digits and adds their bytes. The fault is Bad if the text is not hex.
+    /// Decodes hex digits and adds their bytes. The fault is Bad if the digits are not valid hex.
     #[tactic(auto, unfolding(crate::specs::Draft::grown))]
     pub fn put_hex(&mut self, digits: &[u8]) -> Result<(), TokenFault>
         ensures { Drafts (hex_in digits.now) (drafted self.old) result (drafted self.new) }

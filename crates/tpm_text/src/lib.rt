@@ -12,8 +12,8 @@
 //! response code.
 //!
 //! The crate uses `tpm_commands` for the shapes of commands, and `tpm_step` for events. Each call
-//! equals its definition in `specs/`: a line becomes the buffer of the command that it encodes,
-//! which is read back as that command; or the result is the line's first fault.
+//! has the result that `specs/` defines: a line becomes the buffer of the command that it encodes,
+//! and parsing the buffer yields that command; or the result is the line's first fault.
 
 mod digits;
 pub mod draft;

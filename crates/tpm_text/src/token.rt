@@ -52,7 +52,7 @@ pub struct Tokens<'a> {
 impl<'a> Token<'a> {
     ghost use Rattle.tpm_text.specs.Fault.{at_column};
 
-    /// Returns the result of reading this token. Adds the token's column to a fault.
+    /// Returns the result of reading this token. If it is a fault, adds the token's column.
     pub fn told<T>(self, read: Result<T, TokenFault>) -> Result<T, AsmFault>
         ensures { result ≡ at_column self.entry.column read }
     {

@@ -90,7 +90,8 @@ completes done rest byte is = rw is refl
 length-one : (rest : List ℕ) (byte : ℕ) → length (rest ++ byte ∷ []) ≡ length rest + 1
 length-one rest byte = length-append rest (byte ∷ [])
 
--- If more bytes of a stream complete no buffer, its cut contains the same buffers as before.
+-- If more bytes of a stream complete no buffer, the stream's cut contains the same buffers as
+-- before.
 grows : (done : List (List ℕ)) (rest more all : List ℕ) → rest ++ more ≡ all → ((n : ℕ) → buffer_size all ≡ Some n → length all < n) → fold with_byte (begun done rest) more ≡ begun done all
 grows done rest [] all is less = ap (begun done) (sym (append-nil rest) ∙ is)
 grows done rest (byte ∷ more) all is less =
@@ -120,8 +121,8 @@ ends_here done grown more all n same here six =
     let last : is_last all ≡ is_last grown = rw (← same) (last_shorter grown more (omega (arith, here, six))) in
     rw (front, behind, last) refl
 
--- If more bytes of a stream complete a buffer, its cut also contains that buffer and the buffers
--- after it.
+-- If more bytes of a stream complete a buffer, the stream's cut also contains that buffer and the
+-- buffers after it.
 completed : (done : List (List ℕ)) (rest more all : List ℕ) (n : ℕ) → rest ++ more ≡ all → buffer_size all ≡ Some n → length rest < n → n ≤ length all → fold with_byte (begun done rest) more ≡ fold with_byte (uncut (done ++ take n all ∷ []) (is_last all)) (drop n all)
 completed done rest [] all n is size less fits = absurd (omega (arith, ap length is, length-append rest []))
 completed done rest (byte ∷ more) all n is size less fits =
@@ -219,8 +220,8 @@ size_known (t ∷ u ∷ a ∷ []) is = omega arith
 size_known (t ∷ u ∷ a ∷ b ∷ []) is = omega arith
 size_known (t ∷ u ∷ a ∷ b ∷ c ∷ []) is = omega arith
 
--- If a stream has not ended and its next buffer is not complete, it can store at least one more
--- byte.
+-- If a stream has not ended and its next buffer is not complete, the stream can store at least one
+-- more byte.
 pub next_room : (s : Stream) → next_of s ≡ None → s.ended ≡ false → length s.taken < buffer_limit
 next_room s none lives = by s.ended s.taken (buffer_size s.taken) refl none lives
   where
@@ -249,8 +250,8 @@ next_shorter s c is = by s.ended s.taken (buffer_size s.taken) refl is
 
 -- ---- reading more bytes of a stream
 
--- Cutting a stream and then adding bytes to its cut has the same result as cutting the stream with
--- these bytes.
+-- Cutting a stream and then adding bytes to its cut has the same result as first adding the bytes
+-- to the stream.
 pub cut_fed : (done : List (List ℕ)) (s : Stream) (bytes : List ℕ) → fold with_byte (cut_with done s) bytes ≡ cut_with done (fed s bytes)
 cut_fed done s bytes = sym (fold-append with_byte (uncut done s.ended) s.taken bytes)
 

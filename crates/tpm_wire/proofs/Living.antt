@@ -62,7 +62,7 @@ life_of stream (Some l) served = (l, refl, served)
 life_at : (streams : List (Option Stream)) (lives : List (Option Life)) (n : ℕ) (s : Stream) → Serve streams lives → at_place streams n ≡ Some s → (l : Life) × (at_place lives n ≡ Some l) × IsServed (Some s) (Some l)
 life_at streams lives n s so is = life_of s (at_place lives n) (subst (λ (x : Option Stream). IsServed x (at_place lives n)) is (so.each n))
 
--- The event leads from the old record to the new one. The old record need not be that of a device.
+-- The event changes the old record to the new one. The old record need not be that of a device.
 abbrev Happens : Bool → Record → Event → Record → Type 0
 Happens can old (Executed plain_event outcome) new = Executes can old plain_event (outcome_step new outcome)
 Happens can old PowerCycled new = new ≡ cycled old
@@ -220,8 +220,8 @@ none_served (suc n) (suc number) = none_served n number
 new_served : (r : Record) → Serve (new_wire r).streams (free 8)
 new_served r = record { many = refl; each = none_served 8 }
 
--- After every schedule of calls on a new mux, the machine has the state to which the schedule's
--- events lead, and `Serve` holds for its connections.
+-- After every schedule of calls on a new mux, the machine's state is the result of the schedule's
+-- events, and `Serve` holds for its connections.
 led_anew : (can : Bool) (r : Record) (calls : List Call) (new : Wire) → Schedules can (new_wire r) calls new → Led can (new_wire r) new (lives_after_all (free 8) calls) (events_in (free 8) calls)
 led_anew can r calls new run = schedule_led can (new_wire r) new (free 8) calls (new_served r) run
 
@@ -244,7 +244,7 @@ executions_of can old new (PowerCycled ∷ events) is run =
     let (executions, are, leads) = executions_of can (cycled old) new events executes.is_record others in
     (power_cycle old ∷ executions, (refl, are), (refl, executes, leads))
 
--- After every schedule of calls, the machine has the record to which the schedule's events lead.
+-- After every schedule of calls, the machine's record is the result of the schedule's events.
 pub schedules_lead : SchedulesLead
 schedules_lead can r calls new is run =
     let (executions, are, leads) = executions_of can r new.machine (events_in (free 8) calls) is (led_anew can r calls new run).machine in

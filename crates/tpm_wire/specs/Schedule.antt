@@ -112,7 +112,7 @@ IsOf (Executed plain_event outcome) one =
 IsOf PowerCycled one = one.event ≡ Cycled
 
 -- These events were executed in order, and led from the old record to the new one. If the old
--- record follows a history, they satisfy `StretchFollows` after that history.
+-- record follows a history, the executions satisfy `StretchFollows` after that history.
 pub record EventsLead (can : Bool) (old : Record) (events : List Event) (new : Record) : Type 0
   where
     pub executions : List Execution
@@ -121,8 +121,8 @@ pub record EventsLead (can : Bool) (old : Record) (events : List Event) (new : R
     pub stretch : (history : History) → Follows old history
         → StretchFollows can old executions new history
 
--- After every schedule of calls on a new mux, the machine has the record to which the schedule's
--- events lead.
+-- After every schedule of calls on a new mux, the machine's record is the result of the schedule's
+-- events.
 abbrev pub SchedulesLead : Type 0
 SchedulesLead = (can : Bool) (r : Record) (calls : List Call) (new : Wire)
     → IsRecord r → Schedules can (new_wire r) calls new

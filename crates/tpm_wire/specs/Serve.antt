@@ -47,19 +47,19 @@ abbrev pub Asks : {F : Type 0} → Asking F → F → Execution → F → Type 0
 Asks g old one new =
     (host : Host) × Called g old tt (Ok host) new × (one.event ≡ given (buffer_in one.event) host)
 
--- The host was asked once for each of these executions, in order.
+-- For each of these executions, in order, the host was asked once for its values.
 abbrev pub AsksForEach : {F : Type 0} → Asking F → F → List Execution → F → Type 0
 AsksForEach g old executions new = FoldsTo (Asks g) old executions new
 
--- The host was asked once for each of these executions, in order, and then once more, when it
--- returned a fault.
+-- For each of these executions, in order, the host was asked once for its values. Then it was asked
+-- once more, and returned a fault.
 abbrev pub AsksInVain : {F : Type 0} → Asking F → F → List Execution → F → Type 0
 AsksInVain {F} g old executions new =
     (last : F) × AsksForEach g old executions last × (e : HostFault) × Called g last tt (Err e) new
 
 -- ---- the steps of serving
 
--- One read into a stream was made. It could use the whole free part of the stream's buffer.
+-- One read into a stream was made. It requested as many bytes as still fit into the stream.
 abbrev pub Fills : Option (List ℕ) → Option (List ℕ) → Marks → Marks
     → Stream → Result ℕ Failed → Stream → Type 0
 Fills had has before after old (Err failed) new =
@@ -126,9 +126,9 @@ AreFirst done buffers = (others : List (List ℕ)) × (buffers ≡ done ++ other
 abbrev pub room_left : Cutting → ℕ
 room_left cut = buffer_limit - length cut.rest
 
--- One read returned a piece of the stream: at least one byte, and at most the bytes that fit. The
--- stream had not ended with the bytes read before. All complete buffers in the bytes read before
--- are among those executed.
+-- One read returned a piece of the stream: at least one byte, and at most as many as fit. The bytes
+-- read earlier do not end the stream, and all complete buffers in them are among the buffers
+-- executed.
 abbrev pub ReadsPiece : (done : List (List ℕ)) → (old piece new : List ℕ) → Type 0
 ReadsPiece done old piece new =
     (new ≡ old ++ piece) × (0 < length piece) × (length piece ≤ room_left (cut_of old))
@@ -141,14 +141,13 @@ abbrev pub AreFewer : List (List ℕ) → List (List ℕ) → Type 0
 AreFewer done buffers =
     (next : List ℕ) × (others : List (List ℕ)) × (buffers ≡ done ++ next ∷ others)
 
--- The reader ended at a read that could use the whole free part of the buffer; or the stream
--- ended.
+-- The reader was at its end when a read requested as many bytes as fit; or the stream ended.
 abbrev pub IsAtEnd : Marks → Cutting → Type 0
 IsAtEnd reader cut =
     ((reader.ended ≡ true) × (reader.room ≡ room_left cut)) ⊎ (cut.ended ≡ true)
 
--- The reader failed at a read that could use the whole free part of the buffer; or the connection
--- reached its limit on reads that return bytes.
+-- The reader failed when a read requested as many bytes as fit; or the connection reached its limit
+-- on reads that return bytes.
 abbrev pub ReadsNoMore : Marks → Cutting → Type 0
 ReadsNoMore reader cut =
     ((reader.failed ≡ true) × (reader.room ≡ room_left cut)) ⊎ (reader.reads ≡ 1048576)
@@ -184,7 +183,7 @@ Ends g held holds reader writer cut asked executions asking (Err fault.Full) = �
 
 -- A connection was served: pieces were read from the reader, each in one read, within the limit on
 -- reads for one connection. The pieces are joined and cut into buffers, and the first of these
--- buffers were executed. The executions lead from the old record to the new one. If the old record
+-- buffers were executed. The executions change the old record to the new one. If the old record
 -- follows a history, the executions satisfy `StretchFollows` after it. `Ends` defines how serving
 -- ended.
 pub record Serves {F : Type 0} (g : Asking F) (can : Bool) (had has held holds : Option (List ℕ))

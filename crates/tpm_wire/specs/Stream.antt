@@ -92,7 +92,7 @@ pub record Cut : Type 0 where
   pub buffer : List ℕ
   pub after : Stream
 
--- cuts off the first `size` bytes as a buffer, which may be the last one
+-- cuts off the first `size` bytes as a buffer; `last` says whether it is the last one
 abbrev pub cut_at : ℕ → Bool → List ℕ → Cut
 cut_at size last bytes = record {
   buffer = take size bytes;

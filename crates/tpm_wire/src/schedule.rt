@@ -4,9 +4,9 @@
 ghost use Rattle.tpm_wire.specs.Schedule.{SchedulesAreRuns, SchedulesAreServed, SchedulesLead};
 
 /// For any calls on a new mux, in any order: each connection's turns execute the buffers that its
-/// own bytes are cut into, in order, each once. The machine's state is the one to which these
-/// buffers and the power cycles lead, and the laws about sequences of events hold for them. The
-/// function is only a proof, and has no effect at run time.
+/// own bytes are cut into, in order, each once. The machine's state is the result of these buffers
+/// and the power cycles, which satisfy the laws about sequences of events. The function is only a
+/// proof, and has no effect at run time.
 pub fn schedule_laws()
     ensures leads { SchedulesLead }
     ensures served { SchedulesAreServed }

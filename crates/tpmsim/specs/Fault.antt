@@ -31,11 +31,11 @@ use Rattle.tpmsim.specs.declared.kept.stop.PlayFault.TheVariants as play
 use Rattle.tpmsim_script.specs.declared.fault.ScriptFault.{ScriptFault}
 use Rattle.tpmsim_script.specs.declared.fault.ScriptFault.TheVariants.{Line, Read, TooManyLines, Write, Save, NoMemory}
 
--- the cause that concerns a subject, without a system error
+-- the cause with this subject and without a system error
 abbrev pub alone : Subject → Cause
 alone subject = record { subject = subject; error = None }
 
--- a fault with the number of a system error, if the fault has a cause
+-- the fault with the number of a system error added to its cause; unchanged if it has no cause
 abbrev pub with_cause : Fault → Error → Fault
 with_cause (File cause) error = File (with_error cause error)
 with_cause (Socket cause) error = Socket (with_error cause error)

@@ -5,8 +5,8 @@ use Rattle.tpm_state_text.specs.State.{state_of_text}
 use Rattle.tpmsim.specs.declared.fault.Fault.{Fault}
 use Rattle.tpmsim.specs.declared.fault.Fault.TheVariants.{State}
 
--- If the check of a text succeeds, the text is the state text of a device. Otherwise its result is
--- the first fault of the text, or a fault that the system caused.
+-- If the check succeeds, the bytes are the state text of a device. Otherwise the result is their
+-- first fault, or a fault that the system caused.
 abbrev pub IsChecked : List ℕ → Result (Unit {0}) Fault → Type 0
 IsChecked text (Ok done) = (state : WholeState) × (state_of_text text ≡ Ok state)
 IsChecked text (Err (State fault)) = state_of_text text ≡ Err fault

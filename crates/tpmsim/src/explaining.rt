@@ -43,7 +43,7 @@ fn is_asked(rt: &HostRuntime) -> bool {
     }
 }
 
-/// Prints a path, and the system's text for the error with this number.
+/// Prints a path, and the system's message for the error with this number.
 fn print(rt: &HostRuntime, path: Path<'_>, error: Option<i32>) {
     let Path { front, back } = path;
     let _ = match error {

@@ -99,7 +99,8 @@ impl Fault {
         }
     }
 
-    /// Returns the same fault with the number of a system error, if the fault has a cause.
+    /// Adds the number of a system error to the fault's cause. A fault without a cause is
+    /// unchanged.
     fn with(self, error: &io::Error) -> Fault
         ensures { result ≡ with_cause self error.now }
     {

@@ -61,8 +61,8 @@ fn open_or_begin(kept: &mut Kept<'_>, entropy: &mut Entropy) -> Result<(), Fault
     Ok(kept.open()?)
 }
 
-/// Returns when the journal is synced to disk: before each response if the device must be saved by
-/// then, otherwise when the journal is restarted.
+/// Returns when the journal is synced to disk: before each response with `--save-each`, otherwise
+/// only when the journal is restarted.
 fn force_of(service: &Service) -> Force {
     if service.saves_each {
         Force::Always

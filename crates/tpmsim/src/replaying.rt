@@ -55,7 +55,7 @@ fn fault_of(fault: RetellFault, text: &[u8]) -> Fault {
     }
 }
 
-/// Returns the number, counted from 1, of the line that begins at an offset of a text.
+/// Returns the number, counted from 1, of the line that begins at offset `place`.
 fn line_at(text: &[u8], place: usize) -> u64 {
     let mut line: u64 = 1;
     for byte in text.get(..place).unwrap_or(text) {

@@ -24,8 +24,8 @@ pub fn print_snapshot(rt: &HostRuntime, folder: &str) -> Result<(), Fault> {
 }
 
 /// Replaces the device in a folder with the device of a state text in a file, or creates the device
-/// if there is none. Keeps `past` finished journals in the folder. A text that is refused leaves
-/// the folder unchanged.
+/// if there is none. Keeps `past` finished journals in the folder. If the text is refused, the
+/// folder stays unchanged.
 pub fn restore_snapshot(
     rt: &HostRuntime,
     folder: &str,
@@ -38,7 +38,7 @@ pub fn restore_snapshot(
     Ok(kept.restore(text.as_slice())?)
 }
 
-/// Checks that a text is a state text.
+/// Checks that these bytes are a state text.
 fn check(rt: &HostRuntime, text: &[u8]) -> Result<(), Fault>
     ensures { IsChecked text.now result }
 {

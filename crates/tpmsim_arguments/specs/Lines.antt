@@ -7,7 +7,7 @@ use Rattle.tpm_number.specs.Number.{decimal_of}
 use Rattle.tpmsim_arguments.specs.Answers.{AreTaken}
 use Rattle.tpmsim_arguments.specs.Invocation.{Invocation, Kept, asked_by, in_image, in_state, serve}
 
--- clap accepts these words, and they request this.
+-- clap accepts these words, and they make this request.
 abbrev pub AskFor : List Text → Invocation → Type 0
 AskFor words asked = AreTaken words × (asked_by words ≡ Some asked)
 
@@ -165,9 +165,9 @@ AskForService words socket place log entropy locality connections saves_each = (
 abbrev pub AskForNothing : List Text → Type 0
 AskForNothing words = AreTaken words × (asked_by words ≡ None)
 
--- These words request to serve the device in this folder, where this many finished journals stay,
--- with the system's random bytes, locality 0, and no limit on connections. `completes` says whether
--- the completing layer is on.
+-- These words request to serve the device in this folder, with the system's random bytes, locality
+-- 0, and no limit on connections. This many finished journals (`past`) stay in the folder.
+-- `completes` says whether the completing layer is on.
 abbrev pub AskForFolder : (words : List Text) (socket state : Text) (past : ℕ) (completes : Bool)
     → Type 0
 AskForFolder words socket state past completes = AskFor words (serve (record {

@@ -187,8 +187,8 @@ fn run_of<'a>(options: &ArgMatches<'a>) -> Option<Arguments<'a>>
     })
 }
 
-/// Returns the script that the matches of `run` name. If they name none, a device with its state in
-/// a folder plays standard input.
+/// Returns the script that the matches of `run` name. If they name none and the device's state is
+/// in a folder, the script is standard input.
 fn script_of<'a>(options: &ArgMatches<'a>) -> Option<&'a str>
     ensures { option_map (λ text. text.now) result ≡ script_in (rows_of (found_of options.now)) }
 {

@@ -95,7 +95,8 @@ impl DeviceFault {
         }
     }
 
-    /// Returns the same fault with the number of a system error, if the fault has a cause.
+    /// Adds the number of a system error to the fault's cause. A fault without a cause is
+    /// unchanged.
     fn with(self, error: &io::Error) -> DeviceFault
         ensures { result ≡ with_cause self error.now }
     {

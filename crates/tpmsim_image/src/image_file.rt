@@ -14,9 +14,9 @@ use tpm_machine::Machine;
 use tpm_record::Keep;
 use tpm_slots::SlotKeep;
 
-/// The file of an image, which no other run can use while this value exists. It contains all paths
-/// that a save needs. Therefore a save allocates no memory, and a served device is not lost if
-/// memory runs out.
+/// The file of an image, which no other run can use while this value exists. The value contains all
+/// paths that a save needs. Therefore a save allocates no memory, and a served device is not lost
+/// if memory runs out.
 #[derive(Drop)]
 pub struct ImageFile<'a> {
     path: &'a str,

@@ -32,17 +32,17 @@ use tpm_machine::{Machine, Unsaved, Witness};
 use tpm_record::Keep;
 use tpm_step::{Event, Outcome};
 
-/// The size of a buffer for a head.
+/// The size of the buffer for a log's head.
 const HEAD_ROOM: usize = 57_472;
 
 /// A log. After a write has failed, nothing more is added.
 #[derive(Drop)]
 pub struct Log<W> {
     pub(crate) writer: Tap<W>,
-    /// The checksum of all marks so far, of the head and the entries.
+    /// The checksum of the marks of the head and of all entries so far.
     pub(crate) sum: u64,
     pub(crate) failed: bool,
-    /// The buffer for the text of an entry. The text is written in one write.
+    /// The buffer for an entry, which is written in one write.
     pub(crate) room: [u8; ENTRY_ROOM],
 }
 
@@ -77,7 +77,7 @@ impl<W: Write + Drop> Log<W> {
 }
 
 /// Encodes the image of a device: returns the head of the image, and writes the rest to `text`,
-/// which is empty.
+/// which must be empty.
 fn write_image<K: Keep>(machine: &Machine<K>, text: &mut Text) -> Sink<10>
     requires { text.old ≡ [] }
     ensures image { result ++ text.new

@@ -9,8 +9,8 @@ use std::time::{SystemTime, UNIX_EPOCH};
 use tpm_machine::Machine;
 use tpm_record::Keep;
 
-/// Creates the file of a log at this path, which must not exist yet, not even as a link, and begins
-/// the log of a device at power-on.
+/// Creates the file of a log at this path, and begins the log of a device at power-on. Nothing may
+/// exist at the path yet, not even a link.
 pub fn begin_log<K: Keep>(
     rt: &HostRuntime,
     path: &str,

@@ -95,8 +95,8 @@ fn serve_connections<K: Keep>(
 }
 
 /// Saves the device with its clock after a connection. Returns a fault if the program has to end.
-/// If a command was not answered because the log or the image was not written, a device that is
-/// saved before each response is not saved again: the image already contains the effects of all
+/// Does not save again if the device is saved before each response and a command was not answered
+/// because a write of the log or image failed: the image already contains the effects of all
 /// answered commands.
 fn save_after<K: Keep>(
     served: Result<u64, ServeFault>,

@@ -85,14 +85,14 @@ fn identity_at(rt: &HostRuntime, path: &str) -> io::Result<Identity> {
     })
 }
 
-/// Creates a socket at this path, which only its owner can use from its creation on. Replaces an
+/// Creates a socket at this path. From its creation on, only its owner can use it. Replaces an
 /// existing socket at which nobody answers.
 pub fn bind(rt: &HostRuntime, path: &str) -> Result<Socket, DeviceFault> {
     DeviceFault::Socket(Subject::Socket.alone()).unless(bind_aside(rt, path))
 }
 
-/// Binds a socket in a folder next to the path, which nobody else can enter, and moves the socket
-/// to the path when it is ready.
+/// Binds a socket next to the path, in a folder that nobody else can enter, and moves the socket to
+/// the path when it is ready.
 fn bind_aside(rt: &HostRuntime, path: &str) -> io::Result<Socket> {
     SocketAddr::from_pathname(path)?;
     let front = folder_of(path);

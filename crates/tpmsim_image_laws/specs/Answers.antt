@@ -21,7 +21,7 @@ abbrev pub IsExecuted : Bool → Event → Type 0
 IsExecuted can (Executed event outcome) = HasOutcome can event outcome
 IsExecuted can PowerCycled = Unit {0}
 
--- Each answer that a connection gets is the outcome of executing its buffer.
+-- Each answer on a connection is the outcome of executing a buffer of that connection.
 abbrev pub AnswersAreOutcomes : Type 0
 AnswersAreOutcomes = (can : Bool) (r : Record) (calls : List Call) (new : Wire)
     → IsRecord r → Schedules can (new_wire r) calls new

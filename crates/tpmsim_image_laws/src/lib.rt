@@ -17,7 +17,7 @@ pub fn stopwatch_laws()
     ensures { TellsNoTimeTwice }
 {}
 
-/// Each answer that a connection gets is the outcome of executing its buffer.
+/// Each answer on a connection is the outcome of executing a buffer of that connection.
 #[inline(always)]
 #[tactic(auto, using(crate::proofs::Answers::answers_are_outcomes))]
 pub fn answer_laws()

@@ -97,8 +97,8 @@ found_too_long line rest more at h e long =
 pub found_more : (line rest : List ℕ) → IsUnbroken line → position is_break rest ≡ None → IsUnbroken (line ++ rest)
 found_more line rest h e = All-append IsWithin line rest h (no_break rest e)
 
--- If the line with all bytes that were read contains no 0a and has more than 65,536 bytes, it is
--- too long.
+-- If the line so far and all bytes that were read contain no 0a and have more than 65,536 bytes
+-- together, the line is too long.
 pub found_no_end : (line rest more : List ℕ) → IsUnbroken line → position is_break rest ≡ None → 65536 < length line + length rest → BeginsTooLong (line ++ (rest ++ more))
 found_no_end line rest more h e long =
     let whole = found_more line rest h e in

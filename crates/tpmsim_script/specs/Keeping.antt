@@ -1,5 +1,5 @@
--- How the device of a script is kept: the saver is notified of the device line by line, and only
--- the output of lines that were played is written.
+-- How a run saves its device: the saver is notified after each command and each power cycle, and
+-- only the output of lines that were played is written.
 use Rattle.std.specs.Prelude.{◌≡◌, ℕ, ◌+◌, Bool, true, false, List, [], ◌∷◌, ◌++◌, length}
 use Rattle.std.specs.Prelude.{Option, Some, None, IfSome, Result, Ok, Err}
 use Rattle.std.specs.Io.KnownBytes.{Appends, append_known}
@@ -31,8 +31,8 @@ Tells saves saves_change (Some (ExecutesWords words)) device old new = saves_cha
 Tells saves saves_change (Some CyclesPower) device old new = saves old device new
 Tells saves saves_change other device old new = new ≡ old
 
--- A line was played: the line is not bad and prints this text, and the saver was notified of the
--- line.
+-- A line was played: the line is not bad and prints this text, and the saver was notified as
+-- `Tells` defines.
 pub record PlaysLine {S : Type 0} (saves saves_change : S → Record → S → Type 0)
     (old : Kept S) (line text : List ℕ) (new : Kept S) : Type 0 where
   pub performed : perform_line old.playing line ≡ Some (record { text = text; next = new.playing })
@@ -56,8 +56,8 @@ Counts other count = Unit {0}
 
 -- The lines that a run has not played. If the run ended well, there are none. If it stopped at a
 -- bad line, they are that line and all later ones. If the reader failed, they are the line that it
--- had begun to return and all later ones (`left` is the text that the reader has not returned). If
--- there were too many lines, at least one was not played.
+-- had begun to return and all later ones; `left` is the text that it has not returned. If there
+-- were too many lines, at least one was not played.
 abbrev pub Leaves : Result (Unit {0}) ScriptFault → (left : Option (List ℕ)) → Playing
     → List (List ℕ) → Type 0
 Leaves (Ok done) left p rest = rest ≡ []
@@ -91,10 +91,10 @@ pub record Played {S : Type 0} (saves saves_change : S → Record → S → Type
   pub written : Writes result old new print
   pub last : Last end
 
--- A run kept its device: the output is that of the played lines, and the saver was notified of each
--- of them. The state after these lines satisfies `Last`. If a save failed at a line, that line does
--- not count as played, and none of its output was written. In that case `Last` is not claimed, and
--- if the writer failed too, the output is unspecified.
+-- A run saved its device: the output is that of the played lines, and the saver was notified as
+-- `Tells` defines. The state after these lines satisfies `Last`. If a save failed at a line, that
+-- line does not count as played, and none of its output was written. In that case `Last` is not
+-- claimed, and if the writer failed too, the output is unspecified.
 abbrev pub KeepsDevice : {S : Type 0} → (saves saves_change : S → Record → S → Type 0)
     → (text left old new : Option (List ℕ)) → (writer : Marks) → Kept S
     → Result (Unit {0}) ScriptFault → (Last : Kept S → Type 0) → Type 0

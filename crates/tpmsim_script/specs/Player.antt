@@ -31,7 +31,7 @@ Did line old before (Err Write) new after =
 Did line old before (Err Save) new after = new ≡ old
 
 -- If a line had its effect, the saver was notified. If the line is bad, the saver is unchanged. If
--- a save failed, the saver is unspecified.
+-- a save failed, the saver's state is unspecified.
 abbrev pub Told : {S : Type 0} → (S → Type 0) → S → Result (Unit {0}) LineFault → S → Type 0
 Told tells old (Ok done) new = tells new
 Told tells old (Err Bad) new = new ≡ old

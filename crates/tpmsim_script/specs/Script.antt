@@ -158,9 +158,9 @@ abbrev pub IsOutput : Option (List ℕ) → Option (List ℕ) → Option ℕ →
 IsOutput old new bad output = Appends old new output.text × (output.bad ≡ bad)
 
 -- A run wrote, after the old contents of the writer (`old`), the output of the lines of the text,
--- played from `p` on; `number` is the number of the first line. `bad` is the number of the first
--- bad line, if any. Nothing is claimed if the text that the reader returns is unknown. Nothing is
--- claimed about the output if the writer's contents are unknown.
+-- played from the state `p` on; `number` is the number of the first line. `bad` is the number of
+-- the first bad line, if any. Nothing is claimed if the text that the reader returns is unknown.
+-- Nothing is claimed about the output if the writer's contents are unknown.
 abbrev pub Plays : Option (List ℕ) → Option (List ℕ) → Option (List ℕ)
     → Playing → ℕ → Option ℕ → Type 0
 Plays None old new p number bad = Unit {0}

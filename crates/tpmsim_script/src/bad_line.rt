@@ -22,7 +22,7 @@ pub enum Wanted {
     Hex,
     /// The number of a locality.
     Locality,
-    /// A number of milliseconds. The waits before a command must be below 2^32 in total.
+    /// A number of milliseconds. The waits before a command must add up to less than 2^32.
     Milliseconds,
     /// Random bytes in hex.
     Entropy,

@@ -91,7 +91,7 @@ impl Lines {
     }
 
     /// Moves the next bytes to the line, up to the end of the line. If the bytes that were read do
-    /// not contain it, moves all of them.
+    /// not contain that end, moves all of them.
     pub fn find(&mut self) -> Next
         requires { IsUnbroken (line_of self.old) }
         ensures found { Finds self.old result self.new }
@@ -152,8 +152,8 @@ impl Lines {
         }
     }
 
-    /// Reads more bytes, with one read of the reader. All output must have been written before: the
-    /// author of a script may need it to write the next line.
+    /// Reads more bytes, with one read of the reader. All output must have been written before the
+    /// call: the author of a script may need it to write the next line.
     pub fn fill<R: Read>(&mut self, reader: &mut Tap<R>, _answers: &Answers) -> Result<(), Failed>
         requires rest { rest_of self.old ≡ [] }
         requires written { backlog _answers.now ≡ [] }

@@ -29,8 +29,8 @@ use tpm_record::Keep;
 use tpm_step::{Event, Outcome};
 use tpm_text::{trace_text, traceable_laws};
 
-/// A device, generic in the type that keeps its state, and the values that the script's lines
-/// have set for its next command.
+/// A device whose state is a `K`, and the values that the script's lines have set for its next
+/// command.
 #[derive(Drop)]
 pub struct Player<K: Keep> {
     /// Whether the trace of each event is printed.

@@ -106,8 +106,9 @@ pub fn run_device<K: Keep, S: Saver, R: Read, W: Write>(
         (W.contents (device_of writer.old)) (W.contents (device_of writer.new))
         (at_first trace (state_of K.record_of machine))) }
 
-    // The saver was notified of the device at each line that was played, and once more after the
-    // last line. The output is what these lines print, up to the first line at which a save failed.
+    // The saver was notified of the device after each command and power cycle that was played, and
+    // once more after the last line. The output is what these lines print, up to the first line at
+    // which a save failed.
     ensures kept { K.can_refuse ≡ false → KeepsDevice S.saves S.saves_change
         (R.remaining (device_of reader.old)) (R.remaining (device_of reader.new))
         (W.contents (device_of writer.old)) (W.contents (device_of writer.new))

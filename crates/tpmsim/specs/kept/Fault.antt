@@ -28,11 +28,11 @@ said_of_opening (opening.Image fault) = said.HoldsNoImage
 said_of_opening (opening.State fault) = said_of_state fault
 said_of_opening (opening.Follow fault) = said_of_following fault
 
--- A text cannot be opened as a journal, because of this fault.
+-- These bytes cannot be opened as a journal, because of this fault.
 abbrev pub HasFault : List ℕ → OpenFault → Type 0
 HasFault text fault = (new : Record) × OpensJournal text (Err fault) new
 
--- The report says why a text is not a journal. If the text is a journal, the report says that an
+-- The report says why these bytes are not a journal. If they are one, the report says that an
 -- earlier attempt found it damaged. The report may also say that an allocation failed.
 abbrev pub IsSaidOf : List ℕ → Said → Type 0
 IsSaidOf text words =

@@ -27,7 +27,7 @@ pub struct Kept<'a> {
     rt: &'a HostRuntime,
     host: Host<'a>,
     keeper: Keeper<KeptDevice>,
-    /// The text of the journal when it was last opened.
+    /// The contents of the journal when it was last opened.
     journal: Vec<u8>,
     /// The part of the old journal that the device did not execute, when a new journal replaces it.
     tail: Tail,
@@ -36,7 +36,7 @@ pub struct Kept<'a> {
 }
 
 impl<'a> Kept<'a> {
-    /// Opens the folder of a device. If it is missing and `makes` is true, creates the folder. Does
+    /// Opens the folder of a device. If the folder is missing and `makes` is true, creates it. Does
     /// not read the device yet. Keeps `past` finished journals in the folder.
     pub fn at(
         rt: &'a HostRuntime,
@@ -87,8 +87,8 @@ impl<'a> Kept<'a> {
         self.execute(&command)
     }
 
-    /// Executes a TPM command this many milliseconds after the one before it, without the
-    /// completing layer.
+    /// Executes a TPM command this many milliseconds after the previous one, without the completing
+    /// layer.
     pub fn execute_after(
         &mut self,
         elapsed_ms: u32,
@@ -103,7 +103,7 @@ impl<'a> Kept<'a> {
         self.execute(&command)
     }
 
-    /// Executes a TPM command. `command` is the text that encodes it for the keeper.
+    /// Executes a TPM command. `command` is its encoding for the keeper.
     fn execute(&mut self, command: &[u8]) -> Result<Answer<'_>, KeptFault>
         ensures { IfOk result (λ answer. length answer.response.now ≤ buffer_limit) }
     {
@@ -157,7 +157,7 @@ impl<'a> Kept<'a> {
         }
     }
 
-    /// The text of the journal, even if it is damaged.
+    /// The contents of the journal, even if it is damaged.
     pub fn journal(&mut self) -> Result<&[u8], KeptFault> {
         match self.perform(Job::Show, &[]) {
             Err(fault) if !fault.said.is_of_contents() => Err(fault),
@@ -203,8 +203,8 @@ impl<'a> Kept<'a> {
         }
     }
 
-    /// Performs one request of the keeper, and reports the result to the keeper. Returns an error
-    /// instead of reporting it.
+    /// Performs one request of the keeper, and passes the result to the keeper. An error is
+    /// returned to the caller instead.
     fn perform_one(&mut self, job: Job, ask: Ask) -> Result<(), KeptFault> {
         let got = match ask {
             Ask::Read(from) => return self.read(from),
@@ -219,8 +219,8 @@ impl<'a> Kept<'a> {
         Ok(())
     }
 
-    /// Passes the journal, from an offset on, to the keeper. Remembers the text if it is that of
-    /// the whole journal.
+    /// Passes the journal, from an offset on, to the keeper. Stores the bytes if they are the whole
+    /// journal.
     fn read(&mut self, from: u64) -> Result<(), KeptFault> {
         let bytes = self.host.read(from)?;
         let _ = self.keeper.next(Got::Bytes(&bytes));
@@ -267,8 +267,8 @@ impl<'a> Kept<'a> {
         Ok(())
     }
 
-    /// Removes what a crash left after the first `cut` bytes, and writes the keeper's text. If the
-    /// write fails, cuts the journal to `cut` bytes again.
+    /// Removes what a crash left after the first `cut` bytes, and writes the keeper's output at
+    /// offset `at`. If the write fails, truncates the journal to `cut` bytes again.
     fn put(&mut self, cut: u64, at: u64) -> Result<(), KeptFault> {
         Tail::torn(cut, self.host.cut(cut)?).tell(self.rt);
         let put = self.host.put(self.keeper.out(), at);

@@ -38,9 +38,9 @@ pub trait RandomBytes {
     fn next(&mut self) -> Option<[u8; 256]>;
 }
 
-/// Serves a connection: executes each command buffer that it sends, and writes the response. Each
-/// is executed at the present time of the host's clock, with these settings and with fresh random
-/// bytes.
+/// Serves a connection: executes each command buffer that the client sends, and writes the
+/// response. Each command is executed at the present time of the host's clock, with these settings
+/// and with fresh random bytes.
 pub fn serve<R: Read, W: Write, B: RandomBytes>(
     kept: &mut Kept<'_>,
     terms: Terms,
@@ -66,7 +66,7 @@ pub fn serve<R: Read, W: Write, B: RandomBytes>(
 }
 
 /// Executes the complete buffers that a connection has received, and writes their responses. The
-/// loop is long enough, since a buffer has at least one byte.
+/// loop has enough iterations, since each buffer has at least one byte.
 fn answer_whole<W: Write, B: RandomBytes>(
     kept: &mut Kept<'_>,
     terms: Terms,

@@ -11,16 +11,18 @@ use Rattle.tpm_journal_text.specs.Journal.{entries_text, sum_after_all}
 use Rattle.tpmsim_image.specs.log.Executed.{entry_in}
 use Rattle.tpmsim_image.specs.declared.log.Log.{Log}
 
--- the state of a log: its text, if that is known, and the checksum of all its marks
+-- the state of a log: its text, if that is known, and the checksum of the marks of its head and
+-- entries
 pub record Written : Type 0 where
   pub text : Option (List ℕ)
   pub sum : ℕ
 
--- the state of a log; `contents` returns the text of its writer
+-- the state of a log; `contents` returns what its writer contains
 abbrev pub written_of : {W : Type 0} → (W → Option (List ℕ)) → Log W → Written
 written_of contents log = record { text = contents (device_of log.writer); sum = log.sum }
 
--- A log was begun: the head with this clock and this image was appended to the old text.
+-- A log was begun: the head with this clock and this image was appended to the writer's old
+-- contents.
 pub record Begins (clock : ℕ) (image : List ℕ) (before : Option (List ℕ)) (now : Written) : Type 0
   where
     pub text : Appends before now.text (head_text Image clock image)
@@ -55,7 +57,7 @@ LogsTellAll = (old : Written) (executions : List Execution) (new : Written)
 
 -- ---- an optional log
 
--- An execution was appended to the log, if there is a log.
+-- The entry of an execution was appended to the log, if there is a log.
 abbrev pub AddsWhereKept : {W : Type 0} → (W → Option (List ℕ)) → Option (Log W) → Execution
     → Option (Log W) → Type 0
 AddsWhereKept contents None one new = new ≡ None
