@@ -52,9 +52,9 @@ may_name true true wanted = true
 may_name true false wanted = is_of_platform wanted
 may_name false removes wanted = not (is_of_platform wanted)
 
--- the checks of an eviction by the platform (if `by_platform`) or the owner. Refused by check A1 if
--- they may not evict the object; by A2 if the object has stClear; by A3 if they may not use the
--- handle
+-- the checks of an eviction by the platform (if `by_platform`) or the owner. Check A1 refuses it if
+-- that hierarchy may not evict the object; A2 if the object has stClear; A3 if that hierarchy may
+-- not use the handle
 abbrev pub eviction_passes : (by_platform removes : Bool)
     → Object → Handle → Result (Unit {0}) Refused
 eviction_passes by_platform removes object wanted = do

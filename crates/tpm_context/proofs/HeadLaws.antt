@@ -1,4 +1,4 @@
--- The head of a context: decoding returns a head exactly if the bytes begin with its encoding.
+-- The head of a context: decoding returns a head exactly when the bytes begin with its encoding.
 use Rattle.std.proofs.Common.{◌≡◌, ℕ, ◌^◌, ◌<◌, Bool, true, false, cond, Some, None, refl, sym, ap, ◌∙◌, arith}
 use Rattle.std.specs.Prelude.{◌==◌}
 use Rattle.std.specs.Int.{w32, w64, to_be_bytes}

@@ -1,4 +1,4 @@
--- Reading a context: bytes can be read exactly if they are a context that can be made.
+-- Reading a context: bytes can be read exactly when they are a context that can be made.
 use Rattle.std.proofs.Common.{◌≡◌, ℕ, ◌^◌, ◌<◌, ◌≤◌, Bool, List, [], ◌∷◌, ◌++◌, length, Result, Ok, Err, refl, sym, ap, subst, ◌∙◌, append-nil, length-append, arith}
 use Rattle.std.specs.Prelude.{◌==◌, not, IfOk}
 use Rattle.std.specs.Str.{bytes_eq}

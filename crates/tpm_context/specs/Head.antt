@@ -42,7 +42,7 @@ abbrev pub saved_number : SavedHandle → ℕ
 saved_number saved.Ordinary = 0x8000_0000
 saved_number saved.StClear = 0x8000_0002
 
--- the savedHandle with this number, if it is that of an object
+-- the savedHandle with this number, if the number is one used for objects
 abbrev pub saved_named : ℕ → Option SavedHandle
 saved_named number =
     if number == 0x8000_0000 then Some saved.Ordinary

@@ -27,8 +27,8 @@ use tpm_machine::Machine;
 use tpm_record::Keep;
 
 /// Writes the image of a device, in version 2, and leaves the device unchanged. If the tap had not
-/// failed before, the result is the fault `Write` exactly if the writer failed. In that case, only
-/// a prefix of the image was written.
+/// failed before, the result is the fault `Write` exactly when the writer failed. In that case,
+/// only a prefix of the image was written.
 pub fn save<K: Keep, D: Write>(machine: &Machine<K>, tap: &mut Tap<D>) -> Result<(), SaveFault>
     ensures written { OnOk result (Appends (D.contents (device_of tap.old))
         (D.contents (device_of tap.new))

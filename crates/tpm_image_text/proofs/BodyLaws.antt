@@ -1,4 +1,4 @@
--- The body of an image: decoding returns a non-volatile state exactly if the bytes begin with its
+-- The body of an image: decoding returns a non-volatile state exactly when the bytes begin with its
 -- encoding. The file also proves the largest size of a body.
 use Rattle.tpm_image_text.specs.Sizes.{body_size}
 use Rattle.std.proofs.Common.{◌≡◌, ℕ, ◌^◌, ◌<◌, ◌≤◌, List, ◌++◌, length, Ok, refl, arith, length-append}

@@ -1,5 +1,5 @@
--- Frames: decoding returns a body exactly if the bytes are that body in its frame. Truncated bytes
--- are refused.
+-- Frames: decoding returns a body exactly when the bytes are that body in its frame. Truncated
+-- bytes are refused.
 use Rattle.std.proofs.Common.{◌≡◌, ℕ, ◌+◌, ◌-◌, ◌^◌, ◌<◌, ◌≤◌, Bool, true, false, Option, Some, None, List, ◌++◌, length, take, drop, Result, Ok, Err, refl, sym, ap, subst, ◌∙◌, append_assoc, arith, length-append}
 use Rattle.std.specs.Prelude.{◌==◌, nat_lt, not, ok_or}
 use Rattle.std.specs.Int.{w16, w32, to_be_bytes}
@@ -18,7 +18,7 @@ use Rattle.tpm_types.proofs.Spelled.{rest_fits}
 use Rattle.tpm_image_text.specs.Frame.{Format, before_digest, digest_bytes, digest_of, digested_text, framed_in, head_bytes, head_in, image_format, length_of, number_of, within_frame, word_of}
 use Rattle.tpm_image_text.proofs.VersionLaws.{number_small, numbered-again, numbered-is}
 
--- A number decodes to a version of a format exactly if it is the number of that version.
+-- A number decodes to a version of a format exactly when it is the number of that version.
 pub record AreNumbered {V E : Type 0} (format : Format V E) : Type 0 where
   pub is : (n : ℕ) (version : V) → format.numbered n ≡ Some version → n ≡ format.number version
   pub again : (version : V) → format.numbered (format.number version) ≡ Some version

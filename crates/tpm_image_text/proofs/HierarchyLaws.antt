@@ -1,4 +1,4 @@
--- The hierarchies of an image: decoding returns them exactly if the bytes begin with their
+-- The hierarchies of an image: decoding returns them exactly when the bytes begin with their
 -- encoding.
 use Rattle.std.proofs.Common.{◌≡◌, ℕ, ◌≤◌, List, [], ◌∷◌, ◌++◌, length, refl, arith, length-append}
 use Rattle.tpm_bytes.specs.Writing.{sized_text}

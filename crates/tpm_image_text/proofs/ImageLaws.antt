@@ -1,4 +1,4 @@
--- Images: decoding returns a non-volatile state exactly if the bytes are its image. No proper
+-- Images: decoding returns a non-volatile state exactly when the bytes are its image. No proper
 -- prefix of an image is an image.
 use Rattle.std.proofs.Common.{◌≡◌, ℕ, ◌+◌, ◌<◌, ◌≤◌, List, length, take, Result, Ok, Err, refl, ap, ◌∙◌, arith}
 use Rattle.std.specs.Prelude.{◌↔◌}
@@ -39,7 +39,7 @@ image_taken text kept fits e =
     let body = body_taken a.0.0 a.0.1 kept frame.1 (or_fault_ok (body_of a.0.0 a.0.1) fault.Body kept a.2) in
     (a.0.0, body.1, (body.2, frame.0 ∙ ap (framed_text a.0.0) body.0))
 
--- decoding bytes returns a non-volatile state exactly if they are its image in some version
+-- decoding bytes returns a non-volatile state if and only if they are its image in some version
 pub image_is : (text : List ℕ) (kept : NonVolatile) → AreBytes text → (image_of text ≡ Ok kept) ↔ ((version : Version) × IsNonVolatile kept × IsImage version kept text)
 image_is text kept fits = (image_taken text kept fits, λ is. ap image_of is.2.1 ∙ image_again is.0 kept is.1 is.2.0)
 

@@ -1,4 +1,4 @@
--- The NV indices of an image: decoding returns them exactly if the bytes begin with their
+-- The NV indices of an image: decoding returns them exactly when the bytes begin with their
 -- encoding.
 use Rattle.tpm_image_text.specs.Sizes.{indices_size}
 use Rattle.tpm_types.specs.Limits.{nv_data_limit}

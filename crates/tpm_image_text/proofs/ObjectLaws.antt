@@ -1,4 +1,4 @@
--- The persistent objects of an image: decoding returns a value exactly if the bytes begin with
+-- The persistent objects of an image: decoding returns a value exactly when the bytes begin with
 -- its encoding.
 use Rattle.tpm_image_text.specs.Sizes.{object_fields_size, objects_size}
 use Rattle.std.proofs.Common.{◌≡◌, ℕ, ◌*◌, ◌^◌, ◌<◌, ◌≤◌, true, List, [], ◌∷◌, ◌++◌, length, Some, None, Ok, refl, sym, ap, subst, ◌∙◌, append_assoc, arith, length-append}

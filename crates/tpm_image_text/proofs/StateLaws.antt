@@ -1,4 +1,4 @@
--- The fixed part of an image: decoding returns a value exactly if the bytes begin with its
+-- The fixed part of an image: decoding returns a value exactly when the bytes begin with its
 -- encoding.
 use Rattle.tpm_image_text.specs.Sizes.{state_size}
 use Rattle.std.proofs.Common.{◌≡◌, ◌≢◌, ℕ, ◌^◌, ◌<◌, ◌≤◌, Bool, true, List, [], ◌∷◌, ◌++◌, length, Result, Ok, refl, sym, subst, append_assoc, append-nil, arith, length-append}

@@ -11,7 +11,7 @@ regrouped true true rest = refl
 regrouped true false rest = refl
 regrouped false b rest = refl
 
--- The remaining digits match exactly if the next pair matches and the digits after it match.
+-- The remaining digits match exactly when the next pair matches and the digits after it match.
 pub pair_compared : (digits bytes pair : List ℕ) (place : ℕ) → 2 * place + 1 < length digits → place < length bytes
     → pair ≡ encode_lower (slice_index bytes place ∷ [])
     → bytes_eq (drop (2 * place) digits) (encode_lower (drop place bytes))

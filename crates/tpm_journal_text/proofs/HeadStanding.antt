@@ -63,7 +63,8 @@ head_line_many kind clock content =
 before_many : (kind : HeadKind) (clock : ℕ) (content : List ℕ) → length (head_line kind clock content ++ codes "# ") ≡ 79
 before_many kind clock content = omega (arith, head_line_many kind clock content, length-append (head_line kind clock content) (codes "# "))
 
--- the bytes after the line of a head's mark
+-- the bytes that follow the line with the head's mark: the line with the content in hex, then the
+-- rest
 behind_line : (content rest : List ℕ) → List ℕ
 behind_line content rest = codes "# " ++ (encode_lower content ++ (10 ∷ [] ++ rest))
 

@@ -43,7 +43,8 @@ pub record IsContent (j : Journal) (head : List ℕ) (start : Spot) (number : �
   pub text : 0 < number → IsText j head start c
   pub empty : number ≡ 0 → c.commands ≡ []
 
--- The state after a file's head is the state after all commands before the file's first entry.
+-- The state that a file's head restores is the one reached by all commands before the file's first
+-- entry.
 pub record IsHeaded (j : Journal) (origin head : List ℕ) (start : Spot) (before : List (List ℕ)) : Type 0 where
   pub after : j.after_head head ≡ Some start
   pub lives : j.is_state start.state ≡ true

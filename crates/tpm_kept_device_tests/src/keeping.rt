@@ -174,7 +174,7 @@ fn what_is_no_state_is_refused(rt: HostRuntime) {
     );
 }
 
-/// Reads the time since power came on from the report and the response of a TPM2_ReadClock.
+/// Returns the Time in a report that is followed by the response to TPM2_ReadClock.
 fn time_in(response: &[u8]) -> u64 {
     match response.get(17..25) {
         Some([a, b, c, d, e, f, g, h]) => u64::from_be_bytes([*a, *b, *c, *d, *e, *f, *g, *h]),

@@ -16,7 +16,7 @@ ghost use Rattle.tpm_kept_journal.specs.texts.NextAt.{IsNext, PlainNext, next_at
 ghost use Rattle.tpm_kept_journal.specs.texts.StartAt.{start_at};
 ghost use Rattle.tpm_kept_journal.specs.texts.TornText.{is_litter, is_torn_text};
 
-/// The bytes begin with the encoding of an entry exactly if `entry_at` returns this entry.
+/// The bytes begin with the encoding of an entry exactly when `entry_at` returns this entry.
 #[inline(always)]
 pub fn entry_at_laws()
     ensures written { (sum : ℕ) (e : PlainEntry) (rest : List ℕ) → IsEntry e
@@ -28,7 +28,7 @@ pub fn entry_at_laws()
         → entry_at sum text ≡ None }
 {}
 
-/// The bytes begin with the encoding of a head exactly if `head_at` returns this head.
+/// The bytes begin with the encoding of a head exactly when `head_at` returns this head.
 #[inline(always)]
 pub fn head_at_laws()
     ensures written { (h : PlainHead) (rest : List ℕ) → HasHead h.kind h.clock h.content

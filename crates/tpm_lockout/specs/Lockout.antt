@@ -2,9 +2,10 @@
 use Rattle.std.specs.Prelude.{ℕ, ◌<◌, ◌*◌, ◌^◌, false}
 use Rattle.tpm_lockout.specs.declared.fields.LockoutFields.{LockoutFields}
 
--- the lockout state. The fields survive a power cycle: failedTries, the parameters of the
--- protection, and whether lockoutAuth is disabled. The two times, in milliseconds, count towards
--- forgiving the next failed try and towards enabling lockoutAuth again
+-- the lockout state. `fields` survives a power cycle: failedTries, the parameters of the
+-- protection, and whether lockoutAuth is disabled. The other two members are timers in milliseconds:
+-- the time that already counts towards forgiving the next failed try, and the time that already
+-- counts towards enabling lockoutAuth again
 pub record LockoutState : Type 0 where
   pub fields : LockoutFields
   pub forgiving_time : ℕ

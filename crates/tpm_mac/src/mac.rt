@@ -32,7 +32,7 @@ pub struct Mac {
 }
 
 impl Mac {
-    /// An HMAC with a key of any length, before any of the message is fed.
+    /// Starts an HMAC with a key of any length. No byte of the message has been fed yet.
     pub fn new(alg: HashAlg, key: &[u8]) -> Mac
         ensures { MacHolds result alg key.now [] }
     {

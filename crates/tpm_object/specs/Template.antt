@@ -18,7 +18,7 @@ use Rattle.tpm_object.specs.declared.template.TemplateFault.{TemplateFault}
 use Rattle.tpm_object.specs.declared.template.TemplateFault.TheVariants as fault
 
 -- whether fixedTPM is wrong. Under a hierarchy or a parent with fixedTPM, an object must have
--- fixedTPM exactly if it has fixedParent; under any other parent it must not have fixedTPM
+-- fixedTPM exactly when it has fixedParent; under any other parent it must not have fixedTPM
 abbrev pub has_wrong_fixing : (parent_is_fixed : Bool) → (attributes : ℕ) → Bool
 has_wrong_fixing parent_is_fixed a =
     if parent_is_fixed then not (beq (has a attribute.FixedTpm) (has a attribute.FixedParent))

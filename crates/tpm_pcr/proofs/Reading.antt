@@ -47,7 +47,7 @@ same_test a b c d true false e f h k = absurd (lt_false c d f (h (lt_true a b e)
 same_test a b c d false true e f h k = absurd (lt_false a b e (k (lt_true c d f)))
 
 -- Suppose that `old` values were read, and then up to k others, until there were eight in all.
--- There is room for one more exactly if k is less than 8 - `old`.
+-- There is room for one more exactly when k is less than 8 - `old`.
 pub room_left : (old k : ℕ) → nat_lt (old + min (8 - old) k) 8 ≡ nat_lt k (8 - old)
 room_left old k = same_test (old + min (8 - old) k) 8 k (8 - old) _ _ refl refl (λ h. omega arith) (λ h. omega arith)
 
@@ -70,7 +70,7 @@ values_cond : (b : Bool) (f : ℕ → List ℕ) (front : List (List ℕ)) (pcrs 
 values_cond true f front pcrs n = append_assoc front (map f pcrs) (f n ∷ []) ∙ ap (λ (l : List (List ℕ)). front ++ l) (sym (map-append f pcrs (n ∷ [])))
 values_cond false f front pcrs n = refl
 
--- The next PCR is read exactly if it is chosen and fewer than 8 - `old` chosen PCRs are below it.
+-- The next PCR is read exactly when it is chosen and fewer than 8 - `old` chosen PCRs are below it.
 reads_next : (p : ℕ → Bool) (n pcr old count : ℕ) → pcr ≡ n → count ≡ old + min (8 - old) (length (filter p (numbers_below n))) → (p pcr && nat_lt count 8) ≡ (p n && nat_lt (length (filter p (numbers_below n))) (8 - old))
 reads_next p n pcr old count is counted =
     ap (λ k. p k && nat_lt count 8) is

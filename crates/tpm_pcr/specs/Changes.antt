@@ -62,8 +62,8 @@ with_extension pcr banks digest =
     let hash = hash_of_value digest in
     with_value hash pcr (hash_of hash (pcr_value banks hash pcr ++ digest_of digest)) banks
 
--- the value of a PCR in a bank after an extension with a digest; it is unchanged if the digest has
--- another hash algorithm than the bank
+-- the value of a PCR in a bank after it is extended with a digest; unchanged if the digest's hash
+-- algorithm is not the bank's
 abbrev pub value_extended : HashAlg → List ℕ → DigestValue → List ℕ
 value_extended alg.Sha1 old (Sha1 digest) = hash_of alg.Sha1 (old ++ digest)
 value_extended alg.Sha1 old (Sha256 digest) = old

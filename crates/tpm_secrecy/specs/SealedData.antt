@@ -35,9 +35,9 @@ sealed objects = of_data (λ number. false) objects
 -- ---- an accepted command that reads sealed data
 
 -- An accepted command reads the secret data of an object with one of these public areas: TPM2_HMAC
--- if the object signs, otherwise TPM2_Unseal. Unless the hash is broken, a policy session
--- authorized the command and satisfied the policy, if the object has no userWithAuth and its
--- authPolicy is the digest of a policy.
+-- if the object signs, otherwise TPM2_Unseal. If the object's userWithAuth is clear and its
+-- authPolicy is the digest of a policy, then a policy session that satisfied this policy authorized
+-- the command, or the hash is broken.
 pub record ReadsSealed (objects : Public → Bool) (history : History) (c : AcceptedCommand) : Type 0
   where
     pub public : Public

@@ -1,4 +1,4 @@
--- Version 1 of a state text: decoding returns a state exactly if the bytes are its body. Without
+-- Version 1 of a state text: decoding returns a state exactly when the bytes are its body. Without
 -- the flushed objects that stayed in their slots, the state is one that a device can have.
 use Rattle.std.proofs.Common.{◌≡◌, ℕ, zero, suc, ◌+◌, ◌<◌, ◌≤◌, Bool, true, false, List, [], ◌∷◌, length, slice_set, Option, Some, None, IfSome, Ok, refl, sym, ap, ◌∙◌, arith, length-append}
 use Rattle.std.specs.Prelude.{◌==◌, cond, is_some, option_map}

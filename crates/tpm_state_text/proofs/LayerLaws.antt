@@ -1,4 +1,4 @@
--- The state of the completing layer: decoding returns it exactly if the bytes begin with its
+-- The state of the completing layer: decoding returns it exactly when the bytes begin with its
 -- encoding.
 use Rattle.std.proofs.Common.{◌≡◌, ℕ, ◌^◌, ◌<◌, List, length, Result, refl}
 use Rattle.std.specs.Int.{w64, to_be_bytes}

@@ -1,4 +1,4 @@
--- Optional values, and slots: decoding returns a value exactly if the bytes begin with its
+-- Optional values, and slots: decoding returns a value exactly when the bytes begin with its
 -- encoding.
 use Rattle.std.proofs.Common.{◌≡◌, ℕ, zero, suc, Bool, true, false, List, [], ◌∷◌, ◌++◌, length, Option, Some, None, is_some, IfSome, Result, Ok, refl, subst}
 use Rattle.std.specs.List.{AllByRecursion}

@@ -1,4 +1,4 @@
--- State texts: decoding returns a state exactly if the bytes are its state text. No proper prefix
+-- State texts: decoding returns a state exactly when the bytes are its state text. No proper prefix
 -- of a state text is a state text.
 use Rattle.std.proofs.Common.{◌≡◌, ℕ, ◌+◌, ◌<◌, ◌≤◌, ◌^◌, Some, List, ◌++◌, length, take, Result, Ok, Err, inl, inr, refl, subst, sym, ap, ◌∙◌, append_assoc, arith}
 use Rattle.std.proofs.lemmas.List.{length-take, take_at}

@@ -1,6 +1,6 @@
--- Fields that an image does not have: numbers that stand for values, optional values, and slots
--- that are free or occupied. A field that is truncated, or contains a value that is not allowed, is
--- malformed.
+-- The kinds of field that are in a state text but not in an image: enumerated values encoded as
+-- numbers, optional values, and slots that are free or occupied. A field that is truncated, or
+-- contains a value that is not allowed, is malformed.
 use Rattle.std.specs.Prelude.{ℕ, Bool, true, false, List, ◌++◌, ok_or, Option, Some, None, Result, Ok}
 use Rattle.std.specs.Int.{Width}
 use Rattle.std.specs.List.{flat_map}

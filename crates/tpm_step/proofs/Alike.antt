@@ -1,5 +1,5 @@
--- Two devices that follow the same history, show the same views of each handle and have the same
--- lockout state authorize each command in the same way.
+-- If two devices follow the same history, show the same view of each handle, and have the same
+-- lockout state, then they authorize each command in the same way.
 use Rattle.std.proofs.Common.{◌≡◌, Bool, true, false, [], Option, Some, None, option_map, refl, ap, sym, subst, ◌∙◌}
 use Rattle.std.specs.Option.{option_map_or}
 use Rattle.tpm_session.specs.Sessions.{session_at}

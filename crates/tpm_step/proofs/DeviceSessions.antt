@@ -70,8 +70,8 @@ module _ (r : Record) (a : Accepted) (locality : ℕ) (random : List ℕ) (histo
       many pcrs has.live a.command.code)
       is.row refl
 
-  -- The row drew as many random bytes as the command's code and parameters determine; or the
-  -- command has no entries, and `draws_of` is 0.
+  -- The command's row drew the number of random bytes that `draws_of` gives for its code and
+  -- parameters; or the command has no authorization entries, and `draws_of` is 0.
   drew : (a.success.answer.drawn ≡ draws_of a.command.code a.request) ⊎ ((a.command.entries ≡ []) × (draws_of a.command.code a.request ≡ 0))
   drew =
       elim (cases_Bool (is_startup a.command.code)) [

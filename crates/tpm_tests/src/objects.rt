@@ -1,5 +1,5 @@
-//! The areas of objects, and the objects made from them: calls each public function once, with a
-//! Name computed by Python's `hashlib` and `hmac`.
+//! Tests of the areas of objects, and of the objects made from them. Each public function is called
+//! once. Python's `hashlib` and `hmac` computed the expected Name.
 
 use super::comparison::check;
 use arrayvec::ArrayVec;

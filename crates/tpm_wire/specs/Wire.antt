@@ -77,8 +77,8 @@ execution_of old buffer host new outcome =
 abbrev pub Waits : Stream → Wire → Result Turn NoConnection → Wire → Type 0
 Waits s old result new = (result ≡ Ok (if s.ended then Ended else Wants)) × (new ≡ old)
 
--- The buffer that was cut off was executed with the host's values, and only the bytes after it are
--- left in the stream. `can` says whether an allocation can fail.
+-- The command buffer at the beginning of the stream was executed with the host's values, and only
+-- the bytes after it are left in the stream. `can` says whether an allocation can fail.
 abbrev pub AnswersTurn : Bool → Cut → Wire → ℕ → Host → Result Turn NoConnection → Wire → Type 0
 AnswersTurn can c old number host (Ok (Answer outcome)) new =
     Executes can old.machine (given c.buffer host) (outcome_step new.machine outcome)

@@ -165,8 +165,8 @@ AskForService words socket place log entropy locality connections saves_each = (
 abbrev pub AskForNothing : List Text → Type 0
 AskForNothing words = AreTaken words × (asked_by words ≡ None)
 
--- These words request to serve the device in this folder, with the system's random bytes, locality
--- 0, and no limit on connections. This many finished journals (`past`) stay in the folder.
+-- These words ask for the device in this folder to be served with the system's random bytes,
+-- locality 0, and no limit on connections. The folder keeps the newest `past` finished journals.
 -- `completes` says whether the completing layer is on.
 abbrev pub AskForFolder : (words : List Text) (socket state : Text) (past : ℕ) (completes : Bool)
     → Type 0

@@ -1,4 +1,4 @@
--- `entry_at` returns an entry exactly if its argument begins with the encoding of this entry.
+-- `entry_at` returns an entry exactly when its argument begins with the encoding of this entry.
 use Rattle.std.proofs.Common.{◌≡◌, ℕ, ◌+◌, ◌*◌, ◌^◌, ◌==◌, Bool, true, false, List, ◌++◌, length, take, drop, max, Some, None, refl, ap, sym, subst, ◌∙◌}
 use Rattle.std.specs.Prelude.{Decides}
 use Rattle.std.proofs.lemmas.Bool.Decides.{Decides-and, Decides-like, Decides-ltb}

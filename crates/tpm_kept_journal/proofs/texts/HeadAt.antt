@@ -1,4 +1,4 @@
--- `head_at` returns a head exactly if its argument begins with the encoding of this head.
+-- `head_at` returns a head exactly when its argument begins with the encoding of this head.
 use Rattle.std.proofs.Common.{◌≡◌, ℕ, ◌*◌, ◌^◌, Bool, true, false, List, ◌++◌, length, take, drop, Some, None, refl, ap, sym, subst, ◌∙◌}
 use Rattle.std.specs.Prelude.{Decides, cond}
 use Rattle.std.specs.Int.{w32, from_be_bytes}

@@ -1,4 +1,5 @@
--- `new` writes the device to the place, and makes a holder with the address of the place.
+-- `new` writes the device to newly allocated memory, and returns a holder with the address of that
+-- memory.
 use mathlib.Core.List.{List, [], ◌∷◌, ◌++◌}
 use mathlib.Core.Path.{◌≡◌, refl, sym, subst}
 use Prim.Native.Nat.{◌^◌}
