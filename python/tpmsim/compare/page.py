@@ -20,7 +20,7 @@ the end:
 PYTHONPATH=python python3 -m tpmsim.compare.main tests/pcrs/pcr_read.tpm --with swtpm
 ```
 
-The other TPM can also be `swtpm:path=..`, `swtpm:host=..,port=..`, `mssim:host=..,port=..` or
+After `--with`, another TPM is `swtpm`, `swtpm:path=..`, `swtpm:host=..,port=..`, `mssim:host=..,port=..` or
 `device:/dev/tpmrm0`. This command makes the page, from all stored scripts:
 
 ```sh
