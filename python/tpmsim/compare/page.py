@@ -20,8 +20,8 @@ the end:
 PYTHONPATH=python python3 -m tpmsim.compare.main tests/pcrs/pcr_read.tpm --with swtpm
 ```
 
-After `--with`, another TPM is `swtpm`, `swtpm:path=..`, `swtpm:host=..,port=..`, `mssim:host=..,port=..` or
-`device:/dev/tpmrm0`. This command makes the page, from all stored scripts:
+`--with` also accepts `swtpm:path=..`, `swtpm:host=..,port=..`, `mssim:host=..,port=..` and
+`device:/dev/tpmrm0` as the other TPM. This command makes the page, from all stored scripts:
 
 ```sh
 PYTHONPATH=python python3 -m tpmsim.compare.page tests/*/*.tpm examples/*.tpm > docs/OTHER_TPMS.md
