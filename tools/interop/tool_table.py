@@ -108,10 +108,10 @@ def block(tools: list[str], results: Results) -> str:
     nowhere = [tool for tool in tools if not does(tool, results.swtpm) and not does(tool, results.tpmsim)]
     theirs, ours = (passed(each[: results.of_day]) for each in (results.swtpm, results.tpmsim))
     parts = [
-        f"Of the {results.of_day} steps of a working day swtpm passes {theirs}, and a device in a folder {ours}. There "
-        f"{len(whole)} of the {len(tools)} tools do all that they did on swtpm: {listed(whole)}.",
-        "The others do less, each for a reason:",
-        f"Not by swtpm either: {listed(nowhere)}.",
+        f"Of the {results.of_day} steps of a working day swtpm passes {theirs}, and a device in a folder {ours}. On this "
+        f"device {len(whole)} of the {len(tools)} tools do all that they did on swtpm: {listed(whole)}.",
+        "The other tools do less on a device in a folder, each for a reason:",
+        f"Tools that do nothing here, and nothing on swtpm either: {listed(nowhere)}.",
         f"On a served device {len(served)} tools do something: {listed(served)}.",
     ]
     paragraphs = [paragraph(part) for part in parts]

@@ -33,7 +33,6 @@ impl<'a> Model for Cursor<'a> {
 }
 
 impl<'a> Cursor<'a> {
-    /// A cursor at the start of `text`.
     pub fn new(text: &'a [u8]) -> Cursor<'a>
         ensures value { result ≡ text.now }
         ensures bytes { AreBytes text.now }
@@ -48,14 +47,12 @@ impl<'a> Cursor<'a> {
         self.left
     }
 
-    /// The number of bytes that are left.
     pub fn len(&self) -> usize
         ensures { result ≡ length self.now }
     {
         self.left.len()
     }
 
-    /// Whether no bytes are left.
     pub fn is_empty(&self) -> bool
         ensures { result ≡ (length self.now == 0) }
     {
@@ -74,7 +71,6 @@ impl<'a> Cursor<'a> {
         Ok(front)
     }
 
-    /// Reads a byte. If none is left, fails and reads nothing.
     pub fn u8(&mut self) -> Result<u8, Short>
         ensures { Reads (λ n. n) (number_at w8 self.old) self.old result self.new }
     {
@@ -82,7 +78,6 @@ impl<'a> Cursor<'a> {
         Ok(u8::from_be_bytes([front[0]]))
     }
 
-    /// Reads a big-endian number of two bytes. If fewer are left, fails and reads nothing.
     pub fn u16(&mut self) -> Result<u16, Short>
         ensures { Reads (λ n. n) (number_at w16 self.old) self.old result self.new }
     {
@@ -90,7 +85,6 @@ impl<'a> Cursor<'a> {
         Ok(u16::from_be_bytes([front[0], front[1]]))
     }
 
-    /// Reads a big-endian number of four bytes. If fewer are left, fails and reads nothing.
     pub fn u32(&mut self) -> Result<u32, Short>
         ensures { Reads (λ n. n) (number_at w32 self.old) self.old result self.new }
     {
@@ -98,7 +92,6 @@ impl<'a> Cursor<'a> {
         Ok(u32::from_be_bytes([front[0], front[1], front[2], front[3]]))
     }
 
-    /// Reads a big-endian number of eight bytes. If fewer are left, fails and reads nothing.
     pub fn u64(&mut self) -> Result<u64, Short>
         ensures { Reads (λ n. n) (number_at w64 self.old) self.old result self.new }
     {
@@ -108,8 +101,7 @@ impl<'a> Cursor<'a> {
         ]))
     }
 
-    /// Reads a sized buffer (TPM2B) of at most `limit` bytes: a two-byte size, followed by that
-    /// many bytes.
+    /// Reads a sized buffer (TPM2B) of at most `limit` bytes: a two-byte size, then its bytes.
     pub fn sized(&mut self, limit: usize) -> Result<&'a [u8], SizedFault>
         ensures { Reads (λ bytes. bytes.now) (sized_at limit self.old) self.old result self.new }
     {

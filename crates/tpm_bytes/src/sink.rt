@@ -15,8 +15,7 @@ use std::marker::Model;
 #[derive(Clone, Copy, PartialEq, Eq)]
 pub struct Full;
 
-/// A buffer of at most `N` bytes that is being written. Contracts represent it by the bytes written
-/// so far.
+/// A buffer of at most `N` bytes. Contracts represent it by the bytes written so far.
 #[derive(Drop)]
 pub struct Sink<const N: usize> {
     bytes: ArrayVec<u8, N>,
@@ -31,7 +30,6 @@ impl<const N: usize> Model for Sink<N> {
 impl<const N: usize> Sink<N> {
     ghost use Rattle.tpm_bytes.specs.Lends.{lends_bytes};
 
-    /// An empty sink.
     pub fn new() -> Sink<N>
         ensures { result ≡ [] }
     {
@@ -40,7 +38,6 @@ impl<const N: usize> Sink<N> {
         }
     }
 
-    /// The number of bytes in the sink.
     pub fn len(&self) -> usize
         ensures value { result ≡ length self.now }
         ensures fits { result ≤ N }
@@ -48,7 +45,6 @@ impl<const N: usize> Sink<N> {
         self.bytes.len()
     }
 
-    /// The bytes in the sink.
     pub fn as_slice(&self) -> &[u8]
         ensures value { result.now ≡ self.now }
         ensures fits { length result.now ≤ N }
@@ -72,7 +68,6 @@ impl<const N: usize> Sink<N> {
         self.bytes.clear();
     }
 
-    /// Returns the bytes, and consumes the sink.
     pub fn into_bytes(self) -> ArrayVec<u8, N>
         ensures value { result.items ≡ self.entry }
         ensures fits { length result.items ≤ N }
@@ -80,7 +75,6 @@ impl<const N: usize> Sink<N> {
         self.bytes
     }
 
-    /// Appends bytes. If they do not fit, appends nothing and fails.
     pub fn put(&mut self, bytes: &[u8]) -> Result<(), Full>
         ensures { Puts N bytes.now self.old result self.new }
     {
@@ -90,28 +84,24 @@ impl<const N: usize> Sink<N> {
         }
     }
 
-    /// Appends a byte. If the sink is full, appends nothing and fails.
     pub fn put_u8(&mut self, number: u8) -> Result<(), Full>
         ensures { Puts N (to_be_bytes w8 number) self.old result self.new }
     {
         self.put(&number.to_be_bytes())
     }
 
-    /// Appends a number as two big-endian bytes. If they do not fit, appends nothing and fails.
     pub fn put_u16(&mut self, number: u16) -> Result<(), Full>
         ensures { Puts N (to_be_bytes w16 number) self.old result self.new }
     {
         self.put(&number.to_be_bytes())
     }
 
-    /// Appends a number as four big-endian bytes. If they do not fit, appends nothing and fails.
     pub fn put_u32(&mut self, number: u32) -> Result<(), Full>
         ensures { Puts N (to_be_bytes w32 number) self.old result self.new }
     {
         self.put(&number.to_be_bytes())
     }
 
-    /// Appends a number as eight big-endian bytes. If they do not fit, appends nothing and fails.
     pub fn put_u64(&mut self, number: u64) -> Result<(), Full>
         ensures { Puts N (to_be_bytes w64 number) self.old result self.new }
     {
@@ -138,7 +128,6 @@ impl<const N: usize> Sink<N> {
         append(&mut self.bytes, bytes);
     }
 
-    /// Appends a byte, which must fit.
     pub fn append_u8(&mut self, number: u8)
         requires { length self.old + 1 ≤ N }
         ensures { self.new ≡ self.old ++ to_be_bytes w8 number }
@@ -146,7 +135,6 @@ impl<const N: usize> Sink<N> {
         self.append(&number.to_be_bytes());
     }
 
-    /// Appends a number as two big-endian bytes, which must fit.
     pub fn append_u16(&mut self, number: u16)
         requires { length self.old + 2 ≤ N }
         ensures { self.new ≡ self.old ++ to_be_bytes w16 number }
@@ -154,7 +142,6 @@ impl<const N: usize> Sink<N> {
         self.append(&number.to_be_bytes());
     }
 
-    /// Appends a number as four big-endian bytes, which must fit.
     pub fn append_u32(&mut self, number: u32)
         requires { length self.old + 4 ≤ N }
         ensures { self.new ≡ self.old ++ to_be_bytes w32 number }
@@ -162,7 +149,6 @@ impl<const N: usize> Sink<N> {
         self.append(&number.to_be_bytes());
     }
 
-    /// Appends a number as eight big-endian bytes, which must fit.
     pub fn append_u64(&mut self, number: u64)
         requires { length self.old + 8 ≤ N }
         ensures { self.new ≡ self.old ++ to_be_bytes w64 number }

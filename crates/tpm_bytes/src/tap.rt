@@ -25,7 +25,6 @@ pub struct Tap<D> {
 }
 
 impl<D> Tap<D> {
-    /// A tap on a device, before any read or write through it.
     pub fn new(device: D) -> Tap<D>
         ensures device { device_of result ≡ device }
         ensures marks { marks_of result ≡ unmarked }
@@ -67,7 +66,6 @@ impl<D> Tap<D> {
         self.room
     }
 
-    /// Returns the device, and consumes the tap.
     pub fn into_inner(self) -> D
         ensures { result ≡ device_of self }
     {

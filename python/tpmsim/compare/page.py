@@ -11,25 +11,25 @@ from tpmsim.model.player import BadLine
 
 HEAD = """# Other TPMs
 
-This page lists where another TPM, {version}, differs from tpmsim. A program that passes its tests here
-should be tried there for these points. `tpmsim-compare` plays a script on both TPMs, and computes the
-sessions for each. It compares the response codes, the response fields, the HMACs, and the state that can
-be read at the end:
+This page lists where another TPM, {version}, differs from tpmsim. If your program passes its tests here,
+also try these points there. `tpmsim-compare` plays a script on both TPMs, and computes the sessions for
+each. It compares the response codes, the response fields, the HMACs, and the state that can be read at
+the end:
 
 ```sh
 PYTHONPATH=python python3 -m tpmsim.compare.main tests/pcrs/pcr_read.tpm --with swtpm
 ```
 
-The other TPM can also be `swtpm:path=..`, `swtpm:host=..,port=..`, `mssim:host=..,port=..` or
-`device:/dev/tpmrm0`. This command makes the page, from all stored scripts:
+`--with` also accepts `swtpm:path=..`, `swtpm:host=..,port=..`, `mssim:host=..,port=..` and
+`device:/dev/tpmrm0` as the other TPM. This command makes the page, from all stored scripts:
 
 ```sh
 PYTHONPATH=python python3 -m tpmsim.compare.page tests/*/*.tpm examples/*.tpm > docs/OTHER_TPMS.md
 ```
 
-The {scripts} scripts contain {commands} commands. {own} of them have different responses, and {follow} more
-differ only because an earlier command did. {missing} cannot be compared: most because a stream cannot carry
-their size, the others because they need a session or an object that only one TPM has.
+The {scripts} scripts contain {commands} commands. {own} of these have different responses, and {follow} more
+differ only because an earlier command did. {missing} cannot be compared. The reason for most is that a stream
+cannot carry their size; the others need a session or an object that only one TPM has.
 
 | what differs | times | example | here | there | our decision |
 |---|---|---|---|---|---|"""
