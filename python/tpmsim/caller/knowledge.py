@@ -223,8 +223,8 @@ class Knowledge:
         return prepared.parameters
 
     def note_effect(self, prepared: Prepared, request: bytes) -> None:
-        """Learns the changes of an accepted command that the HMAC of its response already uses. The
-        parameters are decrypted.
+        """Learns the changes that an accepted command makes before the device computes its
+        response. The parameters are decrypted.
         """
         code, handles = prepared.code, prepared.handles
         if code in MARKS and handles[1] in self.publics:

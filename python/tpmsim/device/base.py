@@ -14,7 +14,7 @@ class Unsupported(TpmsimError):
 
 
 class DeviceEnded(TpmsimError):
-    """The device has ended; the message says why or how."""
+    """The device has ended, or can no longer be used; the message says why."""
 
 
 class BadImage(TpmsimError):

@@ -338,7 +338,7 @@ class LibraryDevice(Device):
                 self.file.keep(self.save())
             except OSError as fault:
                 if fault.errno is None:
-                    raise  # raised by a signal handler, such as a test's TimeoutError
+                    raise  # from a signal handler, such as a test's TimeoutError, not a system call
                 raise DeviceEnded(f"the image is not written: {fault}") from None
 
     def cycle(self) -> None:
