@@ -95,7 +95,7 @@ def key_size(look: Look) -> None:
 
 
 def misread(look: Look) -> None:
-    """Names a slip in the encryption, if it makes inSensitive valid."""
+    """Names a mistake in the caller's encryption, if it explains an invalid inSensitive."""
     for other in ingredients.otherwise(look.scene):
         size = int.from_bytes(other.plain[:2], "big")
         try:
