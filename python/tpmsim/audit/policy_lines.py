@@ -214,7 +214,7 @@ def of_written(wanted: bool, use: Use) -> Finding:
     return Finding(is_written == wanted, words)
 
 
-# The part of the policy that a use does not meet, if any, and everything that was found.
+# The part of the policy that a use does not satisfy, if any, and everything that was found.
 Judgement = tuple[str | None, list[str]]
 
 

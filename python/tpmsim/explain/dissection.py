@@ -269,7 +269,7 @@ OF_KIND: dict[Kind, Reader] = {
     Kind.CAPABILITY: capability,
 }
 
-# Parameters about which more is known than their kind.
+# Parameters whose name says more than their kind.
 NAMED: dict[str, Reader] = {
     "startupType": named(2, STARTS, "not a type of startup"),
     "shutdownType": named(2, STARTS, "not a type of shutdown"),

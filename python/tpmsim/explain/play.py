@@ -162,7 +162,7 @@ class Watched:
     ) -> None:
         self.explains = explains
         self.line, self.at, self.is_whole = 0, -1, False
-        # Values that the user wants to try in a refused HMAC, password or policy.
+        # Values that the user asked to try in a refused HMAC, password or policy.
         self.tried: tuple[bytes, ...] = ()
         self.event: Event | None = None
         self.layer, self.contexts = Completion(), Contexts()

@@ -1,5 +1,5 @@
 """An assertion of a policy with different values: different PCR values, Names, or values that the
-user wants to try.
+user asked to try.
 """
 
 from __future__ import annotations
@@ -147,7 +147,7 @@ def of_names(use: Use, place: int, step: Step, handle: int) -> Iterator[Turned]:
 
 
 def of_tried(use: Use, place: int, step: Step) -> Iterator[Turned]:
-    """Yields assertions in which one buffer is a value that the user wants to try."""
+    """Yields assertions in which one buffer is a value that the user asked to try."""
     for value in use.scene.tried:
         for at, own in enumerate(step.said.values):
             if isinstance(own, bytes):

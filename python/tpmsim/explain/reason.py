@@ -64,7 +64,7 @@ class Reason:
 
     @property
     def told(self) -> list[Fact]:
-        """Returns the facts, with the slips first."""
+        """Returns the facts, with the mistakes ("slips") first."""
         return sorted(self.facts, key=lambda it: it.label != SLIP)
 
     def add(self, label: str, value: str, sort: str = PLAIN) -> None:
@@ -84,7 +84,7 @@ class Scene:
     """A command, and the model before it. `refused` is the response code, such as VALUE/p1, and
     `elapsed` is in milliseconds. `known` is the command, if it passed the general checks, and
     `plain` its decrypted parameters, if its entries were accepted. `tried` contains the values that
-    the user wants to try.
+    the user asked to try.
     """
 
     model: Model

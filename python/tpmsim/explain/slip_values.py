@@ -234,11 +234,11 @@ def bind_values(use: Use) -> Iterator[tuple[bytes, str]]:
             yield value, f"the authValue of {handle_words(handle)}, and it is bound to {said}"
 
 
-# Values that the user wants to try.
+# Values that the user asked to try.
 
 
 def tried(use: Use) -> Iterator[Slip]:
-    """Yields each value that the user wants to try, in every position, and as an authorization
+    """Yields each value that the user asked to try, in every position, and as an authorization
     value in each form.
     """
     names, kdf = use.right().names, kdf_of(use)
