@@ -9,7 +9,7 @@
  *   parameters: ParameterFact[], answeredHandles: string[], answeredParameters: ParameterFact[],
  * }} CommandFact
  * @typedef {{fixed: string[], isPcr: boolean, first: number[], words: string}} HandleKindFact
- * @typedef {[string, string]} RuleFact a sentence, and the place in the table that has it
+ * @typedef {[string, string]} RuleFact a sentence, and the link to it in the table
  * @typedef {Record<string, string>} Names by their numbers
  * @typedef {{
  *   commands: CommandFact[], otherCommands: Names, handleKinds: Record<string, HandleKindFact>,
