@@ -65,7 +65,7 @@ export class Module {
         return Number(this.view.getBigUint64(this.at[name] + offset, true));
     }
 
-    /** Copies bytes into the memory for one call, after the other buffers. @param {Uint8Array} bytes */
+    /** Copies bytes into memory for one call, after the other buffers. @param {Uint8Array} bytes */
     lend(bytes) {
         this.grow(this.end + bytes.length);
         this.bytes.set(bytes, this.end);

@@ -117,7 +117,7 @@ class Explained(unittest.TestCase):
         self.assertIn("told by", " ".join(map(str, events[-1].reason.facts)))
 
     def test_another_device(self):
-        """If a head is of another device, only the state in it is known. Its power is on."""
+        """Of another device, only the state in its head is known. Its power is on."""
         text = Journal().play(START).text + gone_on(CODE, READ).text
         play = Play()
         events = list(play.events(text))

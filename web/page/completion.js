@@ -78,7 +78,8 @@ function matching(choices, typed) {
 
 /**
  * Returns what may follow the part of a line that is typed.
- * @param {import("./device.js").Chip} chip @param {string} line @param {State} state the device at that line
+ * @param {import("./device.js").Chip} chip @param {string} line
+ * @param {State} state the device at that line
  * @returns {Completion | null}
  */
 export function completionOf(chip, line, state) {

@@ -19,7 +19,8 @@ import { commandWords, plural, secondsWords, sizeWords } from "./words.js";
  * @typedef {{
  *   step: Step, answer: Answer, line: string, before: State, after: State, told?: import("./told.js").ToldShown | null,
  *   plainCommand: Plain | null, plainResponse: Plain | null, plainGiven: Plain | null, uses: Node | null,
- * }} Chosen `plainGiven` is the decrypted response that the script records, if it differs from the device's
+ * }} Chosen `plainGiven` is the decrypted response that the script records, if it differs from the
+ *   device's
  */
 
 const MOST_CHANGES = 40;

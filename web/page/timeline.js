@@ -34,8 +34,8 @@ const REFUSED = 3;
 /**
  * Returns the mark at each pixel. If several steps share a pixel, the pixel gets their most notable
  * mark.
- * @param {import("./script.js").Step[]} steps @param {number[]} refusals @param {number} span the number
- *   of pixels
+ * @param {import("./script.js").Step[]} steps @param {number[]} refusals
+ * @param {number} span the number of pixels
  */
 function marksOf(steps, refusals, span) {
   const marks = new Uint8Array(span + 1).fill(NONE);

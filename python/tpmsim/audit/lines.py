@@ -41,7 +41,7 @@ class PcrLines:
 
     @property
     def change(self) -> str:
-        """Returns what wrote a PCR last."""
+        """Returns a text that says what wrote a PCR last."""
         if not self.last_change:
             return "something before the log wrote a PCR"
         return f"line {self.last_change} {self.last_words}"
@@ -208,7 +208,7 @@ class Repeats:
         self.sessions, self.told = sessions, list[str]()
 
     def note(self, use: Use) -> None:
-        """Notes an entry that has a ground, before its command is added to the history."""
+        """Notes an accepted entry, before its command is added to the history."""
         if use.live is None or use.live.kind != SE_HMAC or not use.entry.hmac:
             return
         handle, nonce = use.entry.handle, use.live.nonce_tpm

@@ -18,7 +18,7 @@ class OfflineGuesses:
         self.sessions, self.told = sessions, list[str]()
 
     def note(self, use: Use) -> None:
-        """Notes an entry that has a ground, before its command is added to the history."""
+        """Notes an accepted entry, before its command is added to the history."""
         attributes = use.entry.attributes
         if use.live is None or not use.is_policy or not unshown.encrypts(attributes):
             return

@@ -1,5 +1,5 @@
-"""An example of each command that succeeds, with the entities that it needs. A test that plays each
-command, or plays it truncated or with changed bytes, starts from here:
+"""A successful example of each command, with the entities that it needs. A test that sends each
+command, or sends it truncated or with changed bytes, starts from here:
     scene = Scene.on(Device())
     scene.tpm.send(EXAMPLES[CC.NV_Read](scene))
 """

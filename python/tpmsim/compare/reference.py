@@ -1,4 +1,4 @@
-"""Plays the unchanged script on this device, with its caller's knowledge at each command."""
+"""Plays the unchanged script on this device, and finds what its caller knew at each command."""
 
 from dataclasses import dataclass, field
 from typing import Any
@@ -142,7 +142,9 @@ class Reference:
         return Shown()
 
     def plain(self, command: Command) -> bytes:
-        """Returns the parameters, decrypted if a session of the command can and should do so."""
+        """Returns the parameters, decrypted if a session of the command encrypts them and can
+        decrypt them.
+        """
         found = command.with_attribute(DECRYPT)
         session = self.model.sessions.get(found[1].handle) if found else None
         is_encrypted = session and session.cipher != ALG_NULL and command.code.takes_sized

@@ -294,7 +294,7 @@ class LibraryDevice(Device):
         self.keep()
 
     def look_open(self) -> None:
-        """Checks like `look`; also raises ValueError after `close`."""
+        """Raises DeviceEnded like `look`, and ValueError after `close`."""
         self.look()
         if not self.holder:
             raise ValueError("the device is closed")
@@ -342,7 +342,7 @@ class LibraryDevice(Device):
                 raise DeviceEnded(f"the image is not written: {fault}") from None
 
     def cycle(self) -> None:
-        """Power-cycles the device, without leaving it halfway."""
+        """Power-cycles the device. If that is interrupted, later calls raise DeviceEnded."""
         self.look_open()
         self.to_its_end(self.cycled)
 

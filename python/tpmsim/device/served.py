@@ -1,4 +1,6 @@
-"""Devices at the other end of a socket or a file, which use the host's time and random bytes."""
+"""Devices at the other end of a socket or a file. They use the time and the random bytes of their
+host.
+"""
 
 import io
 import os
@@ -181,7 +183,7 @@ class SimulatorDevice(InStep, LocatedDevice):
         self.whole(lambda: self.tell(POWER_ON, NV_ON))
 
     def tell(self, *requests: int) -> None:
-        """Sends requests to the platform; raises DeviceEnded if it refuses one."""
+        """Sends requests to the platform; raises DeviceEnded if the device refuses one."""
         for request in requests:
             told = self.platform.send(number(request, 4)).number()
             if told:

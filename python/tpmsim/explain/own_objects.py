@@ -1,4 +1,4 @@
-"""The reasons, with numbers, for refusals by the own checks of commands on objects."""
+"""Explains, with numbers, the refusals by the own checks of commands on objects."""
 
 from tpmsim.explain import ingredients
 from tpmsim.explain.own_nv import too_long, wrong_policy

@@ -196,7 +196,7 @@ class Watched:
         return self.judged()
 
     def execute(self, buffer: bytes, locality: int, random: bytes, elapsed: int) -> Outcome:
-        """Executes a command on the device, without judging it yet."""
+        """Executes a command on the device; `judged` explains the outcome afterwards."""
         scene = Scene(self.model, self.past, self.line, buffer, locality, random, elapsed)
         scene.tried = self.tried
         event = self.event = Event(self.line, scene)
@@ -328,7 +328,7 @@ class Play(Watched):
                 yield event
 
     def step(self, step: records.Step) -> Event | None:
-        """Plays a step, and returns its event, if it is an event."""
+        """Plays a step, and returns its event, if there is one."""
         self.line = step.line
         if isinstance(step, records.Command):
             return self.shown(self.told(step), step.text)

@@ -77,7 +77,7 @@ def values_put_in(use: Use) -> Iterator[Slip]:
 
 
 def told_forms(value: bytes) -> Iterator[tuple[tuple[Told, ...], bytes, bool]]:
-    """Yields a value in each form, and whether it is in a single form."""
+    """Yields a value in each form, and whether only one form was applied."""
     for it in forms_of(value):
         told = tuple((f"authValue {form.name}", form.words) for form in it.forms)
         yield told, it.value, it.is_single

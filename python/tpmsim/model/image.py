@@ -53,7 +53,7 @@ VERSION_1 = Version(1, 32, 8192, False)
 VERSION_2 = Version(2, nv_commands.INDICES, nv_commands.ALL_BYTES, True)
 VERSIONS = {it.number: it for it in (VERSION_1, VERSION_2)}
 
-# The offset of the body in an image that is written.
+# The offset of the body in an image that this module writes.
 BODY_AT = HEAD_BYTES + len(VERSION_2.limits)
 
 

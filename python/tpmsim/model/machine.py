@@ -321,7 +321,7 @@ class Model(
         nonces = entry.nonce, session.nonce_tpm
         return sessions.first_decrypted(*given, *nonces, command.parameters, self.block_cipher)
 
-    # Responses, which are made after the effect.
+    # Responses, which are encoded after the command's effect.
 
     def success(self, command: Command, answer: Answer, random: bytes) -> bytes:
         if command.entries is None:
@@ -378,7 +378,7 @@ class Model(
             hmac = sessions.entry_hmac(*given, entry.nonce, [], entry.attributes)
         return frames.entry_answer(session.nonce_tpm, entry.attributes, hmac)
 
-    # The commands: first their parameters, then their own checks, then the changes.
+    # The commands. Each parses its parameters, makes its own checks, and then changes the device.
 
     @takes(integer(2))
     def get_random(self, request: Request, wanted: int) -> Answer:

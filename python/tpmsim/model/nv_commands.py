@@ -14,7 +14,7 @@ from tpmsim.standard.nv import Attribute, NAMED, NUMBER_BYTES, Public, READS, Ty
 # The largest number of indices, the largest total size of their data, and the largest size of one.
 INDICES, ALL_BYTES, INDEX_BYTES = 64, 16_384, 2048
 
-# The largest size of a buffer that is written, extended by or read.
+# The largest size of a buffer in TPM2_NV_Write, TPM2_NV_Extend and TPM2_NV_Read.
 BUFFER_BYTES = 1024
 
 # The largest value of a counter.

@@ -160,7 +160,7 @@ def check_sensitive(template: Template, parent: Object | None) -> None:
 
 
 def key_bytes(template: Template) -> int:
-    """Returns the size of the generated key, 0 if the data are given."""
+    """Returns the size of the generated key, or 0 if the template contains the data."""
     public = template.public
     if template.data:
         return 0
@@ -180,7 +180,7 @@ def made(template: Template, key: bytes, seed_value: bytes) -> tuple[Public, Sen
 
 
 def primary(template: Template, hierarchy: int, seed: bytes) -> Object:
-    """Returns the primary object of a template and a hierarchy's seed, which is always the same."""
+    """Returns the primary object of a template and a hierarchy's seed. It is the same each time."""
     algorithm = template.public.name_algorithm
     size = digest_bytes(algorithm)
     texts = template.public.text, b"".join(map(sized, template.values))

@@ -46,7 +46,7 @@ def shown(word: bytes) -> str:
     return f'"{plain}"'
 
 
-# The value of each word; a word without a value raises Wrong.
+# Parsers of words; a word without a value raises Wrong.
 
 
 def held_to(holds: bool) -> None:
@@ -98,7 +98,7 @@ def read_code(word: bytes) -> int:
 
 
 def code_word(code: int) -> str:
-    """Returns the name of a command, or its number in hex if it is not served."""
+    """Returns the name of a command, or its number in hex if the device does not support it."""
     return CC(code).name if code in NUMBERED else hex(code)
 
 
@@ -110,12 +110,12 @@ def read_localities(word: bytes) -> int:
 
 
 def localities_word(bits: int) -> str:
-    """Returns the localities, each as a number."""
+    """Returns the numbers of the localities, separated by commas."""
     return ",".join(str(it) for it in range(8) if bits >> it & 1)
 
 
 def read_operation(word: bytes) -> int:
-    """Reads a comparison."""
+    """Parses the operation of TPM2_PolicyNV."""
     name = word.decode("latin-1")
     held_to(name in OPERATIONS)
     return OPERATIONS.index(name)

@@ -118,7 +118,7 @@ class Layer:
         return self.told(executed, line)
 
     def sent(self, buffer: bytes) -> Executed:
-        """Sends a command, and returns what happened."""
+        """Sends a command, and returns its event."""
         self.device.execute(buffer)
         event = self.device.events[-1]
         assert isinstance(event, Executed)

@@ -28,5 +28,5 @@ class OwnModelDevice(OwnDevice, ModelDevice):
 
 
 def own_device() -> OwnDevice:
-    """Returns a fresh device, in the library if there is one."""
+    """Returns a fresh device: the library's if the library is found, or else the model's."""
     return OwnLibraryDevice() if is_there() else OwnModelDevice()

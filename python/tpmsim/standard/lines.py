@@ -82,7 +82,7 @@ def number_up_to(most: int, token: bytes) -> int:
 
 
 def bytes_of(token: bytes) -> bytes:
-    """Reads hex, or `-` for no bytes."""
+    """Parses hex; `-` stands for no bytes."""
     if token == NOTHING:
         return b""
     return bytes.fromhex(of_form(HEX, token)[0].decode("ascii"))
