@@ -60,7 +60,7 @@ STRUCTURES = {"outPublic": "objects.Public", "nvPublic": "nv.Public"}
 
 
 def taken(parameter: Parameter) -> str:
-    """Returns the type of the values that a parameter of a command accepts."""
+    """Returns the type that a parameter of a command accepts."""
     return TAKEN_BY_NAME.get(parameter.name, TAKEN.get(parameter.kind, "int"))
 
 

@@ -24,8 +24,7 @@ def events_of(*lines, answers=None):
 
 
 def last(*lines):
-    """Returns the reason for the refusal of the last line. TPM2_Startup is added before the lines.
-    """
+    """Adds TPM2_Startup before the lines, and returns the reason for the last one."""
     return events_of("do Startup 0", *lines)[-1].reason
 
 

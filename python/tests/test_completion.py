@@ -1,5 +1,5 @@
-"""Compares the completing layer in Python with the one in the library, and tests how a command that
-the layer completed is explained.
+"""Compares the completing layer in Python with the library's, and tests the explanations of
+completed commands.
 """
 
 import pathlib

@@ -68,9 +68,7 @@ def key_of(public):
 
 
 def fault_of(context, device=None, start=START):
-    """Returns the response code for bytes that are not a context of the device, or `opens` if they
-    are.
-    """
+    """Returns the response code for a wrong context, or `opens`."""
     try:
         contexts.opened(device or device_of(), start, context)
     except contexts.Fault as fault:

@@ -62,8 +62,8 @@ AREAS = (
     ("00000024" + ("40000009" + "0000" + "01" + "0000") * 4, "4 > 3", 10),
 )
 
-# The fields of a valid public area of an index; and wrong values of these fields, with the expected
-# and the actual value.
+# The fields of a valid public area of an index; and wrong fields, with the expected and the actual
+# value.
 PUBLIC = dict(nvIndex="01000001", nameAlg="000b", attributes="00020002", authPolicy="0000")
 PUBLIC["dataSize"] = "0008"
 STRUCTURES = (

@@ -110,8 +110,8 @@ class Case:
 
 
 def link(place, make):
-    """Returns a change that replaces one digest of the chain by the result of `make`, which takes
-    the case and the previous digest.
+    """Returns a change that computes one digest of the chain by `make`, from the case and the
+    previous digest.
     """
 
     def of_link(case, links):

@@ -139,9 +139,7 @@ class Slips(unittest.TestCase):
         self.assertEqual(self.slips_of(case, prepared), list(wanted), "\n".join(case.device.trace))
 
     def bends(self, case, wanted, prepared=None, **changes):
-        """Checks that a mistake is reported for a command whose HMAC is right except for these
-        parts.
-        """
+        """Checks the mistake reported for a command whose HMAC has these wrong parts."""
         self.refused(case, case.bent(prepared or case.use(), **changes), wanted)
 
     def cases(self, name, **choices):
@@ -222,7 +220,7 @@ class Slips(unittest.TestCase):
             self.bends(case, "old Name", hashed={"names": [old, old]})
 
     def test_old_name_and_lapsed_binding(self):
-        """The caller does not know that the index was written for the first time."""
+        """The caller does not know of the first write to the index."""
         for case in self.cases("both", bound=True, entity="index"):
             old = case.tpm.name(case.handle)
             case.tpm.send(case.use())

@@ -27,8 +27,7 @@ INDEX, OBJECT = {"entity": "index"}, {"entity": "object"}
 
 
 def setting(**parts):
-    """Returns a change that replaces parts of an HMAC. Each new part is made from the right parts.
-    """
+    """Returns a change that computes parts of an HMAC from the right parts."""
 
     def turn(case, it):
         vars(it).update({name: made(it) for name, made in parts.items()})
@@ -41,9 +40,7 @@ def valued(turn):
 
 
 def keyed(**changes):
-    """Returns a change that replaces the session key. Some parts of the new key are made from the
-    case.
-    """
+    """Returns a change of the session key, made from the case."""
 
     def turn(case, it):
         it.session_key = case.kdf(**{name: made(case) for name, made in changes.items()})

@@ -48,7 +48,7 @@ def audited(script):
 
 
 class OfflineGuesses(unittest.TestCase):
-    """A value that encrypts, although the caller did not have to know it, is reported."""
+    """Reports a value that encrypts although the caller did not have to know it."""
 
     def test_attack(self):
         slip = "guesses of a bound value need no try"

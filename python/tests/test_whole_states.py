@@ -106,8 +106,8 @@ class Explained(unittest.TestCase):
         self.assertIn("began before the log", events[-1].reason.words)
 
     def test_one_head_after_another(self):
-        """A head with the device's state at the end of the log before it continues that log, with
-        all its knowledge.
+        """A head with the state at the end of the previous log continues that log, with all its
+        knowledge.
         """
         first = before()
         text = first.text

@@ -63,8 +63,8 @@ def branch_lists(algorithm: int, policy: Policy) -> Iterator[tuple[int, list[byt
 
 
 def astride(algorithm: int, policy: Policy, told: Told) -> str | None:
-    """Returns a message about a digest of the session that is not the digest of a branch, but
-    consists of the end of one branch's digest and the beginning of the next one.
+    """Describes a digest of the session that is no branch's digest, but the end of one followed by
+    the beginning of the next.
     """
     had = [(zeros(algorithm), "the start"), *((it.digest, f"line {it.line}") for it in told)]
     for line, digests in branch_lists(algorithm, policy):

@@ -41,7 +41,7 @@ class PcrLines:
 
     @property
     def change(self) -> str:
-        """Returns a text that says what wrote a PCR last."""
+        """Returns, as text, what wrote a PCR last."""
         if not self.last_change:
             return "something before the log wrote a PCR"
         return f"line {self.last_change} {self.last_words}"

@@ -272,8 +272,8 @@ class Judged:
 
 
 def held(steps: list[Taken], use: Use, grounds: Grounds) -> Judgement:
-    """Judges the steps at a use of the session. Returns the first condition that does not hold, if
-    any, and everything that was found.
+    """Judges the steps at a use. Returns the first condition that does not hold, and everything
+    found.
     """
     found = [
         finding(it, use, grounds) if isinstance(it, Step) else Finding(True, it.words)
@@ -308,8 +308,8 @@ class Policies:
         return [words for judged in self.all for words in judged.unmet]
 
     def faults(self) -> list[str]:
-        """Returns messages about policies that no entity has, and about uses that do not satisfy
-        the policy of their entity.
+        """Returns messages about policies that no entity has, and uses that do not satisfy their
+        policy.
         """
         missing = [it for it in self.all if not any(map(it.is_of, self.entities.all))]
         words = [f"{it.file.name}: no entity of the log has this policy" for it in missing]

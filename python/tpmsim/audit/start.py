@@ -16,8 +16,8 @@ from tpmsim.standard import HIERARCHIES, nv
 
 @dataclass
 class Start:
-    """The start of a log. `text` names what the device was read from, such as "the image"; it is
-    empty for a new device.
+    """The start of a log. `text` names the source of the device, such as "the image"; empty for a
+    new device.
     """
 
     device: Model

@@ -23,7 +23,7 @@ class Answered(Protocol):
 
     @property
     def check(self) -> str | None:
-        """`ok`, the check that refused the command, or None if the device does not report it."""
+        """`ok`, the check that refused the command, or None if it is unknown."""
         ...
 
 
@@ -35,8 +35,7 @@ class Executes(Protocol):
 
 
 class Caller(Calls, PreparedCommands):
-    """Sends commands to a device. `nonce` is a function that returns the requested number of bytes.
-    """
+    """Sends commands to a device. `nonce(size)` returns a nonce of this size."""
 
     def __init__(
         self, device: Executes, nonce: Callable[[int], bytes] = secrets.token_bytes
@@ -99,7 +98,7 @@ class Caller(Calls, PreparedCommands):
         return use
 
     def tell_step(self, use: Use, step: Step) -> None:
-        """Sends the command of one assertion; for a branching policy, tries its branches."""
+        """Sends the command of one assertion, or tries its branches."""
         session = use.session
         if step.branches:
             self.tell_branch(use, step)
@@ -145,8 +144,8 @@ class Caller(Calls, PreparedCommands):
     def create(
         self, parent: int, public: objects.Public, *uses: Means, user_auth: bytes = b"", **more: Any
     ) -> Made:
-        """Creates an object below a parent; pass the result to `load` to load the object. Optional
-        arguments: `data`, `outside_info` and `pcrs`.
+        """Creates an object below a parent, for `load` to load. Optional arguments: `data`,
+        `outside_info` and `pcrs`.
         """
         response = self.send(self.child(parent, public, *uses, user_auth=user_auth, **more))
         area = objects.Public.read(response["outPublic"])

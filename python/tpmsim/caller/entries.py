@@ -55,9 +55,7 @@ class Use:
 
 @dataclass(frozen=True)
 class Made:
-    """The areas that TPM2_Create returned, as arguments of TPM2_Load, and the authorization value
-    that the caller requested for the object.
-    """
+    """The areas that TPM2_Create returned, for TPM2_Load, and the requested authorization value."""
 
     private: bytes
     public: Public
@@ -136,9 +134,9 @@ class Response:
 
 
 class Refused(TpmsimError):
-    """Raised for a command that the device refuses. `number` is the response code, and `name` its
-    name, empty if it is unknown here. `place` is where the fault is, such as p1, h2 or s1, or
-    empty. `check` is the check that refused the command, such as G9 or A1, if a trace reports it.
+    """A command that the device refuses. `number` is the response code; `name` its name, empty if
+    it is unknown here; `place` its place, such as p1, h2 or s1, or empty; and `check` the check
+    that refused the command, such as G9 or A1, if a trace reports it.
     """
 
     def __init__(self, prepared: Prepared, number: int, check: str | None = None) -> None:

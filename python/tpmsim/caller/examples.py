@@ -41,7 +41,7 @@ class Scene:
 
     @classmethod
     def on(cls, device: Transport) -> Self:
-        """Starts a fresh device, and makes these entities on it."""
+        """Starts a fresh device, and makes these entities."""
         tpm = Caller(device)
         tpm.start_up()
         parent = tpm.create_primary(storage_key())

@@ -160,8 +160,8 @@ class Knowledge:
 
     @staticmethod
     def nonces_of_others(prepared: Prepared, place: int, handle: int | None) -> list[bytes]:
-        """Returns the nonces of the other sessions that decrypt, followed by those of the sessions
-        that encrypt. They belong only in the first entry, and only if it authorizes a handle.
+        """For a first entry that authorizes a handle, returns the nonces of the other sessions that
+        decrypt, followed by those of the sessions that encrypt; otherwise none.
         """
         if place != 1 or handle is None:
             return []

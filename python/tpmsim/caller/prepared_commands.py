@@ -24,8 +24,8 @@ class PreparedCommands(Commands):
     def asked(
         self, code: CC, those: Sequence[int], uses: Sequence[Means], *values: Any
     ) -> Prepared:
-        """Prepares a command with a value for each parameter. Without uses, the known authorization
-        value of its first handle authorizes it.
+        """Prepares a command with a value for each parameter. Without uses, the handle's known
+        authorization value authorizes it, as a password.
         """
         return self.bare(code, those, self.by(uses, those[0]) if code.authorized else uses, *values)
 

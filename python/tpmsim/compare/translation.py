@@ -12,7 +12,7 @@ from tpmsim.standard import ALG_NULL, CC, CONTINUE_SESSION, DECRYPT, Entry, Fiel
 from tpmsim.standard import frames, is_policy, is_session, Kind, nv, RS_PW, sessions, Short
 from tpmsim.standard.values import read_all, VALUES
 
-# The least size of a value that is replaced; a shorter one could occur in a command by chance.
+# The least size of a replaced value. A shorter one could occur in a command by chance.
 LEAST_VALUE = 8
 
 TIED = "a Name of an object is in its policy"
@@ -75,7 +75,7 @@ class Translation:
         return prepared
 
     def check_hashed(self, asked: Command, handles: list[int], parameters: bytes) -> None:
-        """Raises NotComparable if the policy contains the cpHash of this command, but the Names or
+        """Raises NotComparable if a policy contains this command's cpHash, but its Names or
         parameters differ on the other TPM.
         """
         names = [self.known.name(it) for it in handles]

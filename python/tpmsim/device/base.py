@@ -1,4 +1,4 @@
-"""The interface of every device, whether it is in this process or elsewhere."""
+"""The interface of every device, in this process or elsewhere."""
 
 from abc import ABC, abstractmethod
 from dataclasses import dataclass
@@ -14,7 +14,7 @@ class Unsupported(TpmsimError):
 
 
 class DeviceEnded(TpmsimError):
-    """The device has ended, or can no longer be used; the message says why."""
+    """The device has ended, or is unusable; the message says why."""
 
 
 class BadImage(TpmsimError):

@@ -77,7 +77,7 @@ class ChildDevice(InStep, Device):
         return os.path.join(self.folder, name)
 
     def begin(self, image: bytes) -> None:
-        """Starts the device of an image. If the bytes are not an image, the first command raises
+        """Starts the device of an image. If it is not an image, the first command raises
         DeviceEnded.
         """
         self.image = pathlib.Path(self.within("image"))
@@ -119,9 +119,7 @@ class ChildDevice(InStep, Device):
         return self.whole(lambda: self.told(buffer, locality, elapsed, random))
 
     def told(self, buffer: bytes, locality: int, elapsed: int, random: bytes) -> Executed:
-        """Sends a command with its locality, elapsed time and random bytes, and reads its trace and
-        response.
-        """
+        """Sends a command with its settings, and reads its trace and response."""
         before = [f"wait {elapsed}"] if elapsed else []
         if locality != self.told_locality:
             before.append(f"loc {locality}")
@@ -132,7 +130,7 @@ class ChildDevice(InStep, Device):
         return Executed(buffer, response, locality, elapsed, random, check, code)
 
     def cycle(self) -> None:
-        """Power-cycles the device as one exchange; if it is interrupted, the device is closed."""
+        """Power-cycles the device as one exchange."""
         self.whole(self.told_power)
 
     def told_power(self) -> None:

@@ -267,9 +267,7 @@ class LibraryDevice(Device):
         self.begun = kept or self.save()
 
     def manufacture(self, given: bytes | None) -> None:
-        """Manufactures the device from the given bytes, from those of its seed, or from random
-        ones.
-        """
+        """Manufactures the device from the given bytes, from its seed, or from random bytes."""
         if given is None and self.seed is not None:
             given = hashlib.shake_256(self.seed).digest(RANDOM_BYTES)
         random = os.urandom(RANDOM_BYTES) if given is None else given

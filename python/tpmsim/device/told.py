@@ -105,14 +105,13 @@ class Device(Transport):
         raise NotImplementedError
 
     def resume(self, text: bytes) -> None:
-        """Replaces this device by the device of a state text. Raises BadState if the bytes are not
-        a state text. If it raises BadState, Unsupported or NothingReplaced, the device is
-        unchanged.
+        """Replaces this device by the device of a state text. Raises BadState if it is not a state
+        text. If it raises BadState, Unsupported or NothingReplaced, the device is unchanged.
         """
         raise NotImplementedError
 
     def answer(self, buffer: bytes, locality: int, elapsed: int, random: bytes) -> Executed:
-        """Executes a command with its locality, elapsed time and random bytes."""
+        """Executes a command with its locality, time and random bytes."""
         raise NotImplementedError
 
     def cycle(self) -> None:

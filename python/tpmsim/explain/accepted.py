@@ -92,9 +92,7 @@ def unwritten(scene: Scene) -> Iterator[Reason]:
 
 
 def offline_guesses(scene: Scene) -> Iterator[Reason]:
-    """Notes that a parameter is encrypted with an authorization value that the entry did not prove
-    to know.
-    """
+    """Notes encryption with a value that the caller did not have to know."""
     for place, entry, _ in scene.command.places:
         use = ingredients.use_of(scene, place)
         if use is None or not unshown.encrypts(entry.attributes):
@@ -109,8 +107,8 @@ def offline_guesses(scene: Scene) -> Iterator[Reason]:
 
 
 def after(scene: Scene) -> Iterator[Reason]:
-    """Returns notes after the effect of a command: that the random bytes are zeros, which is
-    reported once, and that a nonceTPM repeats.
+    """Returns notes after the effect: that the random bytes are zeros, once, and that a nonceTPM
+    repeats.
     """
     if scene.code in DRAWS and not any(scene.random) and "random" not in scene.past.told_once:
         scene.past.told_once.add("random")

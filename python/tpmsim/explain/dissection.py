@@ -24,8 +24,8 @@ class Cut(TpmsimError):
 
 @dataclass
 class Field:
-    """A field of a buffer. Its first `front` bytes are its size, and it is inside `depth`
-    structures. A structure is a field with `is_group`; the fields in it follow it.
+    """A field. Its first `front` bytes are a size, and it is inside `depth` structures. If it is a
+    structure (`is_group`), its fields follow it.
     """
 
     name: str
@@ -82,8 +82,8 @@ class Walk:
 
     @contextmanager
     def group(self, name: str, size: int | None = None, front: int = 0) -> Iterator[None]:
-        """Opens a structure, which has a given size or ends with the fields that are read in it;
-        raises Cut if the bytes end within the structure's size field.
+        """Opens a structure, of a given size or as large as the fields read in it; raises Cut if
+        the bytes end within its size field.
         """
         if self.end - self.at < front:
             self.take(front, name, lambda it: "")
@@ -133,9 +133,7 @@ def number(size: int, meaning: Callable[[int], str] = str) -> Reader:
 
 
 def named(size: int, names: dict[int, str], other: str) -> Reader:
-    """Returns a reader of a number. The field's meaning is the name of the number, or `other` if it
-    has none.
-    """
+    """Returns a reader of a number that has a name; without a name, it means `other`."""
     return number(size, lambda it: names.get(it, other))
 
 

@@ -37,7 +37,7 @@ def of_sized(value: bytes) -> bytes:
     return value[2:] if value == sized(value[2:]) else b""
 
 
-# Forms that may be combined: a form may be applied to the result of another form.
+# Forms that may be combined, by applying one to the result of another.
 NESTED = (
     Form("with a line break", "with a line break after it", lambda it: it + b"\n"),
     Form("as SHA-256", "as its SHA-256 digest", lambda it: hashlib.sha256(it).digest()),

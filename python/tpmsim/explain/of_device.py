@@ -30,9 +30,8 @@ def lines_of(device: Transport) -> list[str]:
 
 
 def why_refused(log: bytes) -> str:
-    """Returns why the last refused command of a log was refused, or an empty text if none was. If a
-    response differs from the model's, returns only that difference, because the model does not
-    match the device after it.
+    """Returns why the last refused command of a log was refused; empty if none was. If a response
+    differs from the model's, returns only that difference, since the model is no longer reliable.
     """
     refused: Event | None = None
     for event in Play().events(log):

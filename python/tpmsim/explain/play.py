@@ -34,13 +34,12 @@ class Difference:
 
 @dataclass
 class Event:
-    """An event of a log. At a power cycle its scene has no buffer. It contains the reason why the
-    command was refused, what else is reported about it, and where the log's responses differ;
-    `answers` is the number of responses in the log. If the event is examined as a whole, `entries`
-    contains the ingredients of the HMACs, by position, and `answered` the decrypted response
-    parameters. `comments` contains the paragraphs of comments before it. With `completes`, the
-    completing layer was above the device: `layer` says what it did, if anything, and `own` is the
-    outcome of the device itself.
+    """An event of a log. At a power cycle its scene has no buffer. It contains why the command was
+    refused, what else is reported about it, and where the log's responses differ; `answers` is the
+    number of responses in the log. If it is examined as a whole, `entries` contains the ingredients
+    of the HMACs, by position, and `answered` the decrypted response parameters. `comments` contains
+    the paragraphs of comments before it. With `completes`, the completing layer was present:
+    `layer` says what it did, if anything, and `own` is the outcome of the device itself.
     """
 
     line: int
@@ -205,9 +204,7 @@ class Watched:
         return outcome
 
     def judged(self) -> Event:
-        """Returns the event, with the reason why the device refused it, or with what the device
-        did.
-        """
+        """Returns the event, with the reason why the device refused it, or what it did."""
         event, scene = self.now, self.now.scene
         assert event.outcome is not None
         if not event.refused:
@@ -364,9 +361,7 @@ class Play(Watched):
         return event
 
     def comment(self, words: str) -> None:
-        """Adds a line of a comment to the paragraph before the next event. An empty line ends the
-        paragraph.
-        """
+        """Adds a line of a comment to its paragraph. An empty line ends the paragraph."""
         if words and self.comments:
             self.comments[-1] = f"{self.comments[-1]} {words}".strip()
         elif words:

@@ -42,9 +42,7 @@ def policy_lacks(use: Use) -> str:
 
 
 def difference(use: Use, wanted: bytes, found: Reason) -> str:
-    """Returns the difference between the digests as text, and adds facts, as far as the log shows
-    it.
-    """
+    """Returns the difference as text, and adds facts, as far as the log shows it."""
     if use.begun is None:
         return "Its session began before the log, which may lack some of its assertions."
     steps = use.begun.told
@@ -149,8 +147,8 @@ def moved(use: Use, step: Step, then: Banks, found: Reason) -> str:
 
 
 def from_outside(use: Use, steps: Sequence[Step], wanted: bytes, found: Reason) -> str:
-    """Returns the mistake that explains the expected digest, as text, or the number of digests that
-    were tried.
+    """Returns the mistake that explains the expected digest, as text, or how many digests were
+    tried.
     """
     search = policy_slips.Search(use, steps, wanted)
     told = search.told()

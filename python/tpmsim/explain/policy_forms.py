@@ -14,8 +14,8 @@ from tpmsim.standard import CC, digest, digest_bytes, number, sized
 
 @dataclass(frozen=True)
 class Text:
-    """A row of the table: its name, its words, and a function from the previous digest to the next
-    one, which returns None if the row does not apply to this assertion.
+    """A row of the table: a name, words, and a function from the previous digest to the next, which
+    returns None if the row does not apply to this assertion.
     """
 
     name: str
@@ -24,8 +24,8 @@ class Text:
 
 
 def pcr_text(parts: Callable[[int, bytes, bytes], bytes | None]) -> Any:
-    """Returns a function for a row about PolicyPCR. `parts` makes the text that follows the command
-    code, from the selection and the digest.
+    """Returns the function of a PolicyPCR row. `parts` makes the text after the command code, from
+    the selection and the digest.
     """
 
     def link(step: Step, update: Update, algorithm: int, old: bytes) -> bytes | None:
@@ -47,14 +47,14 @@ def by_password(algorithm: int, update: Update, old: bytes) -> bytes | None:
 
 
 def without_reference(algorithm: int, update: Update, old: bytes) -> bytes | None:
-    """Makes the mistake of one hash that includes policyRef, instead of two hashes."""
+    """Uses one hash that includes policyRef, instead of two hashes."""
     if update.reference is None:
         return None
     return digest(algorithm, old + number(update.code, 4) + update.about + update.reference)
 
 
 def old_before_or(algorithm: int, update: Update, old: bytes) -> bytes | None:
-    """Makes the mistake of a PolicyOR that hashes the previous digest."""
+    """Makes a PolicyOR hash the digest before it."""
     return (
         digest(algorithm, old + number(update.code, 4) + update.about) if update.forgets else None
     )
@@ -65,9 +65,7 @@ def or_without_zeros(algorithm: int, update: Update, old: bytes) -> bytes | None
 
 
 def unhashed_arguments(algorithm: int, update: Update, old: bytes) -> bytes | None:
-    """Makes the mistake of a PolicyNV with its operand, offset and operation, instead of their
-    hash.
-    """
+    """Uses PolicyNV's operand, offset and operation, and not their hash."""
     if not update.apart:
         return None
     name = update.about[digest_bytes(algorithm) :]

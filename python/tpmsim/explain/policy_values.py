@@ -112,8 +112,8 @@ def before_words(pairs: Sequence[Any]) -> Iterator[tuple[Any, str]]:
 
 
 def other_banks(selected: Sequence[Any]) -> Iterator[list[Any]]:
-    """Yields the same PCRs in the other bank or in both banks; for two banks, the banks swapped, or
-    only one of them.
+    """Yields the same PCRs in the other bank or in both; for two banks, the banks swapped, or one
+    of them.
     """
     if len(selected) == 1:
         bank, pcrs = selected[0]

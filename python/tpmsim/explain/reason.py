@@ -40,9 +40,9 @@ class Fact:
 
 @dataclass
 class Reason:
-    """Why a command was refused: the check, by its key in RULES, and the findings. `slips` are the
-    common mistakes that make exactly the bytes that were sent, and `at` is the offset of the error
-    in the buffer.
+    """Why a command was refused: a check, by its key in RULES, with the findings. `slips` are the
+    common mistakes that make exactly the sent bytes, and `at` is the offset of the error in the
+    buffer.
     """
 
     rule: str
@@ -83,8 +83,8 @@ class Reason:
 class Scene:
     """A command, and the model before it. `refused` is the response code, such as VALUE/p1, and
     `elapsed` is in milliseconds. `known` is the command, if it passed the general checks, and
-    `plain` its decrypted parameters, if its entries were accepted. `tried` contains the values that
-    the user asked to try.
+    `plain` its decrypted parameters, if its entries were accepted. `tried` contains the values of
+    `--try`.
     """
 
     model: Model
@@ -207,8 +207,7 @@ class Look:
         return handle_words(self.handles[place])
 
     def since(self, handle: int, words: str) -> str:
-        """Returns the words, followed by the line that made the entity of a handle; empty if the
-        line is unknown.
+        """Returns the words and the line that made a handle's entity; empty if the line is unknown.
         """
         line = self.past.begun.get(handle, 0)
         return f"{words} {line}" if line else ""

@@ -40,9 +40,7 @@ class Slip:
 
 
 class Row(NamedTuple):
-    """A row of a table: a mistake that changes the correct ingredients, or the correct parts of
-    KDFa.
-    """
+    """A mistake in a table, which changes the correct ingredients, or the correct parts of KDFa."""
 
     name: str
     words: str

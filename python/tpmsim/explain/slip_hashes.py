@@ -22,9 +22,7 @@ PAIRED_OTHERS = 8
 
 
 def renamed(use: Use, handles: Sequence[int], names: Sequence[bytes]) -> tuple[bytes, ...]:
-    """Returns the Names of the command. Those of the given handles are replaced, wherever they
-    occur.
-    """
+    """Returns the command's Names, with those of the given handles replaced."""
     others = dict(zip(handles, names))
     right = use.scene.model.names(use.command)
     return tuple(others.get(at, old) for at, old in zip(use.command.handles, right))

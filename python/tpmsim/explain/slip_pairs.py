@@ -65,8 +65,8 @@ def together(first: Turned, second: Turned, right: Ingredients) -> bytes:
 
 
 def upon(inner: Turned, outer: Turned) -> Ingredients | None:
-    """Applies the outer mistake to the result of the inner one; None if they do not change the same
-    ingredient.
+    """Applies the outer mistake to the inner one's result; None if they change different
+    ingredients.
     """
     if inner is outer or outer.slip.turn is None or inner.names.isdisjoint(outer.names):
         return None

@@ -110,8 +110,8 @@ def of_others(use: Use) -> Iterator[Slip]:
         yield value_slip("another's authValue", words, value, at < PAIRED_OTHERS)
 
 
-# The block size of both hash algorithms, to which an HMAC's key is padded with zeros; and the
-# largest size that is tried.
+# The block size of both hash algorithms, to which keys are padded with zeros; and the largest size
+# that is tried.
 BLOCK, MOST_PADDED = 64, 128
 
 
@@ -160,9 +160,7 @@ def mistyped(use: Use) -> Iterator[Slip]:
 
 
 def kdf_of(use: Use) -> Kdf | None:
-    """Returns the parts from which the session key is made, if there is a key and the log shows its
-    start.
-    """
+    """Returns the parts of the session key, if there is a key and the log shows its start."""
     begun, session = use.begun, use.session
     if begun is None or not session.key:
         return None
@@ -238,9 +236,7 @@ def bind_values(use: Use) -> Iterator[tuple[bytes, str]]:
 
 
 def tried(use: Use) -> Iterator[Slip]:
-    """Yields each value that the user asked to try, in every position, and as an authorization
-    value in each form.
-    """
+    """Yields each `--try` value in every position, and as an authorization value in each form."""
     names, kdf = use.right().names, kdf_of(use)
     for value in use.scene.tried:
         said = f"the tried value, {bytes_words(value)},"

@@ -94,9 +94,7 @@ class Search:
         return []
 
     def part_words(self, made: bytes) -> str:
-        """Returns how one of the two HMACs, the sent one or `made`, is a part of the other; empty
-        if neither is.
-        """
+        """Returns how the sent HMAC or `made` is a part of the other one; empty if neither is."""
         given, algorithm = self.given, self.use.session.algorithm
         has = f"{size_words(len(given))}, and one by {HASH_WORDS[algorithm]} has "
         has += str(digest_bytes(algorithm))

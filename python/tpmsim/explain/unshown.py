@@ -1,6 +1,6 @@
 """Encryption with an authorization value that the caller did not have to know. The TPM compares
-nothing, so anyone who has the ciphertext can test guesses of the value without the device, and
-these guesses do not count as failed tries (docs/table/lockout.md).
+nothing, so anyone who has the ciphertext can test guesses of the value without the device, and no
+guess counts as a failed try (docs/table/lockout.md).
 """
 
 from tpmsim.standard import DECRYPT, ENCRYPT

@@ -27,7 +27,7 @@ MOST_STIRRED = 128
 # A response code that only the layer returns.
 OWN_CODES = {"TOO_MANY_CONTEXTS": 0x12E}
 
-# The tag of a TPM 1.2 command, and the device's response to such a command.
+# The tag of a TPM 1.2 command, and the device's response to it.
 OF_FAMILY_1, BAD_TAG = 0xC1, frames.HEADER.pack(0xC4, 10, 0x1E)
 
 ALGORITHMS = {
@@ -146,15 +146,15 @@ class Completion:
 
     @property
     def numbers(self) -> Layer:
-        """The numbers of the layer that a state text contains."""
+        """The layer's numbers in a state text."""
         return Layer(self.start, self.count, list(self.sessions))
 
     def execute(
         self, device: Model, event: tuple[bytes, int, bytes, int], execute: Execute, place: Place
     ) -> Completed:
-        """Executes a command with the layer. `event` is the command's buffer, locality, random
-        bytes and milliseconds. `execute` has the device execute it, and `place` has the device
-        place the object of a context.
+        """Executes a command with the layer. `event` is its buffer, locality, random bytes and
+        milliseconds. `execute` executes it on the device, and `place` places the object of a
+        context there.
         """
         own = execute(*event)
         self.forget(device)
@@ -169,7 +169,7 @@ class Completion:
         place = handle & PLACE_BITS
         return self.sessions[place] if place < SESSIONS else 0
 
-    # Answers of the layer, made after the device has answered.
+    # Answers of the layer.
 
     def reply(self, device: Model, buffer: bytes, own: Outcome, place: Place) -> Completed:
         stands, asked = Completed(own, own), asked_of(buffer)
@@ -217,8 +217,8 @@ class Completion:
     def listed(
         self, device: Model, wanted: list[int], own: Outcome
     ) -> list[tuple[int, bytes]] | None:
-        """Returns the elements of a list that the layer makes, each with the number by which a
-        command requests it; None for other lists.
+        """Returns the elements of a list that the layer makes, each with its number in requests;
+        None for other lists.
         """
         if own.refused:
             return self.unserved(wanted[0]) if own.refused == "VALUE/p1" else None
@@ -246,7 +246,7 @@ class Completion:
         return Counts(len(device.sessions) - saved, saved, objects)
 
     def handles(self, device: Model, kind: int) -> list[tuple[int, bytes]] | None:
-        """Returns the handles of sessions that are loaded (kind 02) or saved (kind 03)."""
+        """Returns the handles of loaded (kind 02) or saved (kind 03) sessions."""
         if kind not in (frames.HMAC_SESSION, frames.POLICY_SESSION):
             return None
         is_saved = kind == frames.POLICY_SESSION

@@ -45,9 +45,7 @@ def test_parms(device: Model, parameters: Parameters) -> bytes:
 
 
 def hash_check(device: Model, hierarchy: int, data: bytes, found: bytes) -> bytes:
-    """Returns the ticket that allows a restricted key to sign the digest of the data; a NULL ticket
-    if the key may not sign it.
-    """
+    """Returns the ticket with which a restricted key may sign the digest, or else a NULL ticket."""
     if hierarchy == RH_NULL or data.startswith(GENERATED_VALUE):
         return frames.ticket(ST_HASHCHECK, RH_NULL, b"")
     check = mac(SHA256, device.proofs[hierarchy], number(ST_HASHCHECK, 2) + found)
@@ -73,8 +71,8 @@ ROWS: dict[int, tuple[Row, str]] = {
 
 
 def answer(device: Model, code: int, parameters: bytes) -> tuple[bytes, str, str]:
-    """Returns the bytes of the response after the header, the name of the response code if the
-    command is refused, and what the layer did.
+    """Returns the response after the header, the name of a refusal's response code, and what the
+    layer did.
     """
     row, words = ROWS[code]
     try:

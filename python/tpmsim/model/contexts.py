@@ -91,7 +91,7 @@ def key_and_iv(proof: bytes, head: Head) -> tuple[bytes, bytes]:
 
 
 def integrity(proof: bytes, binding: Binding, head: Head, cipher: bytes) -> bytes:
-    """Returns the integrity value. Only that of an object with stClear depends on restartCount."""
+    """Returns the integrity value. It depends on restartCount only for an object with stClear."""
     restarts = binding.restarts if head.saved_handle == ST_CLEAR else 0
     counts = number(binding.start, 8) + number(binding.resets, 4) + number(restarts, 4)
     bound = counts + number(head.sequence, 8) + number(head.saved_handle, 4)

@@ -50,8 +50,8 @@ class Command:
         return [(at, *both) for at, both in enumerate(zip(entries, authorized), 1)]
 
     def others(self, place: int, handle: int | None) -> list[int]:
-        """Returns the sessions of other entries that decrypt or encrypt, in this order, if this is
-        the first entry and it authorizes a handle.
+        """Returns the sessions of other entries that decrypt or encrypt, if this is the first entry
+        and it authorizes a handle.
         """
         if place != 1 or handle is None:
             return []
@@ -59,8 +59,8 @@ class Command:
         return list(dict.fromkeys(it[1].handle for it in found if it and it[0] != 1))
 
     def with_attribute(self, attribute: int) -> tuple[int, Entry, int | None] | None:
-        """Returns the entry with this attribute (decrypt or encrypt), its number, and the handle
-        that it authorizes; None if there is no such entry.
+        """Returns the entry that decrypts or encrypts, its number, and the handle that it
+        authorizes; None if there is none.
         """
         for place, entry, handle in self.places:
             if entry.attributes & attribute:

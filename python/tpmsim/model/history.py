@@ -84,8 +84,8 @@ PastEvent = Accepted | PowerCycle | ObjectPlaced
 
 @dataclass
 class Pcrs:
-    """The values of the PCRs. `updates` counts their changes and TPM2_Clear; `saved` contains the
-    values at the last shutdown.
+    """PCR values. `updates` counts their changes and TPM2_Clear; `saved` contains those at the last
+    shutdown.
     """
 
     values: dict[int, list[bytes]] = field(default_factory=pcrs.starting_banks)

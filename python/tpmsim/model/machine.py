@@ -153,7 +153,7 @@ class Model(
 
     @staticmethod
     def tell(event: PastEvent) -> None:
-        """Called with each accepted event. Does nothing unless it is replaced."""
+        """Called with each accepted event. Does nothing by default."""
 
     def accepted(
         self,
@@ -335,8 +335,8 @@ class Model(
         return frames.success(parameters, entries, answer.handle)
 
     def end_use(self, entry: Entry, handle: int | None) -> None:
-        """Ends a session that does not continue. Otherwise restarts its policy if it authorized,
-        since a policy is valid for one authorization.
+        """Ends a session, or restarts its policy if it authorized, since a policy is valid for one
+        authorization.
         """
         if entry.handle == RS_PW:
             return
@@ -438,7 +438,7 @@ class Model(
         return Answer(sized(nonce_tpm), number(handle, 4), drawn=size)
 
 
-# The row of a command is the method that has the command's name.
+# The row of each command is the method with the command's name.
 ROWS: dict[CC, Callable[[Model, Request], Answer]] = {
     it: getattr(Model, it.method_name) for it in CC
 }

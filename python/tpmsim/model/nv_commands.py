@@ -237,8 +237,8 @@ class Commands(Held):
     def nv_increment(self, request: Request) -> Answer:
         asker, index = self.asked(request)
         check_writing(index.public, asker, Type.COUNTER)
-        # A new counter starts from the largest value so far, so that it does not decrease if it is
-        # defined again.
+        # A new counter starts at the largest value so far, so redefining a counter does not
+        # decrease it.
         old = self.largest_counter
         if index.public.has(Attribute.WRITTEN):
             old = unsigned(index.data)

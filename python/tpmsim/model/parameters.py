@@ -148,8 +148,8 @@ Row = Callable[[Any, Request], Answer]
 
 
 def takes(*readers: Reader) -> Callable[[Act], Row]:
-    """Makes a row from a function of the parameters, with a parser for each. Refuses bytes after
-    the last parameter.
+    """Makes a row from a function and a parser for each parameter. Refuses bytes after the last
+    one.
     """
 
     def row_of(act: Act) -> Row:

@@ -45,8 +45,8 @@ class Words:
         self.locality, self.random, self.elapsed = 0, bytes(RANDOM_BYTES), 0
 
     def take(self, line: bytes) -> bytes | None:
-        """Returns the buffer of a command's line. For the line of a setting, stores the setting and
-        returns None. Refuses `power`.
+        """Returns the buffer of a command's line. Stores other settings, and returns None. Refuses
+        `power`.
         """
         word, space, argument = line.partition(b" ")
         if len(line) > LINE_BYTES:

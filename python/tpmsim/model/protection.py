@@ -15,10 +15,9 @@ MILLISECONDS = 1000
 
 @dataclass
 class Lockout:
-    """The state of dictionary attack protection. `failed_tries` counts the failed tries that are
-    not yet forgiven. `recovery_time` and `lockout_recovery` are in seconds. `forgiving_time` and
-    `closed_time` are the milliseconds since a try was counted or forgiven, and since lockoutAuth
-    was disabled.
+    """`failed_tries` counts the failed tries that are not yet forgiven. `recovery_time` and
+    `lockout_recovery` are in seconds. `forgiving_time` and `closed_time` are the milliseconds since
+    a try was counted or forgiven, and since lockoutAuth was disabled.
     """
 
     failed_tries: int = 0
@@ -30,7 +29,7 @@ class Lockout:
     closed_time: int = 0
 
     def power_cycle(self) -> None:
-        """Restarts the two times, and keeps the rest."""
+        """Restarts only the two times."""
         self.forgiving_time = self.closed_time = 0
 
     def tick(self, elapsed: int) -> None:

@@ -30,8 +30,7 @@ class Fault(TpmsimError):
 
 @dataclass(frozen=True)
 class Row:
-    """A line that is neither empty nor a comment: its number, its indentation in steps, and its
-    words.
+    """A line that is not empty or a comment: its number, its indentation in steps, and its words.
     """
 
     number: int
@@ -187,8 +186,8 @@ class PolicyFile:
 
 @dataclass(frozen=True)
 class Step:
-    """One step of a policy, made by an assertion. A PolicyOR contains the steps of each branch. A
-    step about an entity contains its Name.
+    """The step of an assertion. A PolicyOR contains the steps of each branch; a step about an
+    entity contains its Name.
     """
 
     code: CC

@@ -17,8 +17,7 @@ from tpmsim.standard.lines import Wrong
 
 LOCALITIES = {b"0", b"1", b"2", b"3", b"4"}
 
-# The first bytes of the Name of an object or an index, and the size of a Name that begins with
-# them.
+# The first bytes of the Name of an object or an index, and the size of such a Name.
 HASHED_NAMES = {number(it, 2): 2 + digest_bytes(it) for it in (SHA1, SHA256)}
 
 
@@ -247,8 +246,8 @@ def said_of(
     names: Sequence[bytes],
     pcr_digest: Callable[[list[values.Bank], bytes], bytes],
 ) -> Said:
-    """Returns the assertion that a command makes. `names` are the Names of its handles, and
-    `pcr_digest` returns the digest for TPM2_PolicyPCR.
+    """Returns the assertion that a command makes, given the Names of its handles. `pcr_digest`
+    returns the digest for TPM2_PolicyPCR.
     """
     given = values.read_all(code.parameters, parameters)
     match code:

@@ -17,8 +17,8 @@ MARK = re.compile(rb"# ([0-9a-f]{52}) ([0-9a-f]{16})")
 STATE = b"2"
 MARK_LINE_BYTES = 72
 
-# The size of an entry's lines, without its mark, and without the two digits for each random byte
-# and for each byte of the command.
+# The size of an entry's lines without its mark, and without the digits of its random bytes and of
+# its command.
 LINES_BYTES = 36
 
 # The sizes of an entry's lines for the time, the locality and the random bytes (without the two
@@ -40,8 +40,8 @@ def sum_of(data: bytes) -> int:
 
 @dataclass(frozen=True)
 class HeadMark:
-    """The mark of a journal's head: the host's clock, and the size and the checksum of the image or
-    the state text; `said` is the mark's own checksum.
+    """A head's mark: the host's clock, and the size and the checksum of the image or the state
+    text; `said` is the mark's own checksum.
     """
 
     is_state: bool
@@ -71,7 +71,7 @@ class HeadMark:
 
 @dataclass(frozen=True)
 class Mark:
-    """The mark of an entry: what it says about its command, and the checksum of the response."""
+    """An entry's mark: what it says about its command, and the checksum of the response."""
 
     elapsed: int
     locality: int

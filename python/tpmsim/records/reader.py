@@ -215,9 +215,7 @@ class Reading:
             self.after.append(given[2])
 
     def command(self, text: bytes, buffer: bytes) -> Command:
-        """Returns a command with its locality, time and random bytes, and with the damage of its
-        mark.
-        """
+        """Returns a command with its settings, and with the damage of its mark."""
         words, mark = self.words, self.mark
         given = buffer, words.locality, words.elapsed
         found = Command(self.line, text, *given, words.random, self.is_completed, self.said)

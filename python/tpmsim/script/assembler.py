@@ -154,8 +154,8 @@ class Assembler:
         return answer
 
     def learn_unchecked(self, prepared: Prepared, response: bytes) -> tuple[int | None, bytes]:
-        """Reads and learns from a successful response without checking it, because the script
-        contains an entry's HMAC. Parameters that such a session encrypts stay encrypted.
+        """Returns a successful response unchecked, and learns from it, because the script contains
+        an entry's HMAC. What such sessions encrypt stays encrypted.
         """
         fields = Fields(response[HEADER_BYTES:])
         handle = fields.number(4) if prepared.code.answers_handle else None

@@ -1,7 +1,6 @@
 """The implemented commands, each as one entry of the enumeration below, in the words of the TPM 2.0
 Library, Part 3. Everything else about a command follows from its entry: its number, its format, its
-line, the terms with which a policy can name it, what TPM2_GetCapability returns, and the method
-that executes it.
+line, how a policy names it, what TPM2_GetCapability returns, and the method that executes it.
 """
 
 from __future__ import annotations
@@ -75,8 +74,7 @@ READS_NV, KEEPS_SAVED = Fact.READS_NV, Fact.KEEPS_SAVED
 
 @dataclass(frozen=True)
 class Handle:
-    """A handle of a command. In an entry, an `@` before its name says that it needs authorization.
-    """
+    """A handle of a command. An `@` before its name says that it needs authorization."""
 
     name: str
     kind: HandleKind

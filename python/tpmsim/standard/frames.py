@@ -117,9 +117,7 @@ def read_entry(fields: Fields) -> Entry:
 
 
 def entries_of(area: bytes) -> Iterator[Entry]:
-    """Yields the entries of an area, which does not include its size; raises Short if the last
-    entry is cut off.
-    """
+    """Yields the entries of an area without its size; raises Short if the last entry is cut off."""
     fields = Fields(area)
     while fields.data:
         yield read_entry(fields)
@@ -303,8 +301,8 @@ def refusal(code: int) -> bytes:
 
 
 def success(answer: bytes, entries: list[bytes] | None = None, handle: bytes = b"") -> bytes:
-    """Returns the response of a successful command: a handle, if any, the parameters, and, with
-    sessions, their entries.
+    """Returns a successful response: a handle, if any, the parameters, and, with sessions, their
+    entries.
     """
     if entries is None:
         tag, body = NO_SESSIONS, handle + answer

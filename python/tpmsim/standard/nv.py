@@ -88,7 +88,7 @@ class Public:
 
     @property
     def is_free(self) -> bool:
-        """Whether failed authorizations of the index do not count as failed tries."""
+        """Whether failed authorizations do not count as failed tries."""
         return self.has(Attribute.NO_DA)
 
     @property

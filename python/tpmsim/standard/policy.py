@@ -38,9 +38,7 @@ def after_command_code(algorithm: int, old: bytes, code: int) -> bytes:
 
 
 def after_cp_hash(algorithm: int, old: bytes, cp_hash: bytes) -> bytes:
-    """Returns the digest after PolicyCpHash. `cp_hash` is the hash of the command's parameters and
-    Names.
-    """
+    """Returns the digest after PolicyCpHash. `cp_hash` is the expected cpHash."""
     return digest(algorithm, old + number(CC.PolicyCpHash, 4) + cp_hash)
 
 
@@ -57,8 +55,8 @@ def after_locality(algorithm: int, old: bytes, localities: int) -> bytes:
 
 
 def after_secret(algorithm: int, old: bytes, name: bytes, policy_ref: bytes) -> bytes:
-    """Returns the digest after PolicySecret. `name` is the Name of authHandle. It is hashed twice,
-    even if policyRef is empty.
+    """Returns the digest after PolicySecret. `name` is the Name of authHandle. There are two
+    hashes, even if policyRef is empty.
     """
     named = digest(algorithm, old + number(CC.PolicySecret, 4) + name)
     return digest(algorithm, named + policy_ref)

@@ -58,8 +58,8 @@ class Capability:
     data: bytes
 
     def read(self, capability: int, read: Callable[[Fields], Item]) -> list[Item]:
-        """Returns the elements; raises ValueError if they belong to another capability, or if bytes
-        are left over.
+        """Returns the elements. Raises ValueError for another capability, or if bytes are left
+        over.
         """
         if self.capability != capability:
             raise ValueError(f"these are elements of capability {self.capability}")
@@ -118,7 +118,7 @@ def numbers(size: int) -> Values:
 
 
 def write_buffer(value: bytes | bytearray | memoryview | HasText) -> bytes:
-    """Returns a sized buffer with the given bytes or with the encoding of a structure."""
+    """Returns a sized buffer of bytes or of a structure's encoding."""
     return sized(bytes(value) if isinstance(value, BYTES) else value.text)
 
 
