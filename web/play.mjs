@@ -4,8 +4,8 @@
 //   node play.mjs MODULE trace SCRIPT    prints what `tpmsim run --trace SCRIPT` prints
 //   node play.mjs MODULE check SCRIPT    prints what `tpmsim check SCRIPT` prints
 //   node play.mjs MODULE compare FOLDER..
-//       plays each NAME.tpm of these folders that has a NAME.out next to it, and compares the output with
-//       NAME.out, and with NAME.trace if there is one
+//       plays each NAME.tpm of these folders that has a NAME.out next to it, and compares the
+//       output with NAME.out, and with NAME.trace if there is one
 import { existsSync, readFileSync, readdirSync } from 'node:fs';
 import { join } from 'node:path';
 import { fileURLToPath } from 'node:url';

@@ -1,5 +1,5 @@
-// Completes a line: offers words, commands, and for each field the values that fit it, with the handles that
-// the device has at that line.
+// Completes a line: offers words, commands, and for each field the values that fit it, with the
+// handles that the device has at that line.
 
 import { hexNumber } from "./bytes.js";
 import { byName, facts } from "./facts.js";

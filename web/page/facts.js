@@ -1,5 +1,5 @@
-// The contents of the repository's tables. web/build.py collects them, and the page contains them as
-// data.
+// The contents of the repository's tables. web/build.py collects them, and the page contains them
+// as data.
 
 /**
  * @typedef {{name: string, kind: string, isAuthorized: boolean}} HandleFact

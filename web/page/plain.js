@@ -1,5 +1,6 @@
-// Decrypts the parameters that a session encrypted. The keys are computed from the script: from its nonces,
-// its responses, and the authorization values that it sets (TPM 2.0 Library, Part 1, 19 and 21).
+// Decrypts the parameters that a session encrypted. The keys are computed from the script: from its
+// nonces, its responses, and the authorization values that it sets (TPM 2.0 Library, Part 1, 19 and
+// 21).
 
 import { cfbDecrypted } from "./aes.js";
 import { bytesOf, hexNumber, joined, numberOf } from "./bytes.js";

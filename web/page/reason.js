@@ -1,5 +1,5 @@
-// Explains why a command was refused: the rules of the check that refused it, and the values that the rule
-// compares.
+// Explains why a command was refused: the rules of the check that refused it, and the values that
+// the rule compares.
 
 import { hexOf, numberOf, Reader } from "./bytes.js";
 import { byNumber, facts } from "./facts.js";

@@ -1,4 +1,5 @@
-// Shows the chosen step: the command, the response and the reason for it, the changes, and the bytes.
+// Shows the chosen step: the command, the response and the reason for it, the changes, and the
+// bytes.
 
 import { hexNumber, hexOf } from "./bytes.js";
 import { bytesShown } from "./bytes_view.js";
