@@ -180,8 +180,8 @@ def scripts(first: pathlib.Path, done: dict[pathlib.Path, Script]) -> dict[pathl
 
 
 def script() -> str:
-    """Returns the modules as one script, without indentation and the comments on lines of their
-    own.
+    """Returns the modules as one script, without indentation, and without comments that have a line
+    of their own.
     """
     body = "".join(it.text for it in scripts(PAGE / "main.js", {}).values())
     return f'(() => {{\n"use strict";\n{body}}})();\n'
@@ -200,13 +200,13 @@ def policy(style: str, code: str) -> str:
 
 
 def data_text(value: object) -> str:
-    """Returns a value as JSON that neither begins nor ends an element."""
+    """Returns a value as JSON, in which no text can begin or end an HTML element."""
     spelled = json.dumps(value, separators=(",", ":"), ensure_ascii=True)
     return re.sub("[<>&]", lambda it: f"\\u{ord(it[0]):04x}", spelled)
 
 
 def deflated(module: bytes) -> bytes:
-    """Returns the module, packed for DecompressionStream("deflate-raw")."""
+    """Returns the module, compressed for DecompressionStream("deflate-raw")."""
     packer = zlib.compressobj(9, zlib.DEFLATED, -zlib.MAX_WBITS)
     return packer.compress(module) + packer.flush()
 
@@ -215,8 +215,8 @@ MODULE = re.compile(r'(<script [^>]*id="module">)([^<]*)(</script>)')
 
 
 def unpacked(text: str) -> str:
-    """Returns the page with its module in hex, because another zlib may pack it into other
-    bytes.
+    """Returns the page with its module in hex, because another version of zlib may compress it
+    differently.
     """
     return MODULE.sub(
         lambda it: it[1] + zlib.decompress(base64.b64decode(it[2]), -zlib.MAX_WBITS).hex() + it[3], text

@@ -4,8 +4,8 @@
 //   node play.mjs MODULE trace SCRIPT    prints what `tpmsim run --trace SCRIPT` prints
 //   node play.mjs MODULE check SCRIPT    prints what `tpmsim check SCRIPT` prints
 //   node play.mjs MODULE compare FOLDER..
-//       plays each NAME.tpm of these folders that has a NAME.out next to it, and compares the output with
-//       NAME.out, and with NAME.trace if there is one
+//       plays each NAME.tpm of these folders that has a NAME.out next to it, and compares the
+//       output with NAME.out, and with NAME.trace if there is one
 import { existsSync, readFileSync, readdirSync } from 'node:fs';
 import { join } from 'node:path';
 import { fileURLToPath } from 'node:url';
@@ -26,7 +26,7 @@ const rounded = (number) => (number + 15) & ~15;
 export const hex = (bytes) => Buffer.from(bytes).toString('hex');
 
 export class Module {
-    /** @param {Uint8Array} bytes those of tpmsim.wasm */
+    /** @param {Uint8Array} bytes the contents of tpmsim.wasm */
     constructor(bytes) {
         const compiled = new WebAssembly.Module(bytes);
         const imports = WebAssembly.Module.imports(compiled);
@@ -42,7 +42,7 @@ export class Module {
         this.grow(end);
     }
 
-    /** @param {number} end the memory then has at least this many bytes */
+    /** @param {number} end the least size that the memory then has, in bytes */
     grow(end) {
         const pages = Math.ceil((end - this.calls.memory.buffer.byteLength) / 65536);
         if (pages > 0) this.calls.memory.grow(pages);
@@ -55,7 +55,7 @@ export class Module {
         return BigInt(this.at[name]);
     }
 
-    /** @param {string} name @param {number} size the front of a buffer */
+    /** @param {string} name @param {number} size the number of first bytes to return */
     front(name, size) {
         return this.bytes.slice(this.at[name], this.at[name] + size);
     }
@@ -65,7 +65,7 @@ export class Module {
         return Number(this.view.getBigUint64(this.at[name] + offset, true));
     }
 
-    /** Puts bytes into memory for one call, after the other buffers. @param {Uint8Array} bytes */
+    /** Copies bytes into memory for one call, after the other buffers. @param {Uint8Array} bytes */
     lend(bytes) {
         this.grow(this.end + bytes.length);
         this.bytes.set(bytes, this.end);
@@ -146,7 +146,7 @@ function check(module, file) {
     }
 }
 
-/** Yields the lines of a text, each without the 0a that ends it. @param {Uint8Array} text */
+/** Yields the lines of a text, each without its newline. @param {Uint8Array} text */
 export function* linesOf(text) {
     let start = 0;
     while (start < text.length) {

@@ -60,17 +60,17 @@ STRUCTURES = {"outPublic": "objects.Public", "nvPublic": "nv.Public"}
 
 
 def taken(parameter: Parameter) -> str:
-    """Returns the type that a command's parameter takes."""
+    """Returns the type that a parameter of a command accepts."""
     return TAKEN_BY_NAME.get(parameter.name, TAKEN.get(parameter.kind, "int"))
 
 
 def answered(parameter: Parameter) -> str:
-    """Returns the type of a response's parameter, as its item."""
+    """Returns the type of a response's parameter that is read as an item."""
     return ANSWERED.get(parameter.kind, "int")
 
 
 def method(head: str, arguments: list[str], result: str) -> str:
-    """Returns a method, laid out as black does."""
+    """Returns the text of a method, formatted as black formats it."""
     end = f") -> {result}: ..."
     joined = ", ".join(arguments)
     for text in (f"    {head}({joined}{end}", f"    {head}(\n        {joined}\n    {end}"):
@@ -81,7 +81,7 @@ def method(head: str, arguments: list[str], result: str) -> str:
 
 
 def response(code: CC) -> str:
-    """Returns the class of a command's responses."""
+    """Returns the text of the class of a command's responses."""
     parameters = code.answered_parameters
     text = f"\nclass {code.name}Response(Response):\n"
     types = {it.name: "int" for it in code.answered_handles}
@@ -102,7 +102,7 @@ def response(code: CC) -> str:
 
 
 def signature(name: str, code: CC, result: str) -> str:
-    """Returns a method's form for one command."""
+    """Returns the overload of a method for one command."""
     arguments = ["self", f'name: Literal["{code.name}", CC.{code.name}]']
     arguments += [f"{it.name}: Handle" for it in code.handles]
     arguments += ["/", "*", "uses: Sequence[Means] = ..."]
@@ -111,7 +111,7 @@ def signature(name: str, code: CC, result: str) -> str:
 
 
 def any_command(name: str, result: str) -> str:
-    """Returns a method's form for a command that is known only when the program runs."""
+    """Returns the overload of a method for a command that is known only at run time."""
     arguments = ["self", "name: CC", "*those: Handle", "uses: Sequence[Means] = ..."]
     return "    @overload\n" + method(f"def {name}", [*arguments, "**arguments: Any"], result)
 

@@ -1,8 +1,8 @@
-"""Packs the package as a wheel, with the standard library alone. pip calls these functions (PEP 517
-and 660), and tools/wheel.py calls `write_wheel`. Nothing is written next to the sources.
+"""Packs the package as a wheel, using only Python's standard library. pip calls these functions
+(PEP 517 and 660), and tools/wheel.py calls `write_wheel`. Nothing is written next to the sources.
 
-A wheel for a machine has the libraries and the program of dist/ in it, so that it needs nothing
-else.
+A wheel for one type of machine contains the libraries and the program of dist/, so that it needs
+nothing else.
 """
 
 import base64
@@ -22,13 +22,13 @@ SOURCES = pathlib.Path(__file__).resolve().parents[1]
 DISTRIBUTION = SOURCES.parent / "dist"
 LIBRARY, KEPT_LIBRARY, PROGRAM = "libtpmsim.so.0", "libtpmsim-kept.so.0", "tpmsim"
 
-# The page that shows explained logs, and its place in the package.
+# The page that shows explained logs, and its path in the package.
 PAGE, PAGE_PLACE = DISTRIBUTION / "tpmsim.html", "tpmsim/explain/tpmsim.html"
 
 # The version of glibc that the program and the library need.
 GLIBC = 2, 34
 
-# A zip file cannot have an earlier time.
+# The earliest time that a zip file can store.
 FIRST_TIME = 315_532_800
 
 Settings = dict[str, Any] | None
@@ -96,7 +96,7 @@ def shipped(machine: str) -> pathlib.Path:
 
 
 def tag(machine: str | None) -> str:
-    """The tag of a wheel: for which Python and machine it is."""
+    """The tag of a wheel, which says for which Python and machine it is."""
     return f"py3-none-manylinux_{GLIBC[0]}_{GLIBC[1]}_{machine}" if machine else "py3-none-any"
 
 
@@ -133,7 +133,8 @@ def record(entries: list[Entry]) -> Entry:
 
 
 def packed_at() -> int:
-    """The time of all files of a wheel: $SOURCE_DATE_EPOCH, or else always the same one."""
+    """The time of all files of a wheel: $SOURCE_DATE_EPOCH, by default the earliest possible one.
+    """
     return max(FIRST_TIME, int(os.environ.get("SOURCE_DATE_EPOCH", FIRST_TIME)))
 
 
@@ -148,8 +149,9 @@ def write_zip(path: pathlib.Path, entries: list[Entry]) -> None:
 
 
 def write_wheel(folder: str, machine: str | None) -> pathlib.Path:
-    """Writes the wheel for a machine, or the one for every machine, which has no library. Returns
-    its path; raises OSError if it cannot be written, or if dist/ lacks something.
+    """Writes the wheel for a machine or, if `machine` is None, the wheel for every machine, which
+    has no library. Returns its path; raises OSError if it cannot be written, or if dist/ lacks
+    something.
     """
     path = pathlib.Path(folder, f"{stem()}-{tag(machine)}.whl")
     write_zip(path, [*contents(machine), *described(machine)])
@@ -157,8 +159,8 @@ def write_wheel(folder: str, machine: str | None) -> pathlib.Path:
 
 
 def this_machine() -> str | None:
-    """Returns this machine, if dist/ has a library for it, and if it has the C library that this
-    library needs.
+    """Returns this machine if dist/ has a library for it and its C library is recent enough for
+    that library; otherwise None.
     """
     system, version = platform.libc_ver()
     numbers = tuple(int(it) for it in version.split(".") if it.isdigit())
@@ -174,7 +176,9 @@ def build_wheel(folder: str, settings: Settings = None, described_in: str | None
 
 
 def build_editable(folder: str, settings: Settings = None, described_in: str | None = None) -> str:
-    """Called by pip with -e: writes a wheel that leads to the sources, which find dist/ themselves."""
+    """Called by pip with -e: writes a wheel that refers to the sources, which find dist/
+    themselves.
+    """
     path = pathlib.Path(folder, f"{stem()}-{tag(None)}.whl")
     write_zip(path, [Entry(f"{stem()}.pth", f"{SOURCES}\n".encode()), *described(None)])
     return path.name

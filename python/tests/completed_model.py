@@ -8,7 +8,7 @@ from tpmsim.model.completion import Completion
 
 class CompletedModel(ModelDevice):
     """A device in this process, which needs no program. `did` describes what the layer did for the
-    latest command, if anything. If `completes` is false, only the device executes commands.
+    latest command, if anything. If `completes` is false, commands are executed without the layer.
     """
 
     def __init__(self, start=0, model=None):

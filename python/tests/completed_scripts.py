@@ -1,6 +1,6 @@
-"""Random commands for a device with the completing layer: objects and sessions that are made and
-flushed, their contexts, lists, and the other commands that the layer answers. A few commands have
-changed bytes, or come from a caller without the layer.
+"""Random commands for a device with the completing layer: commands that make and flush objects and
+sessions, save and load their contexts, or read lists, and the other commands that the layer
+answers. A few commands have changed bytes, or are sent without the layer.
 """
 
 from tpmsim.caller import HERE, OPEN, storage_key
@@ -16,8 +16,8 @@ OF_FAMILY_1 = bytes.fromhex("00c10000000c00000099") + b"\0\1"
 KINDS, OTHERS = (0x80, 0x80, 0x80, 0x80, 0x02, 0x03), (0x81, 0x01, 0x00, 0x40)
 PASSWORD, TAG = frames.area(frames.entry()), frames.SESSIONS
 
-# The parameters of a KEYEDHASH or a SYMCIPHER, of RSA, and parameters that the device does not
-# accept.
+# The parameters of TPM2_TestParms: for a KEYEDHASH, a SYMCIPHER, RSA, and some that the device does
+# not support.
 PARAMETERS = tuple(
     bytes.fromhex(it)
     for it in (
@@ -26,7 +26,7 @@ PARAMETERS = tuple(
     )
 )
 
-# A counter that the owner writes and reads.
+# The attributes of a counter that the owner writes and reads.
 COUNTER = nv.of_type(nv.Type.COUNTER) | nv.Attribute.OWNERWRITE | nv.Attribute.OWNERREAD
 
 # The offset of the buffer in a context's contextBlob.
@@ -69,7 +69,7 @@ def listing(chance):
 
 
 def testing(chance):
-    """Returns a command of a self-test, a digest, or a test of parameters."""
+    """Returns a command for a self-test, a digest, or a test of parameters."""
     data = chance.choice((b"", bytes.fromhex("ff544347"), b"\xff\x54\x43", chance.randbytes(1024)))
     algorithm = chance.choice((SHA256, frames.SHA1, 0x0C))
     hierarchy = chance.choice((*PRIMARY_HIERARCHIES, RH_LOCKOUT))
@@ -115,7 +115,7 @@ class Scripts:
             self.contexts.append(response[10:])
 
     def bent(self, data, size=None):
-        """Returns the data with a bit flipped, which is one of the first `size` bytes."""
+        """Returns the data with a bit flipped in one of the first `size` bytes."""
         at = self.chance.randrange(size or len(data))
         return data[:at] + bytes([data[at] ^ 1 << self.chance.randrange(8)]) + data[at + 1 :]
 
@@ -124,7 +124,7 @@ class Scripts:
         return context if self.chance.random() < 0.9 else self.bent_context(context)
 
     def bent_context(self, context):
-        """Returns a context that is extended by a byte, truncated, or has a flipped bit."""
+        """Returns a context that is extended by a byte, truncated, or has a bit flipped."""
         size = self.chance.choice((BLOB_AT, len(context)))
         way = self.chance.randrange(3)
         if way == 0:

@@ -1,4 +1,4 @@
-"""Logs that tests explain, and a caller that makes a mistake."""
+"""Logs that the tests explain, and a caller that makes a mistake."""
 
 import pathlib
 
@@ -9,13 +9,13 @@ EXAMPLE = TOP / "examples" / "disk_unlock.tpm"
 
 
 def lines_with(words):
-    """Returns the numbers of the example's lines that begin with these words."""
+    """Returns the numbers of the lines of the example that begin with these words."""
     lines = EXAMPLE.read_text().splitlines()
     return [at for at, it in enumerate(lines, 1) if it.startswith(words)]
 
 
-# The line at which the disk stays locked, and the earlier line that measured another text into PCR
-# 7.
+# The line at which the disk stays locked, and the earlier line that measured an unexpected text
+# into PCR 7.
 LOCKED, MOVED = lines_with("do Unseal")[-1], lines_with("do PCR_Event 00000007")[-1]
 
 
@@ -24,12 +24,13 @@ def events_of(*lines, answers=None):
 
 
 def last(*lines):
-    """Returns the reason of the last line, after TPM2_Startup."""
+    """Adds TPM2_Startup before the lines, and returns the reason for the last one."""
     return events_of("do Startup 0", *lines)[-1].reason
 
 
 def explained(device, tried=()):
-    """Returns the last event of a device's trace, explained with values to try."""
+    """Plays a device's trace, with values to try, and returns its last event with the explanation.
+    """
     play = Play()
     play.tried = tried
     events = list(play.events("\n".join(device.trace).encode()))
@@ -39,7 +40,7 @@ def explained(device, tried=()):
 
 
 def sessions_of(device):
-    """Returns the explanation's knowledge of each session in a trace."""
+    """Returns what the explanation knows about each session in a device's trace."""
     play = Play()
     list(play.events("\n".join(device.trace).encode()))
     return play.past.sessions.values()

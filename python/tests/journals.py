@@ -1,5 +1,5 @@
-"""Journals of the form of docs/ATTACHED.md. The device in Python writes them, so that tests need no
-library.
+"""Journals in the format of docs/ATTACHED.md. The device in Python writes them, so that the tests
+need no library.
 """
 
 from tpmsim.model.image import image
@@ -25,13 +25,13 @@ class Journal:
         self.head(1, self.image)
 
     def cycle(self):
-        """Makes a power cycle, and restarts the journal with the whole state."""
+        """Power-cycles the device, and restarts the journal with the whole state."""
         self.model.power_cycle()
         self.go_on()
 
     def go_on(self, layer=None):
-        """Restarts the journal with the whole state. The journal then lacks the commands that were
-        executed before.
+        """Restarts the journal with the whole state. The journal no longer contains the commands
+        that were executed before.
         """
         self.head(2, state_text(self.model, layer))
 
@@ -59,7 +59,7 @@ class Journal:
         return response
 
     def record(self, buffer, response, locality, elapsed, drawn, completes=False):
-        """Adds a command with its circumstances, and whether the completing layer was present."""
+        """Adds a command with its settings, and whether the completing layer was used."""
         sizes = number(len(drawn), 2) + number(len(buffer), 2)
         sums = number(sum_of(drawn + buffer), 8) + number(sum_of(response), 8)
         told = number(locality, 1) + number(completes, 1)

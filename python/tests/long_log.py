@@ -1,5 +1,5 @@
-"""Writes a log of at least COUNT common commands: `long_log.py COUNT`. One in twenty has a wrong
-HMAC.
+"""Writes a log of at least COUNT common commands: `long_log.py COUNT`. One command in twenty has a
+wrong HMAC.
 """
 
 import contextlib

@@ -1,4 +1,4 @@
-"""Programs that tests run at the same time as themselves."""
+"""Programs that run at the same time as the tests."""
 
 import atexit
 import contextlib
@@ -9,14 +9,14 @@ import shutil
 import tempfile
 import unittest
 
-# The program that tests/python/python.sh has built, or the installed one.
+# The program that tests/python/python.sh has built, or else the installed one.
 SIMULATOR = os.environ.get("TPMSIM_SIMULATOR") or shutil.which("tpmsim-simulator")
 NEEDS_SIMULATOR = unittest.skipUnless(SIMULATOR, "there is no tpmsim-simulator")
 
 
 def folder_of_compiled():
-    """Returns the folder for the compiled modules of a Python program: the present one, or a new
-    one.
+    """Returns the folder for the compiled modules of a Python program: the one in the environment,
+    or a new one.
     """
     kept = os.environ.get("PYTHONPYCACHEPREFIX")
     if kept:
@@ -31,8 +31,8 @@ COMPILES = {"PYTHONDONTWRITEBYTECODE": "", "PYTHONPYCACHEPREFIX": folder_of_comp
 
 @contextlib.contextmanager
 def running(*words, ready):
-    """Runs a program, and yields as soon as it is ready. Then ends it by SIGTERM, and checks that
-    it ends well.
+    """Runs a program, and yields when it is ready. Then ends it with SIGTERM, and checks its
+    status.
     """
     given = {"env": {**os.environ, **COMPILES}, "stdout": subprocess.PIPE, "text": True}
     with subprocess.Popen(words, **given) as process:
@@ -48,7 +48,7 @@ def check_ending(status, words):
 
 
 def address_from(output):
-    """Reads the host and the port, as a server of Microsoft's protocol prints them."""
+    """Reads the host and the port that a server of Microsoft's protocol prints."""
     host, port = output.readline().split()
     return host, int(port)
 

@@ -1,5 +1,5 @@
-"""State texts without the start of the completing layer: a device that is restored into a folder
-gets a new start.
+"""State texts without the number of the completing layer's start, which differs for each device
+that is restored into a folder.
 """
 
 from tpmsim.model import state_text

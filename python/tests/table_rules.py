@@ -1,6 +1,6 @@
-"""Extracts the sentences of all checks from docs/table. `python3 -B table_rules.py` in this folder
-writes them to tpmsim/explain/rules.json, which is shipped without docs/table. A test compares
-the two.
+"""Extracts the sentences about all checks from docs/table. `python3 -B table_rules.py` in this
+folder writes them to tpmsim/explain/rules.json, which is shipped without docs/table. A test
+compares this file with docs/table.
 """
 
 import json
@@ -18,8 +18,8 @@ LIST_OF_CHECKS = re.compile(r"\[the checks of [^\]]*\]\(([^)]*)\)")
 
 
 def plain(text):
-    """Returns a text on one line, without the targets of links. Each item of a list in it ends with
-    a semicolon.
+    """Returns a text as one line, with links replaced by their words. Each item of a list in it
+    ends with a semicolon.
     """
     text = LINK.sub(r"\1", text).replace("`", "")
     text = re.sub(r"\n *- ", "; ", text).replace(":; ", ": ")
@@ -44,8 +44,7 @@ def section_at(link):
 
 
 def paragraphs(text):
-    """Returns the paragraphs of a text, without the paragraph with links to a definition and its
-    code.
+    """Returns the paragraphs of a text, except the one that links to the definition and the code.
     """
     found = filter(str.strip, re.split(r"\n\n+", text))
     return [it for it in found if not it.startswith("Definition: ")]
@@ -66,7 +65,8 @@ def items(text):
     return re.findall(r"^(?:- |\d\. ).*(?:\n(?: +\S.*))*", text, flags=re.MULTILINE)
 
 
-# Sentences that several checks share: the section, how the sentences begin, and their number.
+# Sentences that several checks share: the section, the beginning of the sentences, and their
+# number.
 OTHERS = (
     ("integrity", "objects.md#integrity", "TPM2_Load refuses", 1),
     ("tries", "lockout.md#failed-tries", "While failedTries", 2),
@@ -172,7 +172,7 @@ def rules():
 
 
 def text_of(found):
-    """Returns the rules as JSON, one on each line."""
+    """Returns the rules as JSON, one rule on each line."""
     said = [f" {json.dumps(it, ensure_ascii=False)}: " for it in found]
     told = [json.dumps(list(it), ensure_ascii=False) for it in found.values()]
     return "{\n" + ",\n".join(map("".join, zip(said, told))) + "\n}\n"

@@ -1,5 +1,5 @@
-"""Tests both ciphers with the examples of FIPS 197 and SP 800-38A, and compares them with other
-programs.
+"""Tests both AES implementations with the examples of FIPS 197 and SP 800-38A, and compares them
+with other programs.
 """
 
 import hashlib
@@ -18,7 +18,7 @@ CIPHERS = aes.encrypt_block, aes_tables.encrypt_block
 
 
 def texts():
-    """Yields keys, first blocks and texts, of each length up to five blocks."""
+    """Yields keys, first blocks and texts of each length up to five blocks."""
     for length in range(5 * BLOCK + 1):
         given = hashlib.sha512(b"%d" % length).digest()
         yield given[:BLOCK], given[BLOCK : 2 * BLOCK], (given + given)[:length]
@@ -29,7 +29,7 @@ class Examples(unittest.TestCase):
         self.assertEqual((S_BOX[0x00], S_BOX[0x53]), (0x63, 0xED))
 
     def test_blocks(self):
-        """The examples of FIPS 197, appendices B and C.1."""
+        """The results equal the examples of FIPS 197, appendices B and C.1."""
         for key, plain, masked in (
             (KEY, "3243f6a8885a308d313198a2e0370734", "3925841d02dc09fbdc118597196a0b32"),
             (ZERO_TO_15, "00112233445566778899aabbccddeeff", "69c4e0d86a7b0430d8cdb78070b4c55a"),
@@ -38,7 +38,9 @@ class Examples(unittest.TestCase):
                 self.assertEqual(encrypt_block(key, of(plain)), of(masked))
 
     def test_feedback(self):
-        """The examples of SP 800-38A, F.3.13 and F.3.14, also with an incomplete last block."""
+        """The results equal the examples of SP 800-38A, F.3.13 and F.3.14, also with an incomplete
+        last block.
+        """
         text = of(
             "6bc1bee22e409f96e93d7e117393172aae2d8a571e03ac9c9eb76fac45af8e51"
             "30c81c46a35ce411e5fbc1191a0a52eff69f2445df4f9b17ad2b417be66c3710"
@@ -65,7 +67,7 @@ def by_openssl(key, iv, text, direction):
 
 
 class OtherPrograms(unittest.TestCase):
-    """The ciphers agree with other programs, if these are installed."""
+    """The results equal those of other programs, if these are installed."""
 
     @unittest.skipUnless(shutil.which("openssl"), "there is no openssl")
     def test_openssl(self):

@@ -1,5 +1,5 @@
 """Tests commands by their names: an example of each, the types of its response, words as values,
-and faults that name the field.
+and exceptions that name the field.
 """
 
 import builtins
@@ -25,12 +25,14 @@ PACKAGE = pathlib.Path(__file__).resolve().parents[1]
 sys.path.append(str(PACKAGE / "packing"))
 import call_types
 
-# The packages for users. All functions in them have a docstring.
+# The packages for users. All public functions in them have a docstring.
 FOR_PEOPLE = "caller", "device", "policies", "records", "script", "standard", "faults"
 
 
 def modules(*packages):
-    """Yields the modules of these packages, or all modules that need no other package."""
+    """Yields the modules of these packages, or all modules that need no package outside Python's
+    standard library.
+    """
     for it in pkgutil.walk_packages(tpmsim.__path__, "tpmsim."):
         if it.name != "tpmsim.pytest_plugin" and (
             not packages or it.name.split(".")[1] in packages
@@ -39,14 +41,14 @@ def modules(*packages):
 
 
 def defined(module, is_wanted):
-    """Yields what a module defines itself and does not import."""
+    """Yields what a module itself defines, without its imports."""
     for _, it in inspect.getmembers(module, is_wanted):
         if it.__module__ == module.__name__:
             yield it
 
 
 def played(kind):
-    """Plays each example on a device of this kind. Yields the command and its response."""
+    """Plays each example on a device of this kind. Yields the commands and their responses."""
     with kind(seed=b"seed") as device:
         scene = Scene.on(device)
         before = device.snapshot()
@@ -88,8 +90,8 @@ class Examples(unittest.TestCase):
             self.assertEqual(value, item)
 
     def test_lines(self):
-        """Each example has a line, which assembles to the same bytes. Its fields have all of these
-        bytes.
+        """Each example has a line, which assembles to the same bytes. The fields of the buffer
+        cover all of its bytes.
         """
         for prepared, _ in played(ModelDevice):
             with self.subTest(prepared.code.name):
@@ -101,7 +103,7 @@ class Examples(unittest.TestCase):
                 self.assertEqual(shown, len(buffer))
 
     def test_wrong_values(self):
-        """A wrong value of any parameter or handle raises ValueError with its name."""
+        """A wrong value of any parameter or handle raises ValueError with the field's name."""
         for prepared, _ in played(ModelDevice):
             code, handles = prepared.code, prepared.handles
             arguments = values.read_all(code.parameters, prepared.parameters)
@@ -137,7 +139,7 @@ class Words(unittest.TestCase):
             storage_key("sha3")
 
     def test_structures(self):
-        """If a field of a structure does not fit, the fault names that field too."""
+        """If a field of a structure does not fit, the exception names that field too."""
         for name, public in (
             ("data_size", area(size=70_000)),
             ("auth_policy", area(auth_policy="x")),
@@ -150,7 +152,7 @@ class Words(unittest.TestCase):
             self.assertEqual(caught.exception.field, name)
 
     def test_calls(self):
-        """Words for handles, numbers, selections and sessions."""
+        """Handles, numbers, selections and sessions can be passed as words."""
         with ModelDevice() as device:
             tpm = Caller(device)
             tpm.start_up()
@@ -185,7 +187,8 @@ class Words(unittest.TestCase):
 
 
 def tpm_session(session, bind):
-    """Returns the session if it has the properties of a session that was started with numbers."""
+    """Returns the session if its properties equal those of a session that was started with numbers.
+    """
     wanted = given.algorithm("sha1"), given.cipher("xor"), given.handle("bind", "OWNER")
     return session if wanted == (session.algorithm, session.cipher, bind) else None
 
@@ -204,7 +207,7 @@ class Faults(unittest.TestCase):
         self.assertTrue(issubclass(BadValue, ValueError))
 
     def test_other_structures(self):
-        """The public area of a key of another TPM remains bytes."""
+        """The public area of another TPM's key remains bytes."""
         rsa = bytes.fromhex("0001 000b 00030072 0000 0006 0080 0043 0010 0800 00000000 0000")
         text = sized(rsa) + sized(b"") + sized(b"")
         response = calls.RESPONSES[CC.ReadPublic](CC.ReadPublic, None, text)
@@ -214,10 +217,10 @@ class Faults(unittest.TestCase):
 
 
 class Documented(unittest.TestCase):
-    """Tests the documentation that an editor and the README show."""
+    """Tests the documentation that an editor shows, and the README."""
 
     def test_readme(self):
-        """README's example with words runs, and prints what the README says."""
+        """The README's example with words runs, and prints what the README says."""
         code, printed = (PACKAGE / "README.md").read_text("utf-8").split("```")[7], io.StringIO()
         with contextlib.redirect_stdout(printed):
             exec(code.removeprefix("python"), {})
@@ -227,7 +230,7 @@ class Documented(unittest.TestCase):
         self.assertTrue(wrong.startswith("bytesRequested takes an integer from 0 to 65535"))
 
     def test_stub(self):
-        """calls.pyi is made from the table of commands. call_types.py makes it again."""
+        """calls.pyi equals what call_types.py makes from the table of commands."""
         stub = (PACKAGE / "tpmsim/caller/calls.pyi").read_text("ascii")
         self.assertEqual(stub, call_types.stub())
         self.assertTrue((PACKAGE / "tpmsim/py.typed").is_file())

@@ -1,4 +1,4 @@
-"""Plays scripts on two TPMs: on this device with other seeds, which shows no difference, and on
+"""Plays scripts on two TPMs: on this device with different seeds, which shows no difference, and on
 other TPMs.
 """
 
@@ -39,7 +39,8 @@ def script(name):
 
 
 class OtherSeeds(unittest.TestCase):
-    """Session values are recomputed, so a device with other seeds and nonces has the same outcomes.
+    """Session values are recomputed, so a device with different seeds and nonces has the same
+    outcomes.
     """
 
     def test_nothing_differs(self):
@@ -50,8 +51,8 @@ class OtherSeeds(unittest.TestCase):
                 self.assertLess(len(report.not_comparable), report.commands / 4)
 
     def test_a_difference_is_told(self):
-        """A device with other responses is found. The report says which later differences follow
-        from the first.
+        """A device with different responses is detected. The report says which later differences
+        follow from the first.
         """
 
         class Bent(type(Device())):
@@ -76,7 +77,7 @@ do GetRandom 4
         self.assertEqual(told(pathlib.Path("script"), report), [f"script: {it}" for it in lines])
 
     def test_journals(self):
-        """A journal of a new device with any seeds is played. Another journal is refused."""
+        """A journal of a new device is played, whatever its seeds. Other journals are refused."""
         for begin in Journal.cycle, Journal.begin:
             journal = Journal(Model(bytes(256)))
             journal.play("do Startup 0", DEFINE, "do GetRandom 4")
@@ -94,7 +95,7 @@ do GetRandom 4
             self.assertRaisesRegex(ValueError, words, Comparison(other).play, text)
 
     def test_state_texts(self):
-        """The device may begin as a state text whose device was just powered on."""
+        """A log may begin with a state text whose device was just powered on."""
         journal = Journal(Model(bytes(256)))
         journal.go_on()
         journal.play("do Startup 0", "do GetRandom 4")
@@ -109,7 +110,9 @@ do GetRandom 4
 
 @unittest.skipUnless(library.is_there(), "there is no library")
 class Completed(unittest.TestCase):
-    """Compares a journal with the completing layer with another TPM, which has contexts itself."""
+    """Compares a journal that was made with the completing layer with another TPM, which has
+    contexts itself.
+    """
 
     def recorded(self, play):
         with tempfile.TemporaryDirectory() as folder:
@@ -124,7 +127,7 @@ class Completed(unittest.TestCase):
 
     def test_commands_at_random(self):
         """Compares journals of random commands. A power cycle restarts a journal, so some journals
-        have fewer commands.
+        contain fewer commands.
         """
         commands = 0
         for seed in range(4):
@@ -137,7 +140,7 @@ class Completed(unittest.TestCase):
         self.assertGreater(commands, 800)
 
     def test_an_object_with_another_handle(self):
-        """The other TPM loads an object's context under another handle, which its later commands
+        """The other TPM loads an object's context with a different handle, which its later commands
         use.
         """
         journal = self.recorded(contexts_that_move)
@@ -146,8 +149,8 @@ class Completed(unittest.TestCase):
         self.assertEqual((report.differences, report.not_comparable), ([], []))
 
     def test_an_object_that_only_one_loads(self):
-        """The other TPM has no slot for the object of a context, which is then only on this
-        device.
+        """The other TPM has no free slot for the object of a context, which then exists only on
+        this device.
         """
         journal = self.recorded(contexts_that_move)
         with Full(model=Model(bytes(256))) as other:
@@ -158,7 +161,7 @@ class Completed(unittest.TestCase):
 
 
 class Moved(CompletedModel):
-    """Another TPM, whose objects have the last slots: their handles are at offset 10 in the
+    """Another TPM, which uses the last slots for its objects. Their handles are at offset 10 in the
     commands and responses of `contexts_that_move`.
     """
 
@@ -183,7 +186,9 @@ class Full(CompletedModel):
 
 
 def contexts_that_move(device):
-    """Makes two keys, and loads their contexts in reverse order, like tools without handles."""
+    """Makes two keys, and loads their contexts in reverse order, like tools that work without
+    handles.
+    """
     tpm = Caller(device)
     tpm.start_up()
     contexts = []
@@ -214,7 +219,7 @@ class Others(unittest.TestCase):
 
     @unittest.skipUnless(shutil.which("swtpm"), "there is no swtpm")
     def test_contexts_of_swtpm(self):
-        """swtpm loads its contexts when this device loads the corresponding ones. Only the tickets
+        """swtpm loads its own contexts when this device loads the matching ones. Only the tickets
         of the keys differ.
         """
         with RecordedModel() as device:

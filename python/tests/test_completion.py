@@ -1,5 +1,5 @@
-"""Compares the completing layer in Python with the library's, and tests how a completed command is
-explained.
+"""Compares the completing layer in Python with the library's, and tests the explanations of
+completed commands.
 """
 
 import pathlib
@@ -26,7 +26,7 @@ from tpmsim.standard.objects import Attribute
 
 SEEDS, COMMANDS, START = 12, 500, 7
 
-# The actions of the layer, with N for each number.
+# What the layer may report that it did, with N for each number.
 DEEDS = {
     "context N of object N, which stays loaded",
     "context N of session N, which stays in its slot",
@@ -91,12 +91,12 @@ def in_python(seed, count):
 
 
 class InPython(unittest.TestCase):
-    """Journals of the device in Python, which needs no library."""
+    """Tests journals of the device in Python, which needs no library."""
 
     recorded = staticmethod(in_python)
 
     def test_commands_at_random(self):
-        """Each command gets the recorded response when the journal is explained. It is explained as
+        """When a journal is explained, each command gets the recorded response. It is explained as
         refused only if it was refused.
         """
         seen = set()
@@ -111,8 +111,8 @@ class InPython(unittest.TestCase):
         self.assertEqual(seen - {""}, DEEDS)
 
     def test_an_audit(self):
-        """The audit counts the layer's responses separately. The changes that the layer makes to
-        the device are in the device's history.
+        """The audit counts the layer's responses separately. The device's history contains the
+        changes that the layer makes to the device.
         """
         for seed in range(2):
             journal, answered = self.recorded(seed, COMMANDS)
@@ -150,7 +150,7 @@ class OldContexts(unittest.TestCase):
         self.tpm.start_up(startup)
 
     def told(self, context):
-        """Returns the explanation why a context was refused."""
+        """Returns the explanation of why a context was refused."""
         response = self.device.execute(command(CONTEXT_LOAD, context)).response
         self.assertEqual(response[6:10].hex(), "000001df")
         return list(Play().events(self.text + self.device.journal.text))[-1].reason.words
@@ -184,12 +184,12 @@ class OldContexts(unittest.TestCase):
 
 @unittest.skipUnless(library.is_there(), "there is no library")
 class Completed(InPython):
-    """Journals of the library: Python and the library give the same responses."""
+    """Tests journals of the library. Python and the library return the same responses."""
 
     recorded = staticmethod(recorded)
 
     def test_words(self):
-        """Reports both the layer's response and the device's own response."""
+        """The explanation reports both the layer's response and the device's own response."""
         save, stir = "8001 0000000e 00000162 80000000", "8001 0000000e 00000146 0002 0102"
         with tempfile.TemporaryDirectory() as folder:
             with KeptDevice(folder, forces=False, completes=True) as device:

@@ -1,5 +1,5 @@
-"""Tests the contexts of objects. They are compared with contexts that other programs computed, byte
-by byte, and with those that the completing layer saves and loads.
+"""Tests the contexts of objects. They are compared byte by byte with contexts that other programs
+computed, and with those that the completing layer saves and loads.
 """
 
 import itertools
@@ -22,8 +22,9 @@ from tpmsim.standard import aes, CC, command, frames, mac, number, RH_LOCKOUT, R
 from tpmsim.standard import SHA256, sized, TRANSIENT
 from tpmsim.standard.objects import Attribute
 
-# Two HMAC keys, without and with stClear, of a device whose proofs consist of this byte; and their
-# contexts, which `hashlib`, `hmac` and `cryptography` computed. crates/tpm_context_tests has them too.
+# Two HMAC keys, one without and one with stClear, of a device whose proofs consist of this byte;
+# and their contexts, which `hashlib`, `hmac` and `cryptography` computed. crates/tpm_context_tests
+# contains them too.
 PROOF_BYTE, START, RESETS, RESTARTS = 7, 0x1122334455667788, 3, 5
 PUBLICS = "00100008000b0004044000000005000b0000", "00100008000b0004044400000005000b0000"
 SENSITIVE = "000f00080001610002736400044a656665"
@@ -38,7 +39,7 @@ CONTEXTS = (
     "3d92336a6ae62b8e0662c59b4a0a7ef21d1e9e2548daa675b6c1377c0505b7ab39c3edca158ed644f2eb55",
 )
 
-# Response codes.
+# The numbers of response codes.
 TOO_MANY_CONTEXTS, COMMAND_CODE, OBJECT_MEMORY = 0x12E, 0x143, 0x902
 REFERENCE_H0, HANDLE_P1, INTEGRITY_P1 = 0x910, 0x1CB, 0x1DF
 
@@ -67,7 +68,7 @@ def key_of(public):
 
 
 def fault_of(context, device=None, start=START):
-    """Returns the code with which bytes do not open, or `opens`."""
+    """Returns the response code for a wrong context, or `opens`."""
     try:
         contexts.opened(device or device_of(), start, context)
     except contexts.Fault as fault:
@@ -85,8 +86,8 @@ class Computed(unittest.TestCase):
             self.assertEqual(contexts.opened(device_of(), START, context), key)
 
     def test_bindings(self):
-        """A context is bound to the proof, the start and resetCount; with stClear also to
-        restartCount.
+        """A context is bound to the proof, the start and resetCount. With stClear it is also bound
+        to restartCount.
         """
         ordinary, st_clear = map(bytes.fromhex, CONTEXTS)
         for device, start, wanted in (
@@ -99,8 +100,8 @@ class Computed(unittest.TestCase):
             self.assertEqual(found, wanted)
 
     def test_each_bit(self):
-        """Changing any bit of a context is detected. Only the savedHandle, the hierarchy and the
-        sizes have faults of their own.
+        """Changing any bit of a context is detected. Only a wrong savedHandle, hierarchy or size
+        has a response code of its own.
         """
         context = bytes.fromhex(CONTEXTS[0])
         for at, bit in itertools.product(range(len(context)), range(8)):
@@ -109,15 +110,15 @@ class Computed(unittest.TestCase):
             self.assertEqual(fault_of(bytes(turned)), turned_fault(at, turned), (at, bit))
 
     def test_each_length(self):
-        """A context that is cut anywhere, or is longer, does not open."""
+        """A context that is truncated at any offset, or is too long, does not open."""
         context = bytes.fromhex(CONTEXTS[0])
         for size in range(len(context)):
             self.assertEqual(fault_of(context[:size]), "INSUFFICIENT/p1", size)
         self.assertEqual(fault_of(context + b"\0"), "SIZE/p1")
 
     def test_the_first_fault(self):
-        """Tests the order of the faults. Each context has the fault of its own line and those of
-        all later lines.
+        """Tests the order of the faults. The context in each line has that line's fault and those
+        of all later lines.
         """
         head, integrity = bytes.fromhex(CONTEXTS[0])[:BLOB_SIZE_AT], bytes(32)
         bad_handle, bad_hierarchy = number(0x80000001, 4), number(RH_LOCKOUT, 4)
@@ -138,8 +139,8 @@ class Computed(unittest.TestCase):
             self.assertEqual(fault_of(context), wanted, context.hex())
 
     def test_what_is_no_object(self):
-        """A context with the right integrity value, made with the proof, whose content is not the
-        object that its head names.
+        """A context is refused if its content is not the object that its head describes, even if
+        its integrity value was made with the proof.
         """
         key = key_of(PUBLICS[0])
         text = image.object_text(key)
@@ -155,8 +156,8 @@ class Computed(unittest.TestCase):
 
     @unittest.skipUnless(shutil.which("openssl"), "there is no openssl")
     def test_by_openssl(self):
-        """openssl computes the integrity value, and decrypts the object, of a context of each
-        hierarchy.
+        """For a context of each hierarchy, openssl computes the same integrity value, and decrypts
+        the object.
         """
         for hierarchy in image.HIERARCHIES:
             key = loaded(*areas_of(key_of(PUBLICS[1])), hierarchy, number(hierarchy, 4))
@@ -195,7 +196,7 @@ def made(head, plain):
 
 
 def turned_fault(at, turned):
-    """Returns the fault of a context in which a bit of this byte is flipped."""
+    """Returns the response code for a context in which one bit of the byte at `at` is flipped."""
     if (
         SAVED_HANDLE_AT <= at < HIERARCHY_AT
         and turned[SAVED_HANDLE_AT:HIERARCHY_AT].hex() != "80000002"
@@ -242,8 +243,8 @@ class OfLayer(unittest.TestCase):
         return self.tpm.create_primary(template, data=text, user_auth=text)
 
     def test_twelve_keys(self):
-        """Twelve keys under one parent are loaded, saved and flushed in turn, and then used in turn
-        by their contexts, as a resource manager does. Never more than two objects are loaded.
+        """Twelve keys with one parent are loaded, saved and flushed in turn. Then each is used by
+        loading its context, as a resource manager does. Never more than two objects are loaded.
         """
         parent = self.tpm.create_primary(storage_key())
         kept = []
@@ -262,7 +263,7 @@ class OfLayer(unittest.TestCase):
             self.flush(handle)
 
     def test_copies(self):
-        """A context loads any number of times, each time under the lowest free handle."""
+        """A context can be loaded any number of times. Each copy gets the lowest free handle."""
         first = self.key(b"one")
         context = self.saved(first)
         handles = [self.loaded(context) for _ in range(OBJECTS - 1)]
@@ -274,7 +275,7 @@ class OfLayer(unittest.TestCase):
         self.assertEqual(self.loaded(context), handles[2])
 
     def test_a_full_device(self):
-        """A full device answers OBJECT_MEMORY, and stays as it was. No object is evicted."""
+        """A full device returns OBJECT_MEMORY, and is unchanged. No object is evicted."""
         contexts_of = [self.saved(self.key(b"%d" % at)) for at in range(OBJECTS)]
         before = state_text(self.device.model, self.device.completion.numbers)
         self.assertEqual(self.load_code(contexts_of[0]), OBJECT_MEMORY)
@@ -295,8 +296,8 @@ class OfLayer(unittest.TestCase):
         self.assertEqual(self.code(command(CONTEXT_SAVE, number(handle, 4))), REFERENCE_H0)
 
     def test_clear(self):
-        """TPM2_Clear changes the owner's proof, and sets resetCount to 0. Even with the old
-        resetCount, a context of the owner does not open.
+        """TPM2_Clear changes the owner's proof, and sets resetCount to 0. A context of the owner
+        cannot be loaded, even with the old resetCount.
         """
         context = self.saved(self.key(b"one"))
         self.assertEqual(self.load_code(context), 0)
@@ -307,8 +308,8 @@ class OfLayer(unittest.TestCase):
         self.assertEqual(self.load_code(context), INTEGRITY_P1)
 
     def test_power_cycles(self):
-        """A TPM Resume and a TPM Restart end the contexts of objects with stClear, since both change
-        restartCount. A TPM Reset ends all contexts.
+        """A TPM Resume and a TPM Restart invalidate the contexts of objects with stClear, since
+        both change restartCount. A TPM Reset invalidates all contexts.
         """
         ordinary = self.saved(self.key(b"one"))
         st_clear = self.saved(self.key(b"two", HERE | OPEN | Attribute.ST_CLEAR))
@@ -325,7 +326,7 @@ class OfLayer(unittest.TestCase):
             self.assertEqual(tuple(map(self.load_code, (ordinary, st_clear))), wanted)
 
     def test_another_layer(self):
-        """A context is bound to the start of its layer: another layer of the same device refuses
+        """A context is bound to the start of its layer. Another layer above the same device refuses
         it.
         """
         context = self.saved(self.key(b"one"))
@@ -333,8 +334,8 @@ class OfLayer(unittest.TestCase):
         self.assertEqual(self.load_code(context), INTEGRITY_P1)
 
     def test_without_the_layer(self):
-        """The device alone supports neither TPM2_ContextSave nor TPM2_ContextLoad. A context can be
-        loaded again when the layer is enabled.
+        """The device alone supports neither TPM2_ContextSave nor TPM2_ContextLoad. Once the layer
+        is enabled again, a context can be loaded.
         """
         handle = self.key(b"one")
         context = self.saved(handle)
@@ -355,7 +356,9 @@ class OfLayer(unittest.TestCase):
         self.assertEqual(state_text(self.device.model, self.device.completion.numbers), before)
 
     def test_sequences(self):
-        """Each context has the next sequence, of an object or of a session. There are 2^64 - 1."""
+        """Each context of an object or a session gets the next sequence. There are 2^64 - 1
+        sequences.
+        """
         handle, session = self.key(b"one"), self.tpm.session().handle
         kept = [self.saved(it) for it in (handle, handle, session, handle)]
         self.assertEqual([int.from_bytes(it[:8], "big") for it in kept], [1, 2, 3, 4])
@@ -377,7 +380,7 @@ class OfLayer(unittest.TestCase):
         self.assertEqual(self.load_code(kept[0]), HANDLE_P1)
 
     def test_lengths(self):
-        """The largest context is that of an HMAC key. The listed size has two bytes more, since a
+        """The largest context is that of an HMAC key. The listed size is two bytes larger, since a
         SYMCIPHER has a larger public area, but a shorter key.
         """
         public = hmac_key(auth_policy=bytes(32))

@@ -1,5 +1,5 @@
-"""Tests the reason why a device refused a command. The reason follows from the sent commands and
-the responses, wherever the device is.
+"""Tests the reason why a device refused a command. The reason follows from the commands and the
+responses, whether the device is in this process or elsewhere.
 """
 
 import os
@@ -22,7 +22,8 @@ SERVE = "serve --socket socket --image image --entropy /dev/urandom --locality 0
 
 
 def use(device):
-    """Proves an index's value in a session, and then sends a wrong password for the index."""
+    """Authorizes with an index's value in a session, and then sends a wrong password for the index.
+    """
     tpm = Caller(device)
     tpm.start_up()
     index = tpm.define(area(attributes=BY_VALUE), auth=b"right")
@@ -71,7 +72,7 @@ class Reasons(unittest.TestCase):
         self.assert_explained(ModelDevice())
 
     def test_of_an_image(self):
-        """The explanation knows what is in the image from which the device starts."""
+        """The explanation knows the contents of the image from which the device starts."""
         with ModelDevice() as device:
             index, image = use(device), device.save()
         (self.folder / "image").write_bytes(image)
@@ -95,7 +96,7 @@ class Reasons(unittest.TestCase):
         self.addCleanup(process.kill)
         here = os.getcwd()
         self.addCleanup(os.chdir, here)
-        os.chdir(self.folder)  # a socket's path must be short
+        os.chdir(self.folder)  # the path of a socket must be short
         while not os.path.exists("socket"):
             time.sleep(0.01)
         return ServedDevice("socket")
@@ -110,7 +111,9 @@ class Reasons(unittest.TestCase):
 
     @unittest.skipUnless(shutil.which("swtpm"), "there is no swtpm")
     def test_of_another_maker(self):
-        """Another maker's TPM is explained as long as its responses equal this device's."""
+        """The refusals of another maker's TPM are explained as long as its responses equal this
+        device's.
+        """
         with StartedSwtpm() as device:
             tpm = Caller(device)
             tpm.start_up()
@@ -121,7 +124,8 @@ class Reasons(unittest.TestCase):
             self.assertIn("The password of the entry is not", why_refused(log_of(device)))
 
     def test_what_was_there_before(self):
-        """A device that had an index before its first event is not explained wrongly."""
+        """If a device had an index before its first event, its refusals are not explained wrongly.
+        """
         with ChildDevice(image=self.folder / "image") as device:
             index = use(device)
         with self.served() as device:

@@ -1,4 +1,4 @@
-"""Tests with twenty common uses of each kind of device, and tests of one kind alone."""
+"""Runs twenty common uses on each kind of device, and tests that only apply to one kind."""
 
 import contextlib
 import doctest
@@ -69,7 +69,7 @@ class Told(TwentyTests):
 
 
 class Shipped(unittest.TestCase):
-    """The files in a clone of the repository are found by the name of the machine."""
+    """The files in a clone of the repository are found by the machine's name."""
 
     def test_machines(self):
         for machine, folder in (("x86_64", "dist"), ("aarch64", "aarch64")):
@@ -133,20 +133,20 @@ class OverSimulator(TwentyTests, unittest.TestCase):
 
 
 def differs(test):
-    """Marks a test that must fail on another TPM, whose responses differ."""
+    """Marks a test that must fail on another TPM, because its responses differ."""
     return unittest.expectedFailure(lambda self: test(self))
 
 
 @unittest.skipUnless(shutil.which("swtpm"), "there is no swtpm")
 class OverSwtpm(TwentyTests, unittest.TestCase):
-    """Tests the differences that docs/OTHER_TPMS.md lists. Each test shows that its difference
+    """Runs the tests on swtpm. A test that must fail shows that a difference in docs/OTHER_TPMS.md
     still exists.
     """
 
     lacks = {"test_lockout": HOSTS_TIME}
     device = StartedSwtpm
 
-    # swtpm refuses a session that neither authorizes nor encrypts: ATTRIBUTES/s1.
+    # swtpm refuses a session that neither authorizes nor encrypts, with ATTRIBUTES/s1.
     test_end_of_a_session = differs(TwentyTests.test_end_of_a_session)
     test_wrong_hmac_of_a_response = differs(TwentyTests.test_wrong_hmac_of_a_response)
 
@@ -164,7 +164,7 @@ class Devices(unittest.TestCase):
         self.folder = pathlib.Path(self.enterContext(tempfile.TemporaryDirectory()))
 
     def test_wrong_words(self):
-        """A caller's wrong words are refused, whichever device it has."""
+        """A caller refuses wrong words, whatever its device is."""
         tpm = Caller(ModelDevice())
         with self.assertRaisesRegex(KeyError, "Quote is not a command that the device serves"):
             tpm.call("Quote")
@@ -200,7 +200,7 @@ class Devices(unittest.TestCase):
             before = but_clock(image(model))
 
     def test_image_of_one_device(self):
-        """A file belongs to one device at a time. Bytes that are not an image stay as they are."""
+        """A file belongs to one device at a time. A file that is not an image stays unchanged."""
         path = self.folder / "image"
         with Device(path), self.assertRaises((FileExistsError, DeviceEnded)):
             Device(path).execute(b"")
@@ -261,7 +261,7 @@ class Devices(unittest.TestCase):
         self.assertRaisesRegex(DeviceEnded, words, device.execute, bytes(40_000))
 
     def test_readme(self):
-        """The examples of README.md run, and print what the README says."""
+        """The examples of README.md run, and print what README.md says."""
         printed, codes = io.StringIO(), (PACKAGE / "README.md").read_text("utf-8").split("```")
         with contextlib.redirect_stdout(printed):
             for code in (codes[1], codes[3]):
@@ -280,7 +280,7 @@ class Devices(unittest.TestCase):
 
 
 class Documented(unittest.TestCase):
-    """Each device and each of its calls has an example. The examples run as shown."""
+    """Each device and each of its methods has an example, and the examples run as shown."""
 
     def test_examples(self):
         given = {it: getattr(tpmsim.device, it) for it in tpmsim.device.__all__}

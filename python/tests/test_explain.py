@@ -1,4 +1,4 @@
-"""Tests explanations: their sentences, their numbers, and that every refusal has one."""
+"""Tests explanations: their sentences, their numbers, and that every refusal is explained."""
 
 import contextlib
 import io
@@ -18,13 +18,13 @@ from tpmsim.explain.reason import RULES
 from tpmsim.model.image import image
 from tpmsim.standard import CC
 
-# Longer scripts consist mostly of altered and cut commands. They are left out, because all of them
-# take half a minute.
+# Longer scripts are left out, because all of them would take half a minute. They consist mostly of
+# altered and truncated commands.
 MOST_BYTES = 20_000
 
 
 def told(*words):
-    """Returns the output of the command line, its standard error, and its status."""
+    """Returns the command line's output, its standard error, and its status."""
     output, error = io.TextIOWrapper(io.BytesIO()), io.StringIO()
     with contextlib.redirect_stdout(output), contextlib.redirect_stderr(error):
         status = command_line.main(*map(str, words))
@@ -51,7 +51,7 @@ class Sentences(unittest.TestCase):
 class Logs(unittest.TestCase):
     def test_all_scripts(self):
         """Every refusal has a reason, no script causes a crash, and the model's responses never
-        differ.
+        differ from the recorded ones.
         """
         refused = 0
         scripts = [*TOP.glob("tests/**/*.tpm"), *TOP.glob("examples/*.tpm")]
@@ -173,7 +173,7 @@ class CommandLine(unittest.TestCase):
         self.assertTrue(output.startswith("Why was this refused?") and status == 0)
 
     def test_try(self):
-        """Tries a text, bytes in hex, and several values of which one is right."""
+        """--try accepts a text, bytes in hex, and several values of which one is right."""
         line = "do NV_Read 01000001 01000001 pw:6d696e65 8 0"
         public = "010000010004000600060000" "0008"
         script = self.file(

@@ -1,4 +1,4 @@
-"""Tests mistakes that a device accepts, and their explanations."""
+"""Tests the explanations of mistakes that a device accepts."""
 
 import random
 import unittest
@@ -12,7 +12,7 @@ from explained_logs import events_of, explained, without_value
 
 
 class Accepted(unittest.TestCase):
-    """Mistakes that a device accepts."""
+    """Mistakes in commands that a device accepts are reported."""
 
     def setUp(self):
         self.device = ModelDevice(seed=b"accepted")
@@ -41,8 +41,8 @@ class Accepted(unittest.TestCase):
         self.assertEqual(self.slips(), ["not encrypted"])
 
     def test_misread_structure(self):
-        """If inSensitive was encrypted without the parent's value, it is decrypted to bytes that
-        are not a structure.
+        """If inSensitive was encrypted without the parent's value, the device decrypts it to bytes
+        that are not a structure.
         """
         parent = self.tpm.create_primary(storage_key(), user_auth=b"\xf1parent")
         named = 0

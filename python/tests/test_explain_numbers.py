@@ -1,4 +1,4 @@
-"""Tests the reasons of single commands, with their numbers, bytes and values."""
+"""Tests the reasons for single refusals, with their numbers, bytes and values."""
 
 import random
 import unittest
@@ -13,7 +13,7 @@ UNSIGNED_GE = 7
 START = "do StartAuthSession NULL NULL 00112233445566778899aabbccddeeff - %d null sha256"
 DEFINE = "do NV_DefineSpace OWNER pw:- - 01000001000b0002000200000008"
 
-# Refused lines, each with its rule, the offset of the fault, and the words of the reason.
+# Lines that are refused, each with its rule, the offset of the fault, and the words of the reason.
 GENERAL = (
     ("cmd 8001", "G1", 0, "The buffer has 2 bytes: 2 < 10."),
     ("cmd 80030000000a0000017b", "G2", 0, "The tag is 8003."),
@@ -45,7 +45,7 @@ GENERAL = (
     ("do SelfTest 2", "SelfTest/parameters", 10, "wanted 00 or 01, and there is 02"),
 )
 
-# Wrong attributes in the entry of a TPM2_GetRandom.
+# Wrong attributes in an entry of TPM2_GetRandom.
 ATTRIBUTES = (
     ("09", "G8/RESERVED_BITS", "bits 3 and 4 are reserved"),
     ("81", "G8/ATTRIBUTES.1", "no session audits"),
@@ -62,7 +62,8 @@ AREAS = (
     ("00000024" + ("40000009" + "0000" + "01" + "0000") * 4, "4 > 3", 10),
 )
 
-# Wrong fields in the public area of an index, with the expected value and the actual one.
+# The fields of a valid public area of an index; and wrong fields, with the expected and the actual
+# value.
 PUBLIC = dict(nvIndex="01000001", nameAlg="000b", attributes="00020002", authPolicy="0000")
 PUBLIC["dataSize"] = "0008"
 STRUCTURES = (
@@ -91,7 +92,7 @@ def facts_of(reason):
 
 
 class Numbers(unittest.TestCase):
-    """The reasons of single commands. Each was worked out by hand."""
+    """The reasons for single refusals are right. Each was worked out by hand."""
 
     def assert_reason(self, lines, rule, at, words):
         found = last(*lines)
@@ -140,7 +141,7 @@ class Numbers(unittest.TestCase):
         self.assertEqual(last(DEFINE, DEFINE).words, "There is an index 01000001 since line 2.")
 
     def test_others_of_its_kind(self):
-        """If a session or an index is missing, the reason names the existing ones."""
+        """If a session or an index does not exist, the reason names those that do."""
         start = "do StartAuthSession NULL NULL 00112233445566778899aabbccddeeff - 0 null sha256"
         for wrong, there in (
             (
@@ -163,7 +164,7 @@ class Policies(unittest.TestCase):
         self.tpm.start_up()
 
     def reason(self, condition, prepared):
-        """Returns the reason of a refused command. It must be this condition of a policy."""
+        """Returns the reason for a refusal, which must be this condition of a policy."""
         self.assertRaises(Refused, self.tpm.send, prepared)
         found = explained(self.device).reason
         self.assertEqual(found.rule, f"condition/{condition}")
@@ -212,7 +213,9 @@ class Policies(unittest.TestCase):
         self.assertEqual(facts_of(found)["cpHash recorded"], "11" * 32)
 
     def test_digests(self):
-        """Makes one assertion too many, one too few, two in the wrong order, and none."""
+        """The policy session makes one assertion too many, one too few, two in the wrong order, or
+        none.
+        """
         first, second = "PolicyCommandCode Unseal\n", "PolicyAuthValue\n"
         handle = self.sealed(digest_of(first + second), user_auth=b"pin")
         for words, slip in (

@@ -1,5 +1,5 @@
-"""Tests the page of a log. It contains the log and the report about it. Nothing in a log is treated
-as markup. tests/web/page_browser.sh opens the page in a browser.
+"""Tests the page of a log. It contains the log and the report about the log, and never treats text
+of the log as markup. tests/web/page_browser.sh opens the page in a browser.
 """
 
 import html.parser
@@ -12,7 +12,7 @@ from tpmsim.explain import page
 from tpmsim.explain.play import Play
 from tpmsim.explain.text import Counts
 
-# A log may contain any text: in its name, in comments, in words, and in bytes that are text.
+# A hostile text anywhere in a log: in its name, in comments, in words, and in bytes that are text.
 HOSTILE = "</script><script>alert(1)</script><!--<img src=x onerror=alert(2)>&amp;@FACTS@"
 LOG = f"""# {HOSTILE}
 do Startup 0
@@ -27,7 +27,7 @@ def page_of(name, log, answers=None, image=None):
 
 
 class Elements(html.parser.HTMLParser):
-    """The elements of a page with their attributes. Also the text of each element, by the element's
+    """The elements of a page with their attributes, and the text of each element, by the element's
     id or, without an id, by its tag.
     """
 
@@ -49,7 +49,7 @@ class Elements(html.parser.HTMLParser):
 
 
 def log_of(text):
-    """Returns the log in a page."""
+    """Returns the log that a page contains."""
     return json.loads(Elements(text).texts["log"])
 
 

@@ -1,6 +1,6 @@
 """Tests each common mistake in a policy digest. The test computes the digest itself, with one
-change. One mistake is named as one, two are named as two, and none is named if no mistake explains
-the digest.
+change. One mistake is reported as one, two are reported as two, and none is reported if no mistake
+explains the digest.
 """
 
 import hashlib
@@ -64,7 +64,7 @@ class Case:
 
     def links(self):
         """Returns functions that compute the digest after each assertion, in order. Each takes the
-        previous digest.
+        previous digest as its argument.
         """
         return {
             "pcr": lambda old: self.hash(old + self.pcr_text()),
@@ -96,7 +96,7 @@ class Case:
         return made
 
     def refused(self, auth_policy, tried=()):
-        """Returns the reason why TPM2_Unseal refuses an object with this policy."""
+        """Returns the reason why TPM2_Unseal refuses an object with the policy `auth_policy`."""
         session = self.told()
         template = sealed(self.algorithm, HERE | Attribute.NO_DA, auth_policy=auth_policy)
         handle = self.tpm.create_primary(template, data=b"x", user_auth=b"pin")
@@ -110,7 +110,7 @@ class Case:
 
 
 def link(place, make):
-    """Returns a change that computes one digest of the chain differently, from the case and the
+    """Returns a change that computes one digest of the chain by `make`, from the case and the
     previous digest.
     """
 
@@ -142,7 +142,7 @@ def other(algorithm):
 
 
 SECRET = number(RH_ENDORSEMENT, 4)
-SIGN = 0x15D  # a command that is not served
+SIGN = 0x15D  # a command that the device does not support
 AUTH, PASSWORD = number(CC.PolicyAuthValue, 4), number(CC.PolicyPassword, 4)
 
 ROWS = (
@@ -238,7 +238,7 @@ NONE = (
 
 
 def pairs_of(rows, most=60):
-    """Yields some pairs of mistakes. In each pair, a mistake in one digest comes before a mistake in
+    """Yields some pairs of mistakes. In each pair, a mistake in one digest precedes a mistake in
     the order of the assertions.
     """
     pairs = list(itertools.combinations(rows, 2))
@@ -264,7 +264,7 @@ class PolicySlips(unittest.TestCase):
                     self.assertEqual(found.slips, [name])
 
     def test_two(self):
-        """Makes any two mistakes at different links, neither of which undoes the other."""
+        """Makes pairs of mistakes at different links, neither of which undoes the other."""
         named = 0
         for at, (first, second) in enumerate(pairs_of(ROWS)):
             case = Case(f"two {at} {first[0]}, {second[0]}")
@@ -287,7 +287,7 @@ class PolicySlips(unittest.TestCase):
             self.assertRegex(found.words, r"No known slip makes it: [\d,]+ digests, of other")
 
     def test_so_much_is_tried(self):
-        """If a policy has many assertions, mistakes are tried only at a few of them."""
+        """If a policy has many assertions, only a few of them are tried with mistakes."""
         tpm = Caller(ModelDevice(seed=b"much"))
         tpm.start_up()
         session = tpm.session(kind=SE_POLICY)
@@ -333,7 +333,9 @@ class PolicySlips(unittest.TestCase):
         self.assertIn('"in none of them", in PolicySecret', found.words)
 
     def test_or(self):
-        """Makes mistakes with the branches: another order, the digest before them, and no zeros."""
+        """A PolicyOR has a mistake: its branches in another order, the digest before them, or no
+        zeros.
+        """
         branches = b"\1" * 32, bytes(32), b"\3" * 32
         text = number(CC.PolicyOR, 4)
         for name, wanted in (
@@ -352,7 +354,7 @@ class PolicySlips(unittest.TestCase):
 
 
 class ByATrial(unittest.TestCase):
-    """The expected digest is the digest of a trial session in the log."""
+    """The expected digest is the digest of a trial session in the same log."""
 
     def setUp(self):
         self.device = ModelDevice(seed=b"trials")

@@ -1,5 +1,5 @@
-"""Makes each common mistake of a caller in random sessions. The explanation names the mistake. If
-an HMAC is random, the explanation names none.
+"""Makes each common mistake of a caller in random sessions. The explanation reports the mistake. If
+an HMAC is random, the explanation reports none.
 """
 
 import random
@@ -22,8 +22,8 @@ def other_hash(algorithm):
 
 
 class Case:
-    """A random session on a device, and a command that it may authorize. `pick` makes all random
-    choices.
+    """A random session on a device, and a command that the session may authorize. `pick` makes all
+    random choices.
     """
 
     def __init__(self, seed, bound=None, entity=None, cipher=None):
@@ -59,7 +59,7 @@ class Case:
         return self.tpm.create_primary(hmac_key(), data=b"key", user_auth=self.value)
 
     def use(self, *more, attributes=CONTINUE_SESSION):
-        """Returns a command that the entity authorizes, without any mistake."""
+        """Returns a correct command that the entity authorizes."""
         means = Use(self.session, attributes), *more
         if self.entity == "owner":
             return self.tpm.change_auth(RH_OWNER, self.pick.randbytes(8), *means)
@@ -96,8 +96,8 @@ class Case:
         }
 
     def bent(self, prepared, hashed=None, **changes):
-        """Returns the command with an HMAC that is computed from other parts. `hashed` changes its
-        cpHash.
+        """Returns the command with an HMAC that is computed from changed parts. `hashed` changes
+        the parts of its cpHash.
         """
         if hashed is not None:
             changes["parameters"] = self.cp_hash(prepared, **hashed)
@@ -110,8 +110,8 @@ class Case:
         return sessions.digest(algorithm or self.session.algorithm, text)
 
 
-# Mistakes that a caller may make in every command. Each has a seed, the choices for its sessions,
-# the name of the mistake, and the parts that differ in the HMAC.
+# Mistakes that a caller may make in every command. Each row has a seed, the choices for its
+# sessions, the name of the mistake, and the changed parts of the HMAC.
 ALWAYS = (
     ("left out", {"bound": False}, "authValue left out", lambda it: {"key": b""}),
     ("put in", {"bound": True}, "authValue put in", lambda it: {"key": it.session.key + it.value}),
@@ -128,18 +128,18 @@ def hashed(names, front=b""):
 
 class Slips(unittest.TestCase):
     def slips_of(self, case, prepared):
-        """Returns the mistakes that are named for a command. The command must be refused."""
+        """Returns the mistakes that are reported for a command, which must be refused."""
         with self.assertRaises(Refused) as caught:
             case.tpm.send(prepared)
         self.assertIn(caught.exception.name, ("BAD_AUTH", "AUTH_FAIL"))
         return explained(case.device).reason.slips
 
     def refused(self, case, prepared, *wanted):
-        """Checks that a command is refused, and that exactly these mistakes are named."""
+        """Checks that a command is refused, and that exactly these mistakes are reported."""
         self.assertEqual(self.slips_of(case, prepared), list(wanted), "\n".join(case.device.trace))
 
     def bends(self, case, wanted, prepared=None, **changes):
-        """Checks a command whose HMAC is right except for these parts."""
+        """Checks the mistake reported for a command whose HMAC has these wrong parts."""
         self.refused(case, case.bent(prepared or case.use(), **changes), wanted)
 
     def cases(self, name, **choices):
@@ -187,7 +187,7 @@ class Slips(unittest.TestCase):
             self.bends(case, "authValue put in", case.tpm.random(4, case.session), key=key)
 
     def test_auth_value_in_a_policy(self):
-        """The authorization value is used without PolicyAuthValue, and left out after it."""
+        """The authorization value is used without PolicyAuthValue, or left out after it."""
         for words, in_key, wanted in (
             ("PolicyCommandCode Unseal\n", b"pin", "authValue put in"),
             ("PolicyAuthValue\n", b"", "authValue left out"),
@@ -220,7 +220,7 @@ class Slips(unittest.TestCase):
             self.bends(case, "old Name", hashed={"names": [old, old]})
 
     def test_old_name_and_lapsed_binding(self):
-        """The caller does not know of the index's first write."""
+        """The caller does not know of the first write to the index."""
         for case in self.cases("both", bound=True, entity="index"):
             old = case.tpm.name(case.handle)
             case.tpm.send(case.use())
@@ -250,8 +250,8 @@ class Slips(unittest.TestCase):
             self.bends(case, "parameters hashed plain", prepared, hashed=hashed)
 
     def test_zeros(self):
-        """A padded value is a mistake if the key is longer than a block, or if the zeros are in
-        front.
+        """A padded value is a mistake if the key becomes longer than a block, or if the zeros
+        precede the value.
         """
         for case in self.cases("zeros", bound=False):
             prepared = case.use()

@@ -1,5 +1,5 @@
-"""Tests each common mistake in an HMAC, by a caller that changes one ingredient. One mistake is
-named as one, two are named as two, and none is named if no mistake explains the HMAC.
+"""Tests each common mistake in an HMAC, with a caller that changes one ingredient. One mistake is
+reported as one, two are reported as two, and none is reported if no mistake explains the HMAC.
 """
 
 import base64
@@ -27,7 +27,7 @@ INDEX, OBJECT = {"entity": "index"}, {"entity": "object"}
 
 
 def setting(**parts):
-    """Sets parts of an HMAC. They are made from the right parts."""
+    """Returns a change that computes parts of an HMAC from the right parts."""
 
     def turn(case, it):
         vars(it).update({name: made(it) for name, made in parts.items()})
@@ -40,7 +40,7 @@ def valued(turn):
 
 
 def keyed(**changes):
-    """Sets a session key. Some of its parts are made from the case."""
+    """Returns a change of the session key, made from the case."""
 
     def turn(case, it):
         it.session_key = case.kdf(**{name: made(case) for name, made in changes.items()})
@@ -49,7 +49,7 @@ def keyed(**changes):
 
 
 def renamed(turn):
-    """Changes the Name of the authorizing entity, wherever it is used."""
+    """Returns a change of the authorizing entity's Name, wherever it is used."""
 
     def change(case, it):
         own = case.tpm.name(case.handle)
@@ -300,11 +300,12 @@ NONE = (
     ({}, setting(parameters=lambda it: it.parameters[1:])),
 )
 
-# The order in which the ingredients are made: each kind is an input of the next.
+# The order in which the ingredients are computed: each kind is an input of the next.
 IN_ORDER = VALUES, KEYS, NAMES, HASHED, OTHERS, REST
 PLACES = {id(row): place for place, rows in enumerate(IN_ORDER) for row in rows}
 
-# Pairs of mistakes with the same result as one or two other mistakes, which are reported instead.
+# Pairs of mistakes that give the same HMAC as one or two other mistakes, which are reported
+# instead.
 TOLD_OTHERWISE = {
     frozenset(("nonceCaller left out", "nonceTPM left out")),
     frozenset(("nonceCaller with its size", "nonceTPM with its size")),
@@ -318,7 +319,8 @@ TOLD_OTHERWISE = {
 
 
 def together(first, second):
-    """Returns the choices of two mistakes together, or None if the choices are incompatible."""
+    """Returns the choices for two mistakes in one session, or None if the choices are incompatible.
+    """
     if len({first.get("more"), second.get("more")} - {None}) > 1:
         return None
     choices = first | second
@@ -362,8 +364,8 @@ PASSWORDS = (
 
 class Turned(unittest.TestCase):
     def slips_of(self, case, *turns):
-        """Returns the mistakes that are named for a refused command. The right command is accepted
-        afterwards.
+        """Returns the mistakes that are reported for a refused command. Afterwards, the right
+        command is accepted.
         """
         with self.assertRaises(Refused) as caught:
             case.tpm.send(case.turned(*turns))
@@ -381,8 +383,8 @@ class Turned(unittest.TestCase):
                     self.assertEqual(self.slips_of(case, turn).slips, [name])
 
     def test_two(self):
-        """Makes random pairs of mistakes, neither of which undoes the other. Two forms of one value
-        have a test of their own.
+        """Makes random pairs of mistakes, neither of which undoes the other. Another test makes two
+        changes to the form of one value.
         """
         named = 0
         for at, (first, second, choices) in enumerate(pairs_of(70)):
@@ -402,7 +404,7 @@ class Turned(unittest.TestCase):
         self.assertGreater(named, 40)
 
     def made(self, name, choices, *turns):
-        """Returns the HMAC of a random session, after these changes."""
+        """Returns the HMAC of a random session in which these parts are changed."""
         case = Drawn(name, **choices)
         parts = case.parts()
         for turn in turns:
@@ -410,7 +412,7 @@ class Turned(unittest.TestCase):
         return parts.hmac()
 
     def test_two_forms_of_a_value(self):
-        """Changes a value twice, as `echo PIN | sha256sum` does."""
+        """Changes the form of a value twice, as `echo PIN | sha256sum` does."""
         for at, (turn, *wanted) in enumerate(
             (
                 (lambda it: hashed(SHA256, it + b"\n"), "with a line break", "as SHA-256"),
@@ -436,7 +438,7 @@ class Turned(unittest.TestCase):
                 self.assertRegex(found.facts[-1].value, words)
 
     def test_so_much_is_tried(self):
-        """Only a few HMACs and a few pairs are tried, even if there are many candidates."""
+        """Only a limited number of HMACs and pairs is tried, even if there are many candidates."""
         case = Drawn("much", kind=SE_HMAC, entity="owner", bind="own")
         for at in range(60):
             case.tpm.define(area(FIRST + at, attributes=BY_VALUE), auth=case.pick.randbytes(9))
@@ -452,7 +454,7 @@ class Turned(unittest.TestCase):
     # Tests with passwords.
 
     def refused_password(self, case, password):
-        """Sends a password instead of the right HMAC. The device refuses it."""
+        """Sends a password instead of the right HMAC; the device must refuse it."""
         entry = case.prepared.entries[0]
         entry = type(entry)(RS_PW, b"", 1, password)
         prepared = case.tpm.prepare(case.prepared.code, case.prepared.handles, b"", b"")
@@ -479,10 +481,10 @@ class Turned(unittest.TestCase):
             self.assertEqual(found.slips, [])
             self.assertRegex(found.facts[-1].value, r"none of [\d,]+ that were tried: other forms")
 
-    # Tests with values to try, which the user names by --try.
+    # Tests of --try, with values that the user tries.
 
     def test_tried(self):
-        """Each value is named with --try, and is not named without it."""
+        """A value is reported if --try names it, and is not reported without --try."""
         for at, (choices, turn, *forms) in enumerate(TRIED):
             with self.subTest(at):
                 case = Drawn(f"tried {at}", **choices)

@@ -1,5 +1,5 @@
-"""Tests guesses that the device does not see. The explanation and the audit report a value that
-encrypts although the entry did not have to know it. They do not report ordinary encryption.
+"""Tests the reports about guesses without the device. The explanation and the audit report a value
+that encrypts although the caller did not have to know it. They do not report ordinary encryption.
 """
 
 import pathlib
@@ -21,7 +21,7 @@ BOUND = "is bound to LOCKOUT, and encrypts an answer to a command that does not 
 
 
 def guessed(script):
-    """Returns the mistakes that are reported about guesses, with their lines."""
+    """Returns the reports about guesses, with their lines."""
     events = Play().events(script)
     return [
         (it.line, note.slips[0]) for it in events for note in it.notes if note.rule == "guesses"
@@ -29,9 +29,7 @@ def guessed(script):
 
 
 def encrypting(script):
-    """Returns the number of encrypting entries in a script whose session is bound to a nonempty
-    value.
-    """
+    """Returns the number of entries that encrypt in a session bound to a nonempty value."""
     play, many = Play(), 0
     for event in play.events(script):
         for _, entry, _ in event.scene.known.places if event.scene.known else []:
@@ -50,7 +48,7 @@ def audited(script):
 
 
 class OfflineGuesses(unittest.TestCase):
-    """A value that encrypts although nobody had to prove it."""
+    """Reports a value that encrypts although the caller did not have to know it."""
 
     def test_attack(self):
         slip = "guesses of a bound value need no try"

@@ -1,4 +1,4 @@
-"""Tests the pytest plugin, if pytest is installed. pytest runs this test in a folder of its own."""
+"""Tests the pytest plugin, if pytest is installed, by running pytest in a new folder."""
 
 import importlib.util
 import os

@@ -1,5 +1,5 @@
-"""Tests that records are read as they were made: heads with images, incomplete ends, and responses
-before and after their commands.
+"""Tests that records are read as they were written: heads with images, incomplete ends, and
+responses before and after their commands.
 """
 
 import contextlib
@@ -26,8 +26,8 @@ RIGHT = "do NV_Read 01000001 01000001 pw:736563726574 8 0"
 
 
 def journal_with_index():
-    """Returns a journal whose image has an index. The journal then has a command with a wrong value
-    for it.
+    """Returns a journal whose image contains an index. A command in the journal has a wrong value
+    for the index.
     """
     journal = Journal().play(START, DEFINE, WRITE)
     journal.begin()
@@ -72,8 +72,8 @@ class Heads(unittest.TestCase):
         self.assertFalse(any(it.differences for it in events))
 
     def test_one_log_after_another(self):
-        """A log of the same device continues, with the knowledge of the log before. Another log is
-        of another device.
+        """A log of the same device continues with the knowledge from the log before it. A log of
+        another device does not.
         """
         for begin in Journal.begin, Journal.cycle:
             first = Journal().play(START, DEFINE)
@@ -106,7 +106,8 @@ class Heads(unittest.TestCase):
         self.assertEqual(played(bent)[0].damages, [words])
 
     def test_a_word_in_hex(self):
-        """A hex word in a comment begins a log only if it may be an image or a state text."""
+        """A comment with a hex word begins a log only if the word may be an image or a state text.
+        """
         for words in "# state bad", "# state deed", "# image ", "# image of the device":
             play, events = played("\n".join((words, START, words, RIGHT)).encode())
             self.assertEqual((codes(events), play.fault), (["", "18b"], ""), words)
@@ -123,7 +124,7 @@ def records_of(line):
 
 class Ends(unittest.TestCase):
     def test_a_cut_end(self):
-        """A journal that is cut at any offset, with or without zeros after it, contains its
+        """A journal that is cut at any offset, with or without zeros after it, still contains its
         complete records.
         """
         journal = journal_with_index()
@@ -138,7 +139,7 @@ class Ends(unittest.TestCase):
                 self.assertFalse(any(it.differences for it in events))
 
     def test_a_byte_left_out(self):
-        """A last record without one of its bytes is not cut off, unless its last byte is
+        """If the last record lacks a byte, it does not count as cut off, unless its last byte is
         missing.
         """
         journal = journal_with_index()
@@ -155,7 +156,7 @@ class Ends(unittest.TestCase):
             self.assertEqual((codes(events)[-2:], play.fault), (["98e", ""], ""))
 
     def test_lines_after_a_journal(self):
-        """Lines that somebody has added to a journal by hand are played."""
+        """Lines that a person has appended to a journal are played."""
         journal = journal_with_index()
         play, events = played(journal.text + f"{WRONG}\n# by hand".encode())
         self.assertEqual((codes(events), play.cuts), (["", "98e", "", "98e"], []))
@@ -170,7 +171,7 @@ class Answers(unittest.TestCase):
         self.assertEqual([len(it.differences) for it in bent], [0, 1])
 
     def test_the_sum_of_an_answer(self):
-        """A changed response is reported first, by its line. A changed mark and changed lines are
+        """A changed response is reported first, with its line. Changed marks and changed lines are
         reported too.
         """
         journal = journal_with_index()
@@ -190,9 +191,7 @@ class Answers(unittest.TestCase):
             self.assertTrue(output.startswith("line 12: NV_Read: the record is damaged"), output)
 
     def test_another_image(self):
-        """The image of --image must be the image of the log. If it is not, this is reported as a
-        difference.
-        """
+        """The image of --image must be that of the log. If it is not, a difference is reported."""
         journal = journal_with_index()
         text, own = journal.text, bytes.fromhex(journal.text.split(b"\n")[1][2:].decode())
         output, error, status = told(text, own)
@@ -211,7 +210,7 @@ class Answers(unittest.TestCase):
 
 
 class Audits(unittest.TestCase):
-    """A journal is judged by its own head and sums, with or without an output."""
+    """A journal is judged by its own head and checksums, with or without an output."""
 
     def test_a_journal(self):
         journal = journal_with_index()
@@ -253,7 +252,7 @@ class Audits(unittest.TestCase):
 
 
 def audited(text, start=None):
-    """Returns the status of an audit without an output, what it prints, and its standard error."""
+    """Returns the status of an audit without an output, its report, and its standard error."""
     output, error = io.StringIO(), io.StringIO()
     with tempfile.TemporaryDirectory() as folder:
         log, image = pathlib.Path(folder, "log"), pathlib.Path(folder, "start")

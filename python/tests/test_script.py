@@ -1,4 +1,4 @@
-"""Tests layered scripts: their plain scripts, their faults, and served devices."""
+"""Tests layered scripts: the plain scripts that they produce, their errors, and served devices."""
 
 import dataclasses
 import os
@@ -38,13 +38,13 @@ def commands(lines):
 
 
 def outcomes(script, device=None):
-    """Returns the codes of all responses, from the traces."""
+    """Returns the response codes in all traces of a plain script."""
     lines = played(script, device, traces=True)
     return [it.split()[-1] for it in lines if it.startswith("# ") and " L0 +" in it]
 
 
 def traced_by_the_model(lines):
-    """Returns the traces that a model prints for plain lines."""
+    """Returns the traces that a model prints for the lines of a plain script."""
     player, printed = Player(), []
     for line in lines:
         printed += player.play(line.encode())
@@ -243,8 +243,8 @@ class Faults(unittest.TestCase):
 
 
 class Served(unittest.TestCase):
-    """A device at a socket. Its nonces are random. Random bytes, times and power cycles cannot be
-    set, and such lines are refused.
+    """A device on a socket. Its nonces are random. Its random bytes, times and power cycles cannot
+    be set, so lines that set them are refused.
     """
 
     def test_a_served_device(self):

@@ -1,5 +1,5 @@
-"""Tests the server for Microsoft's simulator protocol: its clients, their errors, and the state that
-the server keeps.
+"""Tests the server for Microsoft's simulator protocol: its clients, their errors, and the state
+that the server saves.
 """
 
 import pathlib
@@ -16,7 +16,7 @@ from tpmsim.caller import Caller
 from tpmsim.device import SimulatorDevice
 from tpmsim.standard import number
 
-# The values of PCR 17 after a launch with the data abc, computed by sha1sum and sha256sum from
+# The values of PCR 17 after a launch with the data abc. sha1sum and sha256sum computed them from
 # zeros and the digest of abc.
 LAUNCHED = [
     "ccd5bd41458de644ac34a2478b58ff819bef5acf",
@@ -28,7 +28,7 @@ STARTUP = bytes.fromhex("80010000000c000001440000")
 GET_RANDOM = bytes.fromhex("80010000000c0000017b0010")
 
 # LEAST_BUFFER is the size of the host's buffer for a client that never reads. It is small, so that
-# it is soon full. If nothing more is taken for STUCK seconds, the server waits for that client.
+# it is soon full. If the server accepts nothing more for STUCK seconds, it waits for that client.
 LEAST_BUFFER, STUCK = 4096, 0.2
 
 
@@ -47,7 +47,7 @@ class Simulator(unittest.TestCase):
         return self.enterContext(SimulatorDevice(*self.address))
 
     def started(self):
-        """Returns a client after TPM2_Startup."""
+        """Returns a client of a started device."""
         device = self.client()
         Caller(device).start_up()
         return device
@@ -62,7 +62,7 @@ class Simulator(unittest.TestCase):
 
     def test_faults_are_of_one_client(self):
         """One client vanishes within a request, one never reads, one is slow, and one sends
-        nonsense. The other clients are served.
+        nonsense. The server still serves the other clients.
         """
         device = self.started()
         vanishing = self.connection()
@@ -83,8 +83,8 @@ class Simulator(unittest.TestCase):
         self.asks(slow, request(GET_RANDOM)[3:], number(28, 4))
 
     def test_pieces_take_no_time(self):
-        """A client sends a request in four pieces, and its host waits for acknowledgements. That
-        causes no delay.
+        """A client that sends a request in four pieces causes no delay, even if its host waits for
+        acknowledgements.
         """
         self.started()
         stream, buffer = self.connection(), request(GET_RANDOM)
@@ -124,7 +124,7 @@ class Simulator(unittest.TestCase):
         self.assertEqual([it.hex() for it in values], LAUNCHED)
 
     def test_image(self):
-        """A change is in the file before its response is sent, and is there for the next server."""
+        """A change is in the file before its response is sent, so the next server has it too."""
         self.started()
         before = (self.folder / "image").read_bytes()
         stop = self.connection(1)

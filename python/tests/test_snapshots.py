@@ -1,5 +1,5 @@
-"""Tests snapshots, which are state texts. For one device, the library's text and the model's text
-are the same.
+"""Tests snapshots, which are state texts. The library and the model write the same text for one
+device.
 """
 
 import errno
@@ -43,8 +43,8 @@ def in_library():
 
 
 class Pair(Transport):
-    """The library's device and the model's. They get the same events and must return the same
-    responses. After each command, each continues from the other's state text.
+    """The library's device and the model's. They receive the same events, and must return the same
+    responses. After each command, each of them continues from the other's state text.
     """
 
     def __init__(self):
@@ -110,13 +110,13 @@ class Snapshots:
         self.assertEqual(found, wanted)
 
     def worked(self):
-        """Returns a snapshot with a session and an object in it."""
+        """Returns a snapshot that contains a session and an object."""
         self.tpm.create_primary(completed_scripts.storage_key())
         self.tpm.session(RH_OWNER, cipher=AES)
         return self.tpm.device.snapshot()
 
     def test_bytes(self):
-        """The bytes of a snapshot are enough to restore it. Equal devices have equal snapshots."""
+        """The bytes of a snapshot suffice to restore it. Equal devices have equal snapshots."""
         taken, device = self.worked(), self.tpm.device
         self.assertIsInstance(taken, bytes)
         self.assertEqual(state_text.state_text(*state_text.open_state(taken)), taken)
@@ -127,7 +127,7 @@ class Snapshots:
             self.assert_same(device.snapshot(), taken)
 
     def test_other_devices(self):
-        """Any other device can continue from the snapshot."""
+        """Any other device can continue from a snapshot."""
         taken = self.worked()
         with ModelDevice(seed=SEED) as other:
             other.restore(bytes(taken))
@@ -137,7 +137,7 @@ class Snapshots:
             self.assert_same(self.tpm.device.snapshot(), other.snapshot())
 
     def test_no_state_text(self):
-        """Restoring bytes that are not a state text is refused, and changes nothing."""
+        """Bytes that are not a state text cannot be restored, and change nothing."""
         taken, device = self.worked(), self.tpm.device
         before = list(device.events)
         bent = bytes([taken[300] ^ 1])
@@ -165,8 +165,8 @@ class Told(Snapshots):
     """Tests of devices that receive their locality, time and random bytes."""
 
     def test_what_was_told(self):
-        """A snapshot restores the settings of the device. The snapshot's bytes contain no settings,
-        and begin a new trace.
+        """A snapshot restores the settings of the device. Its bytes alone contain no settings, and
+        begin a new trace.
         """
         device = self.tpm.device
         device.locality = 3
@@ -182,7 +182,7 @@ class Told(Snapshots):
         self.assertEqual((device.trace, device.locality), ([f"# state {taken.hex()}"], 0))
 
     def test_after_power(self):
-        """After a power cycle, the device is restored from an earlier snapshot."""
+        """After a power cycle, a device can be restored from an earlier snapshot."""
         taken, device = self.worked(), self.tpm.device
         device.power_cycle()
         off = device.snapshot()
@@ -199,7 +199,9 @@ class OverModel(Told, unittest.TestCase):
 
 
 class InFolder:
-    """Tests of devices in a folder: the completing layer of a restored device gets a new start."""
+    """Tests of devices in a folder. When a device is restored, its completing layer gets a new
+    start.
+    """
 
     def assert_same(self, found, wanted):
         self.assertNotEqual(found, wanted)
@@ -210,7 +212,7 @@ class OverChild(InFolder, Told, unittest.TestCase):
     device = functools.partial(ChildDevice, seed=SEED)
 
     def test_at_once(self):
-        """A device can be restored before its process has begun."""
+        """A device can be restored before its process is ready."""
         with self.device() as first, self.device() as other:
             taken = first.snapshot()
             other.restore(taken)
@@ -230,7 +232,7 @@ class InProcess(Told, unittest.TestCase):
     device = staticmethod(in_library)
 
     def test_image(self):
-        """The file has the image of the restored device."""
+        """After a restoration, the file contains the image of the restored device."""
         file = pathlib.Path(self.enterContext(tempfile.TemporaryDirectory()), "image")
         taken = self.worked()
         with LibraryDevice(image=file) as device:
@@ -241,7 +243,7 @@ class InProcess(Told, unittest.TestCase):
             self.assertEqual(device.save(), kept)
 
     def test_closed(self):
-        """A closed device stays closed."""
+        """A closed device cannot be restored."""
         device = self.enterContext(in_library())
         taken = device.snapshot()
         device.close()
@@ -252,8 +254,8 @@ class InProcess(Told, unittest.TestCase):
             self.assertRaisesRegex(ValueError, "^the device is closed$", act)
 
     def test_an_image_that_is_not_written(self):
-        """If the image cannot be written, the command was executed and not answered. No other
-        command is executed until `restore`.
+        """If the image cannot be written, the command has been executed but its response is lost.
+        No other command is executed until `restore`.
         """
         file = pathlib.Path(self.enterContext(tempfile.TemporaryDirectory()), "image")
         tpm = Caller(self.enterContext(LibraryDevice(image=file)))
@@ -268,8 +270,8 @@ class InProcess(Told, unittest.TestCase):
         tpm.define(area())
 
     def test_no_memory(self):
-        """If memory runs out before the restored device exists, this device is unchanged. If an
-        allocation fails later, this device is replaced.
+        """If memory runs out before the restored device exists, the old device is unchanged. If an
+        allocation fails later, the old device has been replaced.
         """
         taken, device = self.worked(), self.tpm.device
         with mock.patch.object(device, "library") as calls:
@@ -290,7 +292,9 @@ class OverKeptState(InFolder, Snapshots, unittest.TestCase):
         return KeptDevice(self.folder, forces=False)
 
     def test_other_holders(self):
-        """Each holder continues from the snapshot, and so does a process that opens the folder."""
+        """Each holder continues from the restored snapshot, and so does a process that opens the
+        folder.
+        """
         taken = self.worked()
         with KeptDevice(self.folder) as other:
             self.tpm.call("PCR_Reset", 16)
@@ -319,7 +323,7 @@ class CompletedDevice(LibraryDevice):
 
 @NEEDS_LIBRARY
 class Completed(unittest.TestCase):
-    """Random commands with the completing layer, whose state is in the text."""
+    """Tests random commands with the completing layer, whose state is part of the state text."""
 
     def test_commands_at_random(self):
         for seed in range(SEEDS):
@@ -338,7 +342,7 @@ class Completed(unittest.TestCase):
         self.assertEqual(state_text.state_text(model, numbers), taken)
 
     def test_going_on(self):
-        """A restored device gives the same responses as this one, and has the same state
+        """A restored device returns the same responses as the original, and has the same state
         afterwards.
         """
         for seed in range(SEEDS):
@@ -355,7 +359,7 @@ class Completed(unittest.TestCase):
 
     @staticmethod
     def executed(device, seed):
-        """Returns a device's responses to random commands from here on."""
+        """Returns a device's responses to the random commands that follow."""
         first = len(device.events)
         completed_scripts.play(device, random.Random(seed), COMMANDS)
         return [it.response for it in device.events[first:] if not isinstance(it, str)]
@@ -365,7 +369,7 @@ class Explained(unittest.TestCase):
     """A log that begins with a state text is explained like any other log."""
 
     def test_wrong_password(self):
-        """The text has the index that was defined before, and its authValue."""
+        """The state text contains the index that was defined earlier, and its authValue."""
         with ModelDevice() as device:
             tpm = Caller(device)
             tpm.start_up()
@@ -393,8 +397,8 @@ class Stored(unittest.TestCase):
 
     @NEEDS_LIBRARY
     def test_between_kinds(self):
-        """A device's script does not begin with the events of a device in a folder, nor the other
-        way round.
+        """A device that is restored from a snapshot of a device in a folder does not get that
+        device's events, and vice versa.
         """
         folder = self.enterContext(tempfile.TemporaryDirectory())
         with KeptDevice(folder) as kept, Device() as device:

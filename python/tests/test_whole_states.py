@@ -1,5 +1,5 @@
-"""Tests logs that begin with a whole state. Its sessions, objects, PCRs and policies continue when
-a log is explained, judged or compared.
+"""Tests logs that begin with a whole state. When such a log is explained, audited or compared, the
+sessions, objects, PCRs and policies in the state continue.
 """
 
 import random
@@ -48,8 +48,8 @@ def before():
 
 
 def text_of_version_1(device, layer=None, held=((0, 0),) * 8):
-    """Returns a state text as an earlier version wrote it: its layer has two numbers for each slot
-    of an object, after the first two.
+    """Returns a state text in version 1, whose layer has two numbers for each slot of an object,
+    after its other numbers.
     """
     body = state_text.device_text(device)
     if layer is None:
@@ -106,7 +106,9 @@ class Explained(unittest.TestCase):
         self.assertIn("began before the log", events[-1].reason.words)
 
     def test_one_head_after_another(self):
-        """A head with the state of the log before it continues that log, with all its knowledge."""
+        """A head with the state at the end of the previous log continues that log, with all its
+        knowledge.
+        """
         first = before()
         text = first.text
         first.go_on()
@@ -115,7 +117,7 @@ class Explained(unittest.TestCase):
         self.assertIn("told by", " ".join(map(str, events[-1].reason.facts)))
 
     def test_another_device(self):
-        """About another device, only its state is known. Its power is on."""
+        """Of another device, only the state in its head is known. Its power is on."""
         text = Journal().play(START).text + gone_on(CODE, READ).text
         play = Play()
         events = list(play.events(text))
@@ -123,7 +125,7 @@ class Explained(unittest.TestCase):
         self.assertEqual((play.fault, play.damages), ("", []))
 
     def test_the_completing_layer(self):
-        """The layer knows the contexts that are in the state."""
+        """The layer knows the contexts that the state text lists."""
         journal = Journal().play(START, *SESSION)
         layer = Layer(start=7, count=1)
         layer.sessions[0] = 1
@@ -136,8 +138,7 @@ class Explained(unittest.TestCase):
         self.assertEqual(event.response[10:].hex(), "03000000")
 
     def test_a_head_of_version_1(self):
-        """A journal whose head is of version 1 is reported: its commands were executed with other
-        contexts.
+        """A head in version 1 is reported, because the layer of version 1 had different contexts.
         """
         journal = Journal().play(START)
         journal.head(2, text_of_version_1(journal.model))
@@ -148,7 +149,9 @@ class Explained(unittest.TestCase):
         self.assertRaisesRegex(Disagreement, f"^script line 1: {EARLIER_HEAD}$", auditor.read, text)
 
     def test_a_state_of_version_1(self):
-        """Objects that the layer had kept after their flush are left out; the rest is as it was."""
+        """Objects that the layer of version 1 kept after a flush are left out; everything else is
+        restored.
+        """
         device = ModelDevice()
         tpm = Caller(device)
         tpm.start_up()
@@ -180,8 +183,7 @@ class Explained(unittest.TestCase):
 
 class Judged(unittest.TestCase):
     def test_a_policy(self):
-        """The policy digest in the state covers the assertions that were made before the log
-        begins.
+        """The policy digest in the state covers the assertions that were made before the log began.
         """
         auditor, told = judged(gone_on(CODE, READ).text, POLICY)
         self.assertEqual(auditor.policies.faults(), [])
@@ -189,14 +191,14 @@ class Judged(unittest.TestCase):
         self.assertTrue(any(it.strip().startswith(words) for it in told))
 
     def test_a_refusal(self):
-        """A PCR is written after the state. That is why the use does not meet the policy."""
+        """A PCR is written after the state was saved, so the use does not satisfy the policy."""
         auditor, told = judged(gone_on(EXTEND, CODE, READ).text, POLICY)
         self.assertEqual(auditor.policies.faults(), [])
         words = "refused by PCR_CHANGED: line 7 wrote a PCR after its first TPM2_PolicyPCR, before the log"
         self.assertTrue(any(it.endswith(words) for it in told))
 
     def test_another_device(self):
-        """A later head must have the state of the device before it. If it does not, the audit ends
+        """A later head must have the state of the device before it. Otherwise, the audit ends
         there.
         """
         with self.assertRaises(Disagreement):
@@ -208,7 +210,7 @@ class Judged(unittest.TestCase):
         self.assertEqual((auditor.counts.power_cycles, auditor.policies.faults()), (0, []))
 
     def test_an_index_after_power_cycles(self):
-        """Each use in each journal is judged, also after power cycles."""
+        """Each use in each journal is audited, also after power cycles."""
         journal = before().play(CODE, READ)
         text = journal.text
         journal.begin()
@@ -226,8 +228,8 @@ class Judged(unittest.TestCase):
 
 
 class AtRandom(unittest.TestCase):
-    """Random scripts whose journals restart with the whole state. Each of these journals is a log
-    of its own. All of them in sequence are one log.
+    """Random scripts whose journals restart with the whole state. Each journal is a log of its own,
+    and all of them in sequence are also one log.
     """
 
     SCRIPTS = "lost_grounds", "lockout_sessions", "startup_state"

@@ -1,6 +1,6 @@
 """A caller that computes an HMAC with one ingredient changed, in random sessions: bound or not,
-with both hashes, of both kinds, with encrypted parameters or without. It uses no code of the
-explanation.
+with both hash algorithms, of both kinds, and with or without encrypted parameters. It uses no code
+of the explanation.
 """
 
 import hashlib
@@ -30,8 +30,8 @@ def sized(data):
 
 
 class Parts:
-    """The ingredients of an HMAC. If a key, a cpHash, a text or an HMAC is set here, it is used as
-    it is.
+    """The ingredients of an HMAC. If a key, a cpHash, a text or an HMAC is set here, it is used
+    instead of the computed one.
     """
 
     key = cp_hash = text = made = None
@@ -66,8 +66,8 @@ class Parts:
 
 
 class Drawn:
-    """A random session on a device, and a command that it authorizes. A choice that is not given is
-    made at random: `kind` is the kind of the session, and `bind` is one of none, own and other.
+    """A random session on a device, and a command that it authorizes. A choice that is not passed
+    is made at random: `kind` is the kind of the session, and `bind` is one of none, own and other.
     """
 
     def __init__(self, seed, **choices):
@@ -88,7 +88,9 @@ class Drawn:
         self.prepared = self.command()
 
     def drawn(self, name, among):
-        """Returns a choice. It is the given value, or a random one of several values."""
+        """Returns the value of a choice: the one that was passed, or a random one of several
+        values.
+        """
         given = self.choices.get(name, among)
         return (
             self.pick.choice([it for it in given if it in among])
@@ -145,7 +147,7 @@ class Drawn:
         return Use(self.session, attributes, demand=demand)
 
     def command(self):
-        """Returns a command that the entity authorizes, with other entries if they are chosen."""
+        """Returns a command that the entity authorizes, with other entries if these are chosen."""
         tpm, data = self.tpm, self.pick.randbytes(8)
         more = [make(self) for make in self.choices.get("more", ())]
         if self.entity == "owner":
@@ -156,8 +158,8 @@ class Drawn:
 
     @property
     def in_key(self):
-        """Returns whether the authorization value itself is in the key, and not only in the session
-        key.
+        """Returns whether the authorization value itself is in the HMAC's key, and not only in the
+        session key.
         """
         return self.kind == SE_POLICY or self.bind != "own"
 
@@ -177,7 +179,7 @@ class Drawn:
         )
 
     def kdf(self, **changes):
-        """Returns the session key after these changes of its parts."""
+        """Returns the session key with these changes of its parts."""
         parts = {
             "algorithm": self.algorithm,
             "key": self.bind_value,
@@ -199,7 +201,7 @@ class Drawn:
             parts.session_key = self.kdf(key=turn(self.value))
 
     def turned(self, *turns):
-        """Returns the command with an HMAC of changed ingredients."""
+        """Returns the command with an HMAC that is computed from changed ingredients."""
         parts = self.parts()
         assert parts.hmac() == self.prepared.entries[0].hmac
         for turn in turns:

@@ -1,4 +1,4 @@
-"""Tests of what a caller does with a device of any kind."""
+"""Tests of common uses that work with any kind of device."""
 
 from hashlib import sha256
 
@@ -11,8 +11,8 @@ from tpmsim.standard.objects import Attribute
 
 
 class TwentyTests:
-    """Tests of what a caller does with a device of any kind. Each test has a new device, which is
-    started. `lacks` has the tests that a device cannot play, with the reasons.
+    """Tests of common uses that work with any kind of device. Each test gets a new, started device.
+    `lacks` contains the tests that a device cannot run, with the reasons.
     """
 
     lacks = {}
@@ -33,7 +33,9 @@ class TwentyTests:
         return caught.exception
 
     def refused(self, prepared, code, check="G9"):
-        """Checks a refusal. Only devices with a trace report the check that refused."""
+        """Checks that a command is refused. Only devices with a trace report the check that refused
+        it.
+        """
         refused = self.refusal(prepared)
         self.assertEqual(refused.code, code)
         self.assertIn(refused.check, (check, None))
@@ -115,7 +117,7 @@ class TwentyTests:
         )
         public = area(attributes=BY_POLICY, auth_policy=digest_of(words))
         index = self.tpm.define(public, auth=b"pin")
-        # PCR 0 has another value, so the second branch is asserted.
+        # PCR 0 has a different value, so the second branch is asserted.
         use = self.tpm.policy(words)
         self.refused(self.tpm.writing(index, b"8 bytes.", use), "LOCALITY")
         self.tpm.device.locality = 1

@@ -6,8 +6,8 @@ class TpmsimError(Exception):
 
 
 class BadValue(TpmsimError, ValueError):
-    """A value that a field cannot hold. `field` is the field's name, for a parameter the one in
-    Part 3, and `value` is what was given.
+    """A value that a field cannot hold. `field` is the name of the field; a parameter has its name
+    in Part 3. `value` is the rejected value.
     """
 
     def __init__(self, field: str, value: object, wanted: str) -> None:

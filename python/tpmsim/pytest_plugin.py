@@ -1,8 +1,8 @@
 """Fixtures for pytest: `tpm`, a caller of a fresh device; `tpm_saved`, a caller of a device that is
 kept in an image; and `tpm_of`, which makes a caller of any device. Each device is started up. If a
 test fails, its report contains the commands that the device received, as a script, and why the last
-refused command was refused. With `--tpmsim-html FOLDER`, each failed test writes the page of its
-log to FOLDER.
+refused command was refused. With `--tpmsim-html FOLDER`, the page that explains the log of each
+failed test is written to FOLDER.
 """
 
 import re
@@ -49,7 +49,8 @@ def tpm_saved(request: pytest.FixtureRequest, tmp_path: Path) -> Iterator[Caller
 
 @pytest.fixture
 def tpm_of(request: pytest.FixtureRequest) -> Iterator[Callable[[Transport], Caller]]:
-    """Makes a caller of any device that you pass, and closes the device after the test."""
+    """Yields a function that makes a caller of any device, and closes the devices after the test.
+    """
     devices = list[Transport]()
 
     def made(device: Transport) -> Caller:
@@ -62,7 +63,7 @@ def tpm_of(request: pytest.FixtureRequest) -> Iterator[Callable[[Transport], Cal
 
 
 def page_left(folder: str, name: str, log: bytes) -> str:
-    """Writes the page of a test's log, and returns its path."""
+    """Writes the page that explains a test's log, and returns the page's path."""
     path = Path(folder, f"{NO_NAME.sub('_', name)}.html")
     path.parent.mkdir(parents=True, exist_ok=True)
     path.write_text(page.of_log(name, Play(is_whole=True), log, text.Counts()), "utf-8")
@@ -79,7 +80,7 @@ def pytest_runtest_makereport(item: pytest.Item) -> Generator[None, Any, None]:
     for at, device in enumerate(devices, 1):
         report.sections.append(("the commands that the TPM got", "\n".join(device.trace)))
         if report.when == "teardown":
-            continue  # the devices are closed
+            continue  # the test's fixtures have closed the devices
         log = log_of(device)
         why = why_refused(log)
         if why:

@@ -1,5 +1,5 @@
-// AES encryption of a block, and decryption in AES's cipher feedback mode with segments of a block (FIPS
-// 197, SP 800-38A).
+// Encrypts a block with AES, and decrypts texts in AES's cipher feedback mode, with segments of a
+// whole block (FIPS 197, SP 800-38A).
 
 const BLOCK = 16;
 

@@ -61,7 +61,7 @@ export function areSame(one, other) {
 }
 
 /**
- * Reads numbers and bytes from the front of a text. Missing bytes of a number count as 0; other
+ * Reads numbers and bytes from a text, in order. Missing bytes of a number count as 0; other
  * missing bytes are left out.
  */
 export class Reader {
@@ -75,7 +75,7 @@ export class Reader {
     return this.bytes.length - this.at;
   }
 
-  /** @param {number} size at most six bytes, which a Number holds */
+  /** @param {number} size at most six bytes, so that a Number represents it */
   number(size) {
     let value = 0;
     for (let place = 0; place < size; place += 1) {

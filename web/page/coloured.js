@@ -1,4 +1,4 @@
-// A line of a script in colours, and its fault in words.
+// Shows a line of a script in colours, and describes its fault in words.
 
 import { tokensOf } from "./completion.js";
 import { make } from "./dom.js";
@@ -12,7 +12,7 @@ const FAULT_WORDS = {
 };
 
 /**
- * Returns a fault in words. `isAtEnd` says that the line ends where the fault is.
+ * Describes a fault in words. With `isAtEnd`, the line ends at the fault.
  * @param {LineFault} fault
  */
 export function faultWords({ name, column, wanted }, isAtEnd = false) {

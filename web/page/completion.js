@@ -1,5 +1,5 @@
-// Completes a line: offers words, commands, and for each field the values that fit it, with the handles that
-// the device has at that line.
+// Completes a line: offers words, commands, and for each field the values that fit it, with the
+// handles that the device has at that line.
 
 import { hexNumber } from "./bytes.js";
 import { byName, facts } from "./facts.js";
@@ -78,7 +78,8 @@ function matching(choices, typed) {
 
 /**
  * Returns what may follow the part of a line that is typed.
- * @param {import("./device.js").Chip} chip @param {string} line @param {State} state the device there
+ * @param {import("./device.js").Chip} chip @param {string} line
+ * @param {State} state the device at that line
  * @returns {Completion | null}
  */
 export function completionOf(chip, line, state) {

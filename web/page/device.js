@@ -1,5 +1,5 @@
-// The devices of the page: two devices of the proved module, which calls name by number. Only js/src
-// knows the exports of the module.
+// The devices of the page: two devices of the proved module. Each call takes the number of a
+// device. Only js/src uses the exports of the module.
 
 import { BadImage, BadState } from "../../js/src/errors.js";
 import { Module } from "../../js/src/module.js";
@@ -18,7 +18,7 @@ export const RANDOM_BYTES = 256;
 const MOST_LINE = 65_536;
 
 /**
- * Runs a call that may refuse a text. Returns the fault that it throws, "" for none.
+ * Runs a call that may refuse a text. Returns the fault that it throws, or "" if it throws none.
  * @param {() => void} call
  */
 function faultOf(call) {
@@ -111,7 +111,7 @@ export class Chip {
   }
 
   /**
-   * Parses a line of a script, `waited` milliseconds after the command before it.
+   * Parses a line of a script. The script has waited `waited` milliseconds since the last command.
    * @param {string} text @param {number} waited
    * @returns {ReadLine}
    */
@@ -136,7 +136,7 @@ export class Chip {
   }
 
   /**
-   * Returns a line in words that encodes a buffer, "" if there is none.
+   * Returns a line in words that encodes a buffer, or "" if there is none.
    * @param {Uint8Array} buffer
    */
   spell(buffer) {
@@ -152,7 +152,7 @@ export class Chip {
   }
 
   /**
-   * Returns the meaning of a response code, null if there is no such code.
+   * Returns the meaning of a response code, or null if there is no such code.
    * @param {number} code
    */
   meaning(code) {

@@ -10,7 +10,7 @@ import { GROUPS, changesOf, isBlank } from "./state.js";
 
 const OF_ENTITIES = new Set(["Sessions", "Objects", "NV indices"]);
 
-/** The groups that the reader opened, and those that the reader closed. */
+/** Whether each group is open. The reader can open and close groups. */
 const isOpen = new Map([["PCRs", true], ["Sessions", true], ["Objects", true], ["NV indices", true], ["Lockout", true]]);
 
 /** @param {State} before @param {State} after @param {string} when */
@@ -71,7 +71,8 @@ function valuesShown(group, of, values, changed) {
 }
 
 /**
- * Shows the PCRs that are not blank, in full if the step changed them. A sentence covers the blank ones.
+ * Shows the PCRs that are not blank, in full if the step changed them. A sentence mentions the
+ * blank ones.
  * @param {Group} those @param {Set<string>} changed
  */
 function pcrsShown(those, changed) {

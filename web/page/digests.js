@@ -1,11 +1,12 @@
-// Computes digests, HMACs and the keys of sessions (TPM 2.0 Library, Part 1, 11.4.9 and 19.6), over whole
-// texts. The browser's own functions are asynchronous, and are missing for a page that is a file on a
-// disk.
+// Computes digests, HMACs and the keys of sessions (TPM 2.0 Library, Part 1, 11.4.9 and 19.6) of
+// whole texts. The browser's own functions are asynchronous, and are not available to a page that
+// is a file on a disk.
 
 import { encoded, joined } from "./bytes.js";
 
 /**
- * A hash: the size of its digest and of its block, in bytes, and the function that computes a digest.
+ * A hash algorithm: the sizes of its digest and of its block, in bytes, and the function that
+ * computes a digest.
  * @typedef {{size: number, block: number, digest: (text: Uint8Array) => Uint8Array}} Hash
  */
 
@@ -148,7 +149,7 @@ function sha512(text, starts) {
 }
 
 /**
- * The hashes by their numbers, TPM_ALG_ID.
+ * The hash algorithms by their numbers (TPM_ALG_ID).
  * @type {Map<number, Hash>}
  */
 export const HASHES = new Map([

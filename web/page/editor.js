@@ -1,5 +1,6 @@
-// The editor: a text area whose text is transparent, over the rows of the text that are visible. Sizes are
-// read before anything is written: after a write, the browser computes the layout again for the next read.
+// The editor: a text area with transparent text, above the visible rows of the same text. Sizes are
+// read before elements are changed, because the first read after a change makes the browser compute
+// the layout again.
 
 import { faultPlace, faultWords } from "./coloured.js";
 import { byId, cut, make } from "./dom.js";
@@ -11,7 +12,7 @@ import { ROW, Rows, TOP } from "./rows.js";
 /**
  * @typedef {import("./rows.js").Told & {
  *   stateAtLine: (line: number) => import("./state.js").State, edited: () => void, moved: (line: number) => void,
- * }} Told what the editor asks the page for, and reports to it
+ * }} Told what the editor asks the page for, and what it reports to the page
  */
 
 const FAULT_WIDTH = 220;
@@ -66,7 +67,7 @@ export class Editor {
     this.paint();
   }
 
-  /** Finds out which part of the text is visible, and ends the layers at the scroll bars. */
+  /** Measures which part of the text is visible, and lets the layers end at the scroll bars. */
   #look() {
     const { scrollTop, scrollLeft, clientWidth, clientHeight, offsetWidth, offsetHeight } = this.area;
     const isSame = clientWidth === this.view.width && clientHeight === this.view.height;
@@ -132,7 +133,7 @@ export class Editor {
   }
 
   /**
-   * Moves the caret to the end of a line, unless it is in that line, and shows the line.
+   * Moves the caret to the end of a line, unless it already is in the line, and shows the line.
    * @param {number} line
    */
   goTo(line) {
@@ -167,7 +168,7 @@ export class Editor {
   }
 
   /**
-   * Announces the result of the caret's line to screen readers, after a pause.
+   * Announces the result of the line with the caret to screen readers, after a pause.
    * @param {number} line
    */
   #sayLater(line) {
@@ -180,7 +181,7 @@ export class Editor {
     }, PAUSE);
   }
 
-  /** Shows the fault of the caret's line below the line. */
+  /** Shows the fault of the line with the caret, below that line. */
   #showUnder() {
     const under = byId("under");
     const { line, column } = this.caret();
@@ -207,7 +208,7 @@ export class Editor {
     return TOP + (line + 1) * ROW - this.view.top + 2;
   }
 
-  /** Shows the form of the caret's command, and highlights the caret's field. */
+  /** Shows the form of the command at the caret, and highlights the field at the caret. */
   showForm() {
     const { line, column } = this.caret();
     const text = this.lines[line] ?? "";
@@ -315,7 +316,7 @@ function insertText(area, text) {
 }
 
 /**
- * Returns whether a command needs more than the words of this line.
+ * Returns whether the command in this line lacks words.
  * @param {string} line
  */
 function needsMore(line) {

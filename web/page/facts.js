@@ -1,5 +1,5 @@
-// The contents of the repository's tables. web/build.py collects them, and the page contains them as
-// data.
+// The contents of the repository's tables. web/build.py collects them, and the page contains them
+// as data.
 
 /**
  * @typedef {{name: string, kind: string, isAuthorized: boolean}} HandleFact
@@ -9,7 +9,7 @@
  *   parameters: ParameterFact[], answeredHandles: string[], answeredParameters: ParameterFact[],
  * }} CommandFact
  * @typedef {{fixed: string[], isPcr: boolean, first: number[], words: string}} HandleKindFact
- * @typedef {[string, string]} RuleFact a sentence, and the place in the table that has it
+ * @typedef {[string, string]} RuleFact a sentence, and the link to it in the table
  * @typedef {Record<string, string>} Names by their numbers
  * @typedef {{
  *   commands: CommandFact[], otherCommands: Names, handleKinds: Record<string, HandleKindFact>,

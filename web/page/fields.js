@@ -1,4 +1,5 @@
-// Divides commands and responses into fields. Whatever the bytes are, each byte belongs to a field.
+// Divides commands and responses into fields. Each byte belongs to a field, even if the bytes are
+// malformed.
 
 import { hexNumber, numberOf } from "./bytes.js";
 import { byNumber, facts } from "./facts.js";
@@ -9,8 +10,9 @@ import {
 } from "./words.js";
 
 /**
- * A field: its offset; its size, the first `front` bytes of which are a size field; what it belongs to; and
- * the number of structures around it. A structure is a group, and its fields follow it.
+ * A field: its offset; its size, including a size field of `front` bytes; the part of the buffer
+ * that it belongs to; and the number of structures around it. A structure is a field with
+ * `isGroup`, and the fields in it follow it.
  * @typedef {"header" | "handle" | "entry" | "parameter" | "rest"} Sort
  * @typedef {{
  *   name: string, at: number, size: number, front: number, meaning: string, sort: Sort,
@@ -26,7 +28,7 @@ const DIGEST_BYTES = new Map([[ALG.sha1, 20], [ALG.sha256, 32]]);
 /** The bytes end within a field. */
 class Cut extends Error {}
 
-/** Reads fields from the front of bytes. */
+/** Reads fields from bytes, in order. */
 class Walk {
   /** @param {Uint8Array} bytes */
   constructor(bytes) {
@@ -69,7 +71,7 @@ class Walk {
     this.take(size, name, (bytes) => meaning([...bytes].reduce((all, it) => all * 256n + BigInt(it), 0n)));
   }
 
-  /** Returns the value of the size field at the front. */
+  /** Returns the value of the size field that comes next. */
   peek() {
     return numberOf(this.bytes.subarray(this.at, Math.min(this.at + 2, this.end)));
   }
@@ -90,7 +92,8 @@ class Walk {
   }
 
   /**
-   * Adds a structure: of a known size, or of the fields that `read` reads.
+   * Adds a structure with the fields that `read` reads. Its size is `size`, or else the size of
+   * these fields.
    * @param {string} name @param {number | null} size @param {number} front @param {() => void} read
    */
   group(name, size, front, read) {
@@ -142,7 +145,7 @@ const named = (size, names, other) =>
   number(size, (value) => /** @type {any} */ (names())[value] ?? other);
 
 /**
- * Returns a reader of a structure with a size field in front.
+ * Returns a reader of a structure that begins with a size field.
  * @param {(walk: Walk) => void} read @returns {Read}
  */
 const structure = (read) => (walk, name) => {
@@ -258,7 +261,7 @@ const OF_KIND = {
 const seconds = number(4, (value) => `${grouped(value)} s`);
 
 /**
- * The readers of parameters for which more is known than their kind says.
+ * The readers of parameters whose name says more than their kind.
  * @type {Record<string, Read>}
  */
 const OF_NAME = {
@@ -362,7 +365,7 @@ export function fieldsOfResponse(number, response, meaning) {
 }
 
 /**
- * Returns the number of the command in a buffer, 0 if the buffer is too short.
+ * Returns the number of the command in a buffer, or 0 if the buffer is too short.
  * @param {Uint8Array} buffer
  */
 export const commandNumber = (buffer) => (buffer.length < 10 ? 0 : numberOf(buffer.subarray(6, 10)));

@@ -1,4 +1,4 @@
-// Links that contain a script, files that are opened, and files that are downloaded.
+// Makes and reads links that contain a script, opens files, and downloads files.
 
 import { decoded, encoded, hexOf } from "./bytes.js";
 import { make } from "./dom.js";
@@ -12,7 +12,7 @@ const MOST_SCRIPT = 4 * 1024 * 1024;
 const BINARY = 0x80;
 const FRAGMENT = /^#s=([\w-]+)(?:&n=(\d{1,7}))?$/;
 
-// Debian's TypeScript does not declare these two.
+// TypeScript in Debian does not declare these two classes.
 const { CompressionStream, DecompressionStream } = /** @type {any} */ (globalThis);
 
 /** @param {Uint8Array} bytes */
@@ -24,7 +24,7 @@ export const unpacked = (text) =>
   Uint8Array.from(atob(text.replace(/-/g, "+").replace(/_/g, "/")), (it) => it.charCodeAt(0));
 
 /**
- * Reads a stream's output, at most `most` bytes of it.
+ * Returns the output of a stream for these bytes; fails if it is longer than `most` bytes.
  * @param {Uint8Array} bytes @param {any} stream @param {number} most
  */
 async function through(bytes, stream, most) {
@@ -42,13 +42,14 @@ async function through(bytes, stream, most) {
 }
 
 /**
- * Unpacks raw deflate, to at most `most` bytes.
+ * Unpacks raw deflate; fails if the result is longer than `most` bytes.
  * @param {Uint8Array} bytes @param {number} most
  */
 export const inflated = (bytes, most) => through(bytes, new DecompressionStream("deflate-raw"), most);
 
 /**
- * Returns the fragment of a link that contains a script, "" if the script is too long for a link.
+ * Returns the fragment of a link that contains a script, or "" if the script is too long for a
+ * link.
  * @param {string} text
  */
 export async function fragmentOf(text) {
@@ -58,7 +59,7 @@ export async function fragmentOf(text) {
 }
 
 /**
- * Returns the script in a fragment: null if the fragment is empty, "" if it contains no script.
+ * Returns the script in a fragment, null if the fragment is empty, or "" if it contains no script.
  * @param {string} fragment
  */
 export async function scriptOf(fragment) {
@@ -73,7 +74,7 @@ export async function scriptOf(fragment) {
 }
 
 /**
- * Returns the step that a fragment chooses, counted from 0; -1 if it chooses none.
+ * Returns the step that a fragment chooses, counted from 0, or -1 if it chooses none.
  * @param {string} fragment
  */
 export const stepOf = (fragment) => Number(FRAGMENT.exec(fragment)?.[2] ?? 0) - 1;
@@ -86,8 +87,8 @@ export function download(name, parts) {
 }
 
 /**
- * Returns the script that a file yields. For an image or a state text it is the present script on
- * that device.
+ * Returns the script in a file. For an image or a state text, returns the present script on the
+ * device of that text.
  * @param {File} file @param {string} present
  * @returns {Promise<{text: string, note: string, isBad: boolean}>}
  */

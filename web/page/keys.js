@@ -1,4 +1,4 @@
-// The effects of keys, and the choice of the pane to show if only one fits.
+// What each key does, and which pane is shown if only one fits the screen.
 
 import { byId, make } from "./dom.js";
 

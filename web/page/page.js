@@ -51,7 +51,7 @@ export class Page {
     /** Whether the script is the user's own: typed, opened, or from a link. */
     this.isOwn = false;
     /**
-     * The user's own script, which another one replaced.
+     * The user's own script that another script has replaced, if any.
      * @type {string | null}
      */
     this.former = null;
@@ -111,7 +111,9 @@ export class Page {
     this.playOn();
   }
 
-  /** Remembers the script, if it is the user's own, before another one replaces it. */
+  /**
+   * Before another script replaces the present one: stores the present one if it is the user's own.
+   */
   keepFormer() {
     if (this.isOwn) this.former = this.editor.text;
     this.isOwn = false;
@@ -123,7 +125,7 @@ export class Page {
     byId("former").hidden = true;
   }
 
-  /** Restores the user's script that another one replaced. */
+  /** Restores the user's own script that another script replaced. */
   backToFormer() {
     const text = this.former;
     if (text === null) return;
@@ -144,7 +146,7 @@ export class Page {
     this.run.take(this.script.steps);
   }
 
-  /** Drops the explained log, and the device that it began on. */
+  /** Drops the explained log, and the device with which it began. */
   leaveLog() {
     if (!this.told.log) return;
     if (this.told.start) this.run.begin(null);
@@ -215,8 +217,8 @@ export class Page {
   }
 
   /**
-   * Called after the user chose a step: removes the message about another step, and puts this step into the
-   * link.
+   * Called after the user chose a step: removes a message about the step before, and puts the
+   * chosen step into the link.
    */
   stepped() {
     if (this.isPassing) this.sayCount();
@@ -233,19 +235,19 @@ export class Page {
     this.editor.paint();
   }
 
-  /** Shows everything again, for example in another size or other colours. */
+  /** Shows everything again, for example after a change of the size or the colours. */
   redraw() {
     this.shown = [];
     this.show();
     drawMarks(this.script.steps, this.notable());
   }
 
-  /** Returns the steps that are refused, or for which the script has another response. */
+  /** Returns the steps that are refused, or whose recorded response differs from this device's. */
   notable() {
     return this.parted.length ? [...new Set([...this.run.refusals, ...this.parted])].sort((one, other) => one - other) : this.run.refusals;
   }
 
-  /** Shows the chosen step and the device after it, unless they are shown already. */
+  /** Shows the chosen step and the device after it, unless they are already shown. */
   show() {
     const { chosen, run, script, chip } = this;
     const step = script.steps[chosen];
@@ -266,7 +268,7 @@ export class Page {
   }
 
   /**
-   * Returns the parameters of a step that sessions encrypted, decrypted.
+   * Decrypts the parameters of a step that sessions encrypted.
    * @param {number} at
    */
   plainOf(at) {
@@ -386,8 +388,8 @@ export class Page {
   }
 
   /**
-   * Returns the fragment that contains the script and its chosen step, "" if the script is too long for a
-   * link.
+   * Returns the fragment that contains the script and its chosen step, or "" if the script is too
+   * long for a link.
    */
   async fragment() {
     const { text } = this.editor;

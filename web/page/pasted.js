@@ -46,7 +46,7 @@ function bytesOfRow({ offset, hex, isRepeated }, next) {
 }
 
 /**
- * Returns each dump in a text as one line of hex; the text itself if it contains no dump.
+ * Returns a text with each dump in it as one line of hex. A text without a dump is unchanged.
  * @param {string} text
  */
 function withoutOffsets(text) {
@@ -69,8 +69,8 @@ function withoutOffsets(text) {
 }
 
 /**
- * Returns the buffers in a text, in hex; null if it contains anything else. A line contains whole buffers, or
- * a buffer continues on the next lines up to its size.
+ * Returns the buffers in a text, in hex; null if the text contains anything else. A line contains
+ * whole buffers, or a buffer continues on the next lines up to its size.
  * @param {string} text
  */
 function buffersIn(text) {
@@ -90,8 +90,8 @@ function buffersIn(text) {
 }
 
 /**
- * Returns whether a buffer that follows a command is its response: it has no command's number, or has the
- * code of a refusal.
+ * Returns whether a buffer that follows a command is its response: it contains no command's number,
+ * or the response code of a refusal.
  * @param {string} buffer
  */
 function isResponse(buffer) {
@@ -124,8 +124,8 @@ const SPACED = /^cmd\s+((?:(?:0x)?[0-9a-f]{2}[\s,:;]*)+)$/i;
 const joinedLine = (line) => line.replace(SPACED, (_, /** @type {string} */ bytes) => `cmd ${bytes.replace(BETWEEN, "").toLowerCase()}`);
 
 /**
- * Returns what to insert for a text that is pasted after the beginning of a line; null if the text itself is
- * to be inserted.
+ * Returns the text to insert for a text that is pasted after `before` in a line; null if the pasted
+ * text itself is to be inserted.
  * @param {string} before @param {string} text
  */
 export function pastedText(before, text) {

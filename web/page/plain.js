@@ -1,5 +1,6 @@
-// Decrypts the parameters that a session encrypted. The keys are computed from the script: from its nonces,
-// its responses, and the authorization values that it sets (TPM 2.0 Library, Part 1, 19 and 21).
+// Decrypts the parameters that a session encrypted. The keys are computed from the script: from its
+// nonces, its responses, and the authorization values that it sets (TPM 2.0 Library, Part 1, 19 and
+// 21).
 
 import { cfbDecrypted } from "./aes.js";
 import { bytesOf, hexNumber, joined, numberOf } from "./bytes.js";
@@ -144,8 +145,8 @@ class Decryption {
   }
 
   /**
-   * Returns whether the script was recorded on another device: before this event it has a response with
-   * another code than this device's.
+   * Returns whether the script was recorded on another device: an earlier response in it has a code
+   * that differs from this device's.
    * @param {number} at
    */
   #hasParted(at) {
@@ -222,7 +223,7 @@ class Decryption {
   }
 
   /**
-   * Returns the session that a command starts, from the nonces in plain text.
+   * Returns the session that a command starts, computed from its nonces after decryption.
    * @param {number} step @returns {Session}
    */
   #started(step) {
@@ -259,7 +260,7 @@ function trimmed(value) {
 }
 
 /**
- * Returns a function from a field's name to its bytes, without a size field in front.
+ * Returns a function from a field's name to its bytes, without its size field.
  * @param {Uint8Array} bytes @param {(bytes: Uint8Array) => import("./fields.js").Field[]} fieldsOf
  */
 function namedFields(bytes, fieldsOf) {

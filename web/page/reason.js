@@ -1,5 +1,5 @@
-// Explains why a command was refused: the rules of the check that refused it, and the values that the rule
-// compares.
+// Explains why a command was refused: the rules of the check that refused it, and the values that
+// the rule compares.
 
 import { hexOf, numberOf, Reader } from "./bytes.js";
 import { byNumber, facts } from "./facts.js";
@@ -41,8 +41,7 @@ function ruleKeys(check, command, meaning) {
 }
 
 /**
- * Returns the keys of the policy conditions for which a command may be refused, by the name of the
- * code.
+ * Returns the keys of the policy conditions that may be the reason for a refusal with this code.
  * @param {string} name
  */
 const conditionKeys = (name) =>
@@ -74,7 +73,7 @@ export function rowsOf(check, buffer) {
 }
 
 /**
- * Returns whether a code reports an entry with a wrong password or HMAC.
+ * Returns whether a response code reports an entry with a wrong password or HMAC.
  * @param {Meaning | null} meaning
  */
 export const isWrongEntry = (meaning) => meaning !== null && ["AUTH_FAIL", "BAD_AUTH"].includes(meaning.name);
@@ -112,7 +111,7 @@ function failedCondition(buffer, meaning, before) {
 const WRITTEN = 1 << 29;
 
 /**
- * Returns the condition that refused first: conditions 5 and 6 are checked before 8.
+ * Returns the first condition that does not hold: conditions 5 and 6 are checked before 8.
  * @param {import("./state.js").Session} session
  * @param {import("./state.js").Index | undefined} index
  */
@@ -144,7 +143,7 @@ export function entriesOf(buffer) {
 const partOf = (reader) => ({ nonce: reader.sized(), attributes: reader.number(1), secret: reader.sized() });
 
 /**
- * Returns the response's parts for the entries of its command, after a success.
+ * Returns the parts of a successful response that belong to the entries of its command.
  * @param {import("./facts.js").CommandFact} command @param {Uint8Array} response @returns {Part[]}
  */
 export function answersOf(command, response) {
@@ -157,7 +156,7 @@ export function answersOf(command, response) {
 }
 
 /**
- * Returns the handles of the entries.
+ * Returns the session handles of a command's entries.
  * @param {Uint8Array} buffer
  */
 export const entryHandles = (buffer) => entriesOf(buffer).map((it) => it.handle);

@@ -1,6 +1,6 @@
-// Plays a script, and keeps the responses and states by their events. An event before the first
-// edited line is not played again: the state before each 64th event is kept as a state text, and
-// playing continues from there.
+// Plays a script, and stores the responses and states by their events. An event before the first
+// edited line is not played again: the state before each 64th event is stored as a state text, and
+// playing continues from such a text.
 
 import { decoded } from "./bytes.js";
 import { responseCode } from "./fields.js";
@@ -37,7 +37,7 @@ export class Run {
      */
     this.refusals = [];
     /**
-     * The state text before the event of each 64th number.
+     * The state text before each 64th event.
      * @type {Uint8Array[]}
      */
     this.kept = [];
@@ -49,7 +49,7 @@ export class Run {
   }
 
   /**
-   * Begins again, on the device of an image or a state text if one is passed.
+   * Starts again, with the device of an image or a state text if one is passed.
    * @param {Uint8Array | null} text
    */
   begin(text) {
@@ -69,7 +69,7 @@ export class Run {
   }
 
   /**
-   * Replaces the events, and keeps the answers to the unchanged events at the front.
+   * Replaces the events, and keeps the responses to the unchanged events at the beginning.
    * @param {Step[]} steps
    */
   take(steps) {
@@ -89,7 +89,7 @@ export class Run {
   }
 
   /**
-   * Plays up to an event, and then continues for at most this many milliseconds.
+   * Plays up to the event `least`, and then continues for at most this many milliseconds.
    * @param {number} least @param {number} milliseconds
    */
   play(least, milliseconds) {

@@ -33,7 +33,7 @@ const SUM = "sum ";
 const CONTENT = /^# ((?:[0-9a-f]{2}){42,})$/;
 
 /**
- * Returns whether a line starts a device, as the head of a journal or of a report does.
+ * Returns whether a line starts a device, like the head of a journal or of a report.
  * @param {string} line
  */
 export const isHead = (line) => line.startsWith("# ") && (REPORTED.test(line) || JOURNAL.test(line));
@@ -62,7 +62,8 @@ function lineOf(chip, text, waited) {
 }
 
 /**
- * Returns whether the responses are before their commands: the first response is then before all commands.
+ * Returns whether the responses precede their commands. If they do, the first response precedes all
+ * commands.
  * @param {string[]} lines
  */
 function answersComeFirst(lines) {
@@ -110,8 +111,8 @@ class Reading {
   }
 
   /**
-   * Reads the mark that a journal has before a command: whether the completing layer was above the device,
-   * and the checksum of the response.
+   * Reads the mark before a command in a journal: it says whether the completing layer was above
+   * the device, and contains the checksum of the response.
    * @param {string} hex
    */
   mark(hex) {
@@ -178,7 +179,7 @@ export function isSameStep(one, other) {
 const FNV = { basis: 0xcbf29ce484222325n, prime: 0x100000001b3n, bits: 64 };
 
 /**
- * Returns the checksum of a response in a journal: FNV-1a of 64 bits.
+ * Returns the checksum with which a journal records a response: 64-bit FNV-1a.
  * @param {Uint8Array} bytes
  */
 function sumOf(bytes) {
@@ -188,7 +189,7 @@ function sumOf(bytes) {
 }
 
 /**
- * Returns whether a response that a script records is the device's response.
+ * Returns whether a response that a script records equals the device's response.
  * @param {string} given @param {import("./device.js").Answer} answer
  */
 export function isAnswer(given, answer) {
@@ -215,7 +216,7 @@ export function logOf(script, answers) {
 }
 
 /**
- * Returns the lines of a script on another device: its own head is replaced by this one.
+ * Returns a script for another device: replaces the script's own head by this one.
  * @param {string} text @param {string} head
  */
 export function onDevice(text, head) {

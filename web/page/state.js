@@ -1,5 +1,5 @@
-// Reads a device from its state text (docs/table/state_text.md), which is its whole state. Reading it changes
-// nothing.
+// Reads the state of a device from its state text (docs/table/state_text.md), which contains the
+// whole state. Reading it changes nothing.
 
 import { hexNumber, hexOf, Reader } from "./bytes.js";
 import { facts } from "./facts.js";
@@ -68,7 +68,7 @@ export function readState(text) {
 }
 
 /**
- * Reads what a device keeps without power.
+ * Reads the part of the state that a device keeps without power.
  * @param {Reader} reader @param {State} state
  */
 function readKept(reader, state) {

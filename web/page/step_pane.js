@@ -1,4 +1,5 @@
-// Shows the chosen step: the command, the response and the reason for it, the changes, and the bytes.
+// Shows the chosen step: the command, the response and the reason for it, the changes, and the
+// bytes.
 
 import { hexNumber, hexOf } from "./bytes.js";
 import { bytesShown } from "./bytes_view.js";
@@ -19,7 +20,8 @@ import { commandWords, plural, secondsWords, sizeWords } from "./words.js";
  * @typedef {{
  *   step: Step, answer: Answer, line: string, before: State, after: State, told?: import("./told.js").ToldShown | null,
  *   plainCommand: Plain | null, plainResponse: Plain | null, plainGiven: Plain | null, uses: Node | null,
- * }} Chosen `plainGiven` is a response that the script records, if it is not the device's, decrypted
+ * }} Chosen `plainGiven` is the decrypted response that the script records, if it differs from the
+ *   device's
  */
 
 const MOST_CHANGES = 40;
@@ -187,7 +189,7 @@ const givenWords = ({ reason, bytes, from, to, session }) => (reason
   : `Session ${hexNumber(session, 8)} encrypted it; decrypted, its first parameter is ${hexOf(bytes.subarray(from, to)) || "empty"}.`);
 
 /**
- * Returns what could be decrypted, or null.
+ * Returns the decrypted text, or null if it could not be decrypted.
  * @param {Plain | null} plain
  */
 const known = (plain) => (plain && !plain.reason ? plain : null);
@@ -238,7 +240,7 @@ function changesShown(before, after) {
 const MOST_BEFORE = 40;
 
 /**
- * Shortens a value that was replaced.
+ * Returns a replaced value in short form.
  * @param {string} text
  */
 const shortly = (text) =>

@@ -1,4 +1,5 @@
-// The slider through the script, over a mark for each step: tall marks for refusals, lines for power cycles.
+// The slider for the steps of the script, and a mark for each step: tall marks for refusals, lines
+// for power cycles.
 
 import { byId } from "./dom.js";
 import { commandNumber } from "./fields.js";
@@ -31,9 +32,10 @@ const OTHER = 2;
 const REFUSED = 3;
 
 /**
- * Returns the mark at each pixel. If several steps share a pixel, it is the most notable one.
- * @param {import("./script.js").Step[]} steps @param {number[]} refusals @param {number} span how many pixels
- *   there are
+ * Returns the mark at each pixel. If several steps share a pixel, the pixel gets their most notable
+ * mark.
+ * @param {import("./script.js").Step[]} steps @param {number[]} refusals
+ * @param {number} span the number of pixels
  */
 function marksOf(steps, refusals, span) {
   const marks = new Uint8Array(span + 1).fill(NONE);

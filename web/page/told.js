@@ -1,5 +1,5 @@
-// A log with the reasons that tools/explain.py found, by the line of each command. The page plays the log
-// like any script; an edit drops the reasons.
+// A log with the reasons that tools/explain.py found, by the line of each command. The page plays
+// the log like any script. After an edit, the reasons are no longer shown.
 
 import { bytesOf } from "./bytes.js";
 import { RANDOM_BYTES } from "./device.js";
@@ -90,7 +90,7 @@ const factsShown = (those) =>
   listed(those.map(([label, value, sort]) => [label, sort ? make("span", { class: sort === "had" ? "had" : "new" }, value) : value]));
 
 /**
- * Shows the values that the HMACs of the command are computed over.
+ * Shows the values from which the HMACs of the command are computed.
  * @param {Event} event
  */
 const entriesShown = (event) =>

@@ -3,8 +3,8 @@
 import { byId, make } from "./dom.js";
 
 /**
- * A lesson. Its task is done when the text matches the expression and enough events have this command and
- * this code. `after` then says where to look.
+ * A lesson. Its task is done when the text matches `matches`, and at least `least` events have this
+ * command and this response code. `after` then says where to look.
  * @typedef {{
  *   title: string, text: string[], task: string, script: string[], line: number,
  *   done: {name: string, code: string, least?: number, matches?: string}, after?: string, show: Show,
@@ -37,7 +37,7 @@ export class Tutorial {
   }
 
   /**
-   * Opens a lesson, or the one that the user left.
+   * Opens the lesson that the user left, or else the lesson `at`.
    * @param {number} at
    */
   open(at) {
@@ -50,7 +50,10 @@ export class Tutorial {
     byId("lesson-title").focus();
   }
 
-  /** Closes the lesson. The page does so too when it opens a file, which may be the image of the task. */
+  /**
+   * Closes the lesson. Opening a file also closes it, although the file may be the image of the
+   * task.
+   */
   close() {
     if (!this.isOpen) return;
     const left = { at: this.at, text: this.page.text() };

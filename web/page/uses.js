@@ -71,8 +71,8 @@ function usesOf(steps, answers, handle, at) {
 }
 
 /**
- * Shows the entities that the step uses, and where else the script uses them. It searches each time that
- * the user opens it.
+ * Shows the entities that the step uses, and where else the script uses them. The script is
+ * searched each time the user opens this part.
  * @param {import("./run.js").Run} run @param {number} at @param {(step: number) => void} go
  */
 export function usesShown(run, at, go) {

@@ -1,4 +1,4 @@
-// Writes numbers, handles and bytes in the words of tools/explain.py.
+// Describes numbers, handles and bytes with the same words as tools/explain.py.
 
 import { decoded, hexNumber, hexOf } from "./bytes.js";
 import { byNumber, facts } from "./facts.js";
@@ -74,7 +74,7 @@ export function bytesWords(bytes) {
 }
 
 /**
- * Returns the names of the bits that are set; bits without names in hex.
+ * Returns the names of the bits that are set, and in hex the bits without a name.
  * @param {number} value @param {Record<string, string>} names
  */
 export function bitWords(value, names) {

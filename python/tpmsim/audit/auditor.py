@@ -1,4 +1,6 @@
-"""Audits a log event by event, both with the device in Python and with the history only."""
+"""Audits a log event by event, both with the model of the device in Python and with the history
+alone.
+"""
 
 from dataclasses import dataclass
 from typing import Iterator, Sequence
@@ -38,7 +40,8 @@ class Counts:
 
 
 class Auditor:
-    """A log being audited, and what is known so far; `last` is the line of its latest event."""
+    """The audit of a log, and what is known so far. `last` is the line of the log's latest event.
+    """
 
     def __init__(self, start: Start, log: Log, policy_files: Sequence[PolicyFile] = ()) -> None:
         device, history = start.device, start.history
@@ -81,8 +84,8 @@ class Auditor:
         self.log.end()
 
     def begin(self, step: records.Begin, is_begun: bool) -> None:
-        """Reads a head: the one at the start, or a later one of the same device. A head with an
-        image always follows a power cycle; a head with a state text may follow one.
+        """Reads a head: the one at the start, or a later one of the same device. A power cycle
+        always precedes a head with an image, and may precede a head with a state text.
         """
         if step.damage:
             raise Disagreement(f"script line {step.line}: {step.damage}")
@@ -130,7 +133,8 @@ class Auditor:
             raise Disagreement(f"{where}: {fault}") from None
 
     def compare(self, seen: Seen, printed: list[str], step: records.Command | None) -> None:
-        """Compares an event with the output, and with the answer that the script itself records."""
+        """Compares an event with the output, and with the response that the script itself records.
+        """
         try:
             has_answer = step is None or step.mark is not None or bool(step.said)
             self.log.check(printed, has_answer)
@@ -175,7 +179,7 @@ class Auditor:
         self.entities.place(seen, placed)
 
     def note(self, seen: Seen) -> None:
-        """Judges an event's entries by the history before it, then adds to the history what the
+        """Judges an event's entries by the history before it; then adds to the history what the
         event shows.
         """
         if seen.is_power_cycle:

@@ -1,4 +1,4 @@
-"""How a policy session got the digest of a policy that it does not meet: by a hash collision
+"""How a policy session got the digest of a policy that it does not satisfy: by a hash collision
 (Meaning and BreaksHash of tpm_policy_meaning), or because a wrong TPM2_PolicyOR was accepted.
 """
 
@@ -63,8 +63,8 @@ def branch_lists(algorithm: int, policy: Policy) -> Iterator[tuple[int, list[byt
 
 
 def astride(algorithm: int, policy: Policy, told: Told) -> str | None:
-    """Returns a digest that is not a branch's: it consists of the end of one branch's digest and
-    the beginning of the next branch's.
+    """Describes a digest of the session that is no branch's digest, but the end of one followed by
+    the beginning of the next.
     """
     had = [(zeros(algorithm), "the start"), *((it.digest, f"line {it.line}") for it in told)]
     for line, digests in branch_lists(algorithm, policy):

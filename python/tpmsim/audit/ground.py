@@ -1,4 +1,5 @@
-"""The ground on which an entry was accepted, found from the history without the device's answer."""
+"""The ground on which an entry was accepted, found from the history without the device's response.
+"""
 
 from __future__ import annotations
 
@@ -18,8 +19,8 @@ from tpmsim.standard.lines import handle_word
 
 @dataclass(frozen=True)
 class Use:
-    """An entry of a command, its entity and its session: the entity that it authorizes, if any, and
-    the session according to the history.
+    """An entry of a command, with the entity that it authorizes, if any, and with its session
+    according to the history.
     """
 
     seen: Seen
@@ -68,7 +69,9 @@ class Use:
 
     @property
     def takes_value(self) -> bool:
-        """Whether the authorized entity's value is the password, or is in the key of the hmac."""
+        """Whether the authorization value of the authorized entity is the password, or is in the
+        key of the hmac.
+        """
         if self.handle is None:
             return False
         if self.live is None or self.is_policy:
@@ -125,7 +128,7 @@ class Grounds:
         return [Finding(False, none), shown]
 
     def pcr_words(self, use: Use) -> list[str]:
-        """Returns the values of the PCRs in the session's policy, at the time of a use."""
+        """Returns the values of the PCRs in the session's policy, when the session is used."""
         begun = self.sessions.live.get(use.entry.handle)
         return [self.pcrs.words(*it) for it in begun.pcrs] if begun else []
 
@@ -161,7 +164,7 @@ class Grounds:
         return sessions.first_decrypted(*given, command.parameters)
 
 
-# The conditions on which a policy session authorizes, each checked against the history.
+# The conditions under which a policy session authorizes. Each is checked against the history.
 
 
 @dataclass(frozen=True)
@@ -179,7 +182,9 @@ def either(holds: bool, words: str, other: str) -> Finding:
 def conditions(
     use: Use, history: History, session_lines: SessionLines, pcr_lines: PcrLines
 ) -> Iterator[Finding]:
-    """Yields the conditions that always apply, and those that the session's assertions require."""
+    """Yields the conditions that always apply, and then those that the session's assertions
+    require.
+    """
     told, view = use.session.policy, use.view
     is_policy = use.session.kind == SE_POLICY
     of_trial = "it is a trial session, which authorizes nothing"

@@ -1,5 +1,5 @@
-"""Finds the line that last wrote each PCR, set each authorization value or incremented each
-counter, and the lines that sent a command again.
+"""Finds the line of the log that last wrote each PCR, set each authorization value or incremented
+each counter, and the lines that sent an earlier command again.
 """
 
 from __future__ import annotations
@@ -28,7 +28,7 @@ BANKS = SHA1, SHA256
 
 
 class PcrLines:
-    """For each PCR value the line that wrote it last, and the last line that wrote any PCR or was a
+    """The line that last wrote each PCR value, and the last line that wrote any PCR or was a
     TPM2_Clear. A value that no line wrote is part of the state at the start of the log, if there is
     one.
     """
@@ -41,7 +41,7 @@ class PcrLines:
 
     @property
     def change(self) -> str:
-        """Returns what wrote a PCR last."""
+        """Returns, as text, what wrote a PCR last."""
         if not self.last_change:
             return "something before the log wrote a PCR"
         return f"line {self.last_change} {self.last_words}"
@@ -102,7 +102,7 @@ def written_by(event: Accepted) -> list[tuple[int, int]]:
 
 
 class ValueLines:
-    """For each handle the line that set its authorization value. A value that no line set is from
+    """The line that set the authorization value of each handle. A value that no line set is from
     the start of the log.
     """
 
@@ -140,7 +140,7 @@ def handles_set(event: Accepted) -> list[int]:
 
 @dataclass
 class Counted:
-    """A counter: its first and last values, each with its line, and how it ended, if it did."""
+    """A counter: its first and last values, each with its line, and how it ended, if it did end."""
 
     handle: int
     since: str
@@ -149,7 +149,7 @@ class Counted:
     ended: str = ""
 
     def count(self, value: int, line: str) -> None:
-        """Notes a value, which is one more than the previous value."""
+        """Notes a new value, which is one more than the previous value."""
         self.values = (*self.values[:1], value)
         self.lines = (*self.lines[:1], line)
 
@@ -200,15 +200,15 @@ class CounterLines:
 
 
 class Repeats:
-    """Commands that were sent again, byte for byte, and accepted a second time in one live HMAC
-    session.
+    """Commands that were sent again, byte for byte, and that the same live HMAC session accepted
+    again.
     """
 
     def __init__(self, sessions: SessionLines) -> None:
         self.sessions, self.told = sessions, list[str]()
 
     def note(self, use: Use) -> None:
-        """Notes an entry with a ground, before its command is added to the history."""
+        """Notes an accepted entry, before its command is added to the history."""
         if use.live is None or use.live.kind != SE_HMAC or not use.entry.hmac:
             return
         handle, nonce = use.entry.handle, use.live.nonce_tpm

@@ -8,11 +8,11 @@ SHOWN, BEFORE = 96, 24
 
 
 class Disagreement(TpmsimError):
-    """How a log differs from the expected one, as text."""
+    """The difference between a log and the expected log, as text."""
 
 
 def shown(text: str, first: int) -> str:
-    """Returns a text in quotation marks; if it is long, only the part around an offset."""
+    """Returns a text in quotation marks. If it is long, returns only the part around an offset."""
     plain = "".join(it if it.isprintable() else "?" for it in text)
     begin = max(0, first - BEFORE) if len(plain) > SHOWN else 0
     cut = plain[begin : begin + SHOWN]
@@ -27,8 +27,7 @@ def both(given: str, wanted: str) -> str:
 
 
 def section(title: str, told: Iterable[str], none: str) -> Iterator[str]:
-    """Yields a part of a report: a title, and the lines, or the line `none` if there are no
-    lines.
+    """Yields a part of a report: the title and the lines, or the line `none` if there are no lines.
     """
     rows = list(told)
     yield title if rows else none
@@ -36,7 +35,7 @@ def section(title: str, told: Iterable[str], none: str) -> Iterator[str]:
 
 
 class Log:
-    """The lines of an output; each ends with a newline, except a last line that was cut."""
+    """The lines of an output. Each ends with a newline, except a last line that was cut off."""
 
     def __init__(self, text: bytes) -> None:
         self.lines = text.decode("latin-1").split("\n")
@@ -69,7 +68,7 @@ class Log:
 
 
 class NoLog(Log):
-    """No output: the script itself records the answer to each command, as a journal does."""
+    """No output. The script itself records the response to each command, as a journal does."""
 
     def __init__(self) -> None:
         super().__init__(b"")

@@ -45,7 +45,7 @@ AGREES = (
 
 @dataclass
 class Asked:
-    """The file names of the script, of its output, if any, of an image and of policies."""
+    """The names of the files with the script, its output, if any, an image and policies."""
 
     names: list[str] = field(default_factory=list)
     images: list[str] = field(default_factory=list)
@@ -99,7 +99,7 @@ def auditor_of(asked: Asked, script: bytes, log: Log) -> Auditor:
 
 
 def tell(rows: Iterable[str]) -> None:
-    """Prints rows. The reader may close the output before the last one."""
+    """Prints rows. The reader of the output may close it before the last row."""
     try:
         print(*rows, sep="\n", flush=True)
     except BrokenPipeError:

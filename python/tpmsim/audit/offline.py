@@ -1,6 +1,6 @@
 """Entries that encrypt with an authorization value although the caller did not have to know it.
-Anyone who has the ciphertext can test guesses of the value without the device, and no guess counts
-as a failed try (docs/table/lockout.md).
+Anyone who has the ciphertext can test guesses of the value without the device. These guesses do not
+count as failed tries (docs/table/lockout.md).
 """
 
 from typing import Iterator
@@ -18,7 +18,7 @@ class OfflineGuesses:
         self.sessions, self.told = sessions, list[str]()
 
     def note(self, use: Use) -> None:
-        """Notes an entry with a ground, before its command is added to the history."""
+        """Notes an accepted entry, before its command is added to the history."""
         attributes = use.entry.attributes
         if use.live is None or not use.is_policy or not unshown.encrypts(attributes):
             return

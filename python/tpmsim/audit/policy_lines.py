@@ -1,6 +1,7 @@
-"""A reviewer's policies in words: which entities have them, and whether each use met its entity's
-policy. A session meets a policy if it made the written assertions, in this order and along one
-branch at each PolicyOR, as tpm_policy_meaning defines it (Meaning), and if they hold at the use.
+"""A reviewer's policies in words: which entities have them, and whether each use satisfied its
+entity's policy. A session satisfies a policy if it made the written assertions, in this order and
+along one branch at each PolicyOR, as tpm_policy_meaning defines it (Meaning), and if they hold at
+the use.
 """
 
 from dataclasses import dataclass, replace
@@ -44,8 +45,8 @@ class Step:
 
 @dataclass(frozen=True)
 class Before:
-    """The `either` of a line whose branch was met before the log, which therefore does not show the
-    branch.
+    """The `either` of a line whose branch was chosen before the log began. The log does not show
+    which.
     """
 
     line: int
@@ -57,7 +58,7 @@ class Before:
 
 @dataclass(frozen=True)
 class Choice:
-    """The branch that met the `either` of a line. It has the branch's number, counted from 1, the
+    """The branch that the session chose at the `either` of a line: its number, counted from 1, the
     number of branches, and the TPM2_PolicyOR.
     """
 
@@ -72,12 +73,14 @@ class Choice:
         return f"policy line {self.line}, either: {branch}, by line {self.asserted.line} (PolicyOR)"
 
 
-# A step of a session.
+# A step by which a session satisfies a policy.
 Taken = Step | Before | Choice
 
 
 def steps_of(algorithm: int, of: Policy, told: Told) -> list[Taken]:
-    """Returns the steps by which assertions meet a policy, in order; raises NotMet if none do."""
+    """Returns the steps by which assertions satisfy a policy, in order; raises NotMet if they do
+    not.
+    """
     steps, left = list[Taken](), of.assertions
     while left:
         rest = replace(of, assertions=left)
@@ -98,7 +101,7 @@ def is_before(algorithm: int, of: Policy, told: Told) -> bool:
 
 
 def steps_before(of: Policy) -> Iterator[Taken]:
-    """Yields the steps of a policy that are not in the log."""
+    """Yields the steps of a policy that were made before the log began."""
     if of.branches:
         yield Before(of.line)
     for written in of.assertions:
@@ -107,8 +110,8 @@ def steps_before(of: Policy) -> Iterator[Taken]:
 
 
 def step_at(algorithm: int, written: Written, told: Told) -> tuple[Told, Asserted]:
-    """Returns the session's last assertion, and what the session asserted before it. Raises NotMet
-    unless this is the last assertion of the policy.
+    """Returns the assertions of the session before its last one, and the last one. Raises NotMet
+    unless the last one is the written assertion.
     """
     head = f"policy line {written.line}, {written.said.words}"
     if not told.asserted:
@@ -120,7 +123,7 @@ def step_at(algorithm: int, written: Written, told: Told) -> tuple[Told, Asserte
 
 
 def steps_at_or(algorithm: int, of: Policy, told: Told) -> list[Taken]:
-    """Returns the steps of the branch whose digest TPM2_PolicyOR found."""
+    """Returns the steps of the branch whose digest the session had at TPM2_PolicyOR."""
     head = f"policy line {of.line}, either"
     if is_before(algorithm, replace(of, assertions=()), told):
         return [Before(of.line)]
@@ -185,7 +188,7 @@ def of_pcrs(selection: bytes, digest: bytes, line: int, use: Use, grounds: Groun
 
 
 def of_pcr_values(wanted: PcrValues, grounds: Grounds) -> Finding:
-    """Compares the PCRs with the expected values, which have the asserted digest."""
+    """Compares the PCRs with the expected values, whose digest was asserted."""
     values = grounds.pcrs.values(Parameters(wanted.selection).next().selection())
     if values != wanted.word:
         words = f"two texts have the same hash: the PCRs have {values} in place of {wanted.word}"
@@ -211,12 +214,12 @@ def of_written(wanted: bool, use: Use) -> Finding:
     return Finding(is_written == wanted, words)
 
 
-# The part of the policy that a use does not meet, if any, and everything that was found.
+# The part of the policy that a use does not satisfy, if any, and everything that was found.
 Judgement = tuple[str | None, list[str]]
 
 
 class Judged:
-    """A policy's file, the uses of the entities with that policy, and the uses that do not meet
+    """A policy's file, the uses of the entities with that policy, and the uses that do not satisfy
     it.
     """
 
@@ -269,7 +272,9 @@ class Judged:
 
 
 def held(steps: list[Taken], use: Use, grounds: Grounds) -> Judgement:
-    """Judges the steps at a use; the first condition that does not hold is what the use lacks."""
+    """Judges the steps at a use. Returns the first condition that does not hold, and everything
+    found.
+    """
     found = [
         finding(it, use, grounds) if isinstance(it, Step) else Finding(True, it.words)
         for it in steps
@@ -303,7 +308,9 @@ class Policies:
         return [words for judged in self.all for words in judged.unmet]
 
     def faults(self) -> list[str]:
-        """Returns how a whole log differs from what a reviewer with these policies expects."""
+        """Returns messages about policies that no entity has, and uses that do not satisfy their
+        policy.
+        """
         missing = [it for it in self.all if not any(map(it.is_of, self.entities.all))]
         words = [f"{it.file.name}: no entity of the log has this policy" for it in missing]
         return words + self.unmet()

@@ -26,8 +26,8 @@ class Asserted:
     digest: bytes
 
     def says(self, said: Said) -> bool:
-        """Whether this is the given assertion. PolicyAuthValue and PolicyPassword count as the
-        same.
+        """Whether this is the given assertion. PolicyAuthValue and PolicyPassword count as the same
+        assertion.
         """
         ask_value = self.said.code in ASK_VALUE and said.code in ASK_VALUE
         return ask_value or self.said == said
@@ -55,8 +55,8 @@ class Begun:
     """A session: the line that started it, the protection of its bind entity, the line of its first
     TPM2_PolicyPCR, its assertions since its policy began, its events as text, one per line, and the
     commands that were accepted with an HMAC of this session. A session from a state text has no
-    starting line; `before` is the digest that its policy had in the text. `bound` is the text for
-    its bind entity.
+    line that started it; `before` is the digest that its policy had in the state text. `bound` is
+    the text for its bind entity.
     """
 
     line: int
@@ -74,7 +74,7 @@ class Begun:
 
     @property
     def pcrs(self) -> list[tuple[int, int]]:
-        """Returns the PCRs in its policy, each with its bank."""
+        """Returns the PCRs in the session's policy, each with its bank."""
         those = (it.said.values[0] for it in self.asserted if it.said.code == CC.PolicyPCR)
         banks = (bank for text in those for bank in Parameters(text).next().selection())
         return sorted({(bank, pcr) for bank, numbers in banks for pcr in numbers})

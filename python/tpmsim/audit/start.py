@@ -1,5 +1,5 @@
 """The start of a log: a device, and what is known about its history. For a new device nothing is
-known; for a device from an image or a state text it is the content of that text.
+known; for a device from an image or a state text, the contents of that text are known.
 """
 
 import hashlib
@@ -16,7 +16,9 @@ from tpmsim.standard import HIERARCHIES, nv
 
 @dataclass
 class Start:
-    """`text` names what the device was read from, such as "the image"; empty for a new device."""
+    """The start of a log. `text` names the source of the device, such as "the image"; empty for a
+    new device.
+    """
 
     device: Model
     history: History
@@ -58,7 +60,7 @@ def history_of(device: Model) -> History:
 
 
 def add_state(history: History, device: Model) -> None:
-    """Adds the PCRs and the sessions, which a power cycle would end."""
+    """Adds the PCRs and the sessions, which a power cycle would not keep."""
     history.pcrs.values = {bank: list(values) for bank, values in device.banks.items()}
     history.pcrs.updates = device.update_counter
     for handle, it in device.sessions.items():
@@ -83,7 +85,7 @@ def of_log(script: bytes, given: bytes | None) -> Start:
 
 
 def first_of(script: bytes) -> records.Begin | None:
-    """Returns the head of a log, if there is one; only comments come before it."""
+    """Returns the head of a log, if the log begins with one, perhaps after comments."""
     for step in records.steps_of(script):
         if isinstance(step, records.Begin):
             return step
@@ -93,8 +95,8 @@ def first_of(script: bytes) -> records.Begin | None:
 
 
 def has_answers(script: bytes) -> bool:
-    """Whether a log records the answer to its first command, as a journal does. This also holds for
-    a log with a head and no command.
+    """Whether a log records the response to its first command, as a journal does. A log with a head
+    and no command also counts.
     """
     commands = (it for it in records.steps_of(script) if isinstance(it, records.Command))
     first = next(commands, None)

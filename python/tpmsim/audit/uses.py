@@ -27,8 +27,8 @@ COUNTED, NOT_COUNTED = "AUTH_FAIL", "BAD_AUTH"
 
 @dataclass
 class Stretch:
-    """Events without a reset, their duration in milliseconds, and the lines of the failed
-    guesses.
+    """The events between two resets of failedTries, their duration in milliseconds, and the lines
+    of the failed guesses.
     """
 
     first: int
@@ -39,8 +39,8 @@ class Stretch:
 
     @property
     def bound(self) -> int | None:
-        """Returns the largest possible number of failed guesses; None if recoveryTime is 0, since
-        nothing is then protected.
+        """Returns the largest possible number of failed guesses; None if recoveryTime is 0, because
+        then nothing is protected.
         """
         period = MILLISECONDS * self.recovery
         return self.most + self.elapsed // period if period else None
@@ -62,8 +62,8 @@ class Guesses:
         self.stretch = Stretch(1, lockout.max_tries, lockout.recovery_time)
 
     def refuse(self, seen: Seen, grounds: Grounds) -> None:
-        """Notes a refused command. Raises Disagreement if it is one guess too many, or if its code
-        does not match whether it is a guess.
+        """Notes a refused command. Raises Disagreement if there was one guess too many, or if the
+        code does not say correctly whether the command is a guess.
         """
         self.stretch.elapsed += seen.elapsed
         name, _, place = (seen.outcome.refused or "").partition("/s")
@@ -82,8 +82,8 @@ class Guesses:
                 raise Disagreement(words)
 
     def touched(self, use: Use) -> str | None:
-        """Returns the value that a failed try guesses: the one in its key or password, or the one
-        to which its session is bound.
+        """Returns which protection counts a failed try: that of the value in its key or password,
+        or that of the value to which its session is bound.
         """
         own = use.view.protection if use.takes_value else None
         return own or self.sessions.protection(use.entry.handle)
@@ -114,7 +114,9 @@ LOCKED = "LOCKOUT"
 
 
 class Uses:
-    """The numbers of uses with a ground, refused uses, and entries that authorize nothing."""
+    """The numbers of uses that have a ground, of refused uses, and of entries that authorize
+    nothing.
+    """
 
     def __init__(
         self,
@@ -130,9 +132,7 @@ class Uses:
         self.allowed = self.refused = self.others = 0
 
     def accept(self, seen: Seen) -> None:
-        """Checks that each entry of an accepted command has a ground; raises Disagreement
-        otherwise.
-        """
+        """Raises Disagreement unless each entry of an accepted command has a ground."""
         if self.grounds.plain_parameters(seen.command) != seen.accepted.parameters:
             raise Disagreement("its parameters are others once they are decrypted")
         for use in self.grounds.uses(seen):
@@ -152,7 +152,7 @@ class Uses:
 
     def tell(self, use: Use, findings: list[Finding]) -> None:
         """Reports a use with its ground. For a policy session these are its conditions; for other
-        entries, the value that the caller showed to know.
+        entries, the value that the caller proved to know.
         """
         used, told = self.entities.of(use.authorized).used, self.words(use)
         if use.live and use.is_policy:
@@ -168,9 +168,7 @@ class Uses:
         return f"    line {use.seen.line}: {command_words(use.code)} {title}"
 
     def refuse(self, seen: Seen) -> None:
-        """Checks that a refused entry lacks a ground; raises Disagreement if every entry has
-        one.
-        """
+        """Raises Disagreement if an entry is refused although every entry has a ground."""
         if not seen.is_refused_entry:
             return
         lacking = self.lacking(seen)
@@ -196,7 +194,9 @@ class Uses:
         return None
 
     def reason(self, seen: Seen) -> str:
-        """Returns why the device refuses, as the second part of a sentence about the log."""
+        """Returns why the device refuses the command, as the second part of a sentence about the
+        log.
+        """
         if seen.is_refused_entry:
             lacking = self.lacking(seen)
             return f": of entry {lacking[0].place}, {lacking[1]}" if lacking else ""
@@ -214,7 +214,7 @@ class Uses:
 
 
 class Refusals:
-    """Refusals that are not for an entry, in the words of tpmsim.explain."""
+    """Refusals that no entry caused, in the words of tpmsim.explain."""
 
     def __init__(self) -> None:
         self.told: list[str] = []

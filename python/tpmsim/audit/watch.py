@@ -1,4 +1,4 @@
-"""The observed events of a device in order, and what each handle named."""
+"""Observes the events of a device in order, and which entity each handle named."""
 
 from dataclasses import dataclass, field
 from functools import cached_property
@@ -17,7 +17,7 @@ from tpmsim.standard.objects import Attribute
 
 Public = nv.Public | objects.Public
 
-# The other refusal that the check of entries that authorize nothing can give.
+# The other code with which the device can refuse entries that authorize nothing.
 OF_PARAMETERS = "INSUFFICIENT/p1"
 
 
@@ -60,8 +60,8 @@ def view_of(device: Model, handle: int) -> View:
 @dataclass
 class Seen:
     """An event. `known` is the command, if it passed the general checks, with a view of each handle
-    before the command; `event` is what is known about it, if it was accepted; `placed` is the
-    object of a context, if the completing layer loaded one for the command.
+    before the command; `event` is what is known about the command, if it was accepted; `placed` is
+    the object of a context, if the completing layer loaded one for the command.
     """
 
     buffer: bytes = b""
@@ -111,10 +111,12 @@ def is_of_entry(check: str, refused: str | None) -> bool:
 
 
 class Watch(Watched):
-    """Observes a device between it and its caller; `seen` is the latest observed event, if any."""
+    """Observes what passes between a device and its caller; `seen` is the latest observed event, if
+    any.
+    """
 
     def __init__(self, device: Model) -> None:
-        # The history judges a refusal for an entry.
+        # Refusals for an entry are judged by the history instead.
         super().__init__(device, lambda scene: not is_of_entry(scene.check, scene.refused))
         self.seen: Seen | None = None
         setattr(device, "tell", self.told)
@@ -172,8 +174,8 @@ def means_words(public: Public) -> str:
 
 
 def is_again(public: Public, had: Public) -> bool:
-    """Whether a Name is the earlier one, ignoring that an index's Name changes at its first
-    write.
+    """Whether two public areas have the same Name, ignoring that an index's Name changes at its
+    first write.
     """
     if isinstance(public, nv.Public) and isinstance(had, nv.Public):
         had = had.but(cleared=nv.Attribute.WRITTEN)
@@ -183,7 +185,7 @@ def is_again(public: Public, had: Public) -> bool:
 
 @dataclass
 class Entity:
-    """The entity that a handle names, while it stays the same, with its uses, one per line."""
+    """An entity for as long as one handle names it, with its uses, one per line."""
 
     handle: int
     title: str

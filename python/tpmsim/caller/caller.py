@@ -14,7 +14,7 @@ from tpmsim.standard.values import Cipher
 
 
 class Answered(Protocol):
-    """A response's bytes, and the check in its trace, if the device reports it."""
+    """The bytes of a response, and the check in its trace, if the device reports it."""
 
     @property
     def response(self) -> bytes:
@@ -23,7 +23,7 @@ class Answered(Protocol):
 
     @property
     def check(self) -> str | None:
-        """`ok`, the check that refused the command, or None."""
+        """`ok`, the check that refused the command, or None if it is unknown."""
         ...
 
 
@@ -35,7 +35,7 @@ class Executes(Protocol):
 
 
 class Caller(Calls, PreparedCommands):
-    """Sends commands to a device. `nonce` returns the requested number of bytes."""
+    """Sends commands to a device. `nonce(size)` returns a nonce of this size."""
 
     def __init__(
         self, device: Executes, nonce: Callable[[int], bytes] = secrets.token_bytes
@@ -44,8 +44,8 @@ class Caller(Calls, PreparedCommands):
         self.device = device
 
     def send(self, prepared: Prepared) -> Response:
-        """Sends a command and returns the response. Raises Refused if the device refuses, and
-        WrongResponse if no device with the session's key would send this response.
+        """Sends a command and returns the response. Raises Refused if the device refuses the
+        command, and WrongResponse if no device with the session's key would send this response.
         """
         answered = self.device.execute(prepared.buffer())
         code = int.from_bytes(answered.response[6:10], "big")
@@ -54,7 +54,7 @@ class Caller(Calls, PreparedCommands):
         return RESPONSES[prepared.code](prepared.code, *self.received(prepared, answered.response))
 
     def start_up(self, kind: int = CLEAR) -> None:
-        """Sends TPM2_Startup; the other kind is STATE."""
+        """Sends TPM2_Startup; `kind` is CLEAR or STATE."""
         self.send(self.starting(kind))
 
     def session(
@@ -66,9 +66,9 @@ class Caller(Calls, PreparedCommands):
         cipher: int | str = ALG_NULL,
         size: int = NONCE_BYTES,
     ) -> Session:
-        """Starts a session. `cipher` is AES or XOR if the session is to encrypt; `size` is the size
-        of its nonces, in bytes. The entity, the algorithm and the cipher may be words: `OWNER`,
-        `sha256`, `aes`.
+        """Starts a session. To encrypt parameters in it, set `cipher` to AES or XOR; `size` is the
+        size of its nonces, in bytes. The entity, the algorithm and the cipher may be words, such as
+        `OWNER`, `sha256` and `aes`.
         """
         bound, hashing = given.handle("bind", bind), given.algorithm(algorithm)
         nonce, encrypting = self.nonce(size), given.cipher(cipher)
@@ -85,25 +85,25 @@ class Caller(Calls, PreparedCommands):
     def policy(self, words: str, algorithm: int | str = SHA256, **choices: Any) -> Use:
         """Starts a policy session, executes a policy in words (docs/USING.md) in it, and returns
         the session, ready for use in a command. Tries the branches of an `either` in order until
-        the device accepts one. Raises Refused if it refuses them all.
+        the device accepts one. Raises Refused if the device refuses them all.
         """
         session = self.session(kind=SE_POLICY, algorithm=algorithm, **choices)
         return self.tell(session, words)
 
     def tell(self, session: Session, words: str) -> Use:
-        """Executes a policy in words in a session, and returns the session's use."""
+        """Executes a policy in words in a session, and returns a use of the session."""
         use = Use(session)
         for step in steps_of(policy_of(words), session.algorithm):
             self.tell_step(use, step)
         return use
 
     def tell_step(self, use: Use, step: Step) -> None:
-        """Sends the command of one assertion."""
+        """Sends the command of one assertion, or tries its branches."""
         session = use.session
         if step.branches:
             self.tell_branch(use, step)
         elif step.code in (CC.PolicySecret, CC.PolicyNV):
-            # An entity whose Name was not learned is named by its handle, which is its own Name.
+            # An entity whose Name was not learned has its handle as its Name.
             known = [handle for handle, name in self.names.items() if name == step.name]
             those = [*(known or [int.from_bytes(step.name, "big")])[:1], session.handle]
             if step.code == CC.PolicyNV:
@@ -115,8 +115,8 @@ class Caller(Calls, PreparedCommands):
         use.demand = demands.get(step.code, use.demand)
 
     def tell_branch(self, use: Use, step: Step) -> None:
-        """Executes the first branch that the device accepts. If it accepts none, raises the last
-        refusal.
+        """Executes the first branch that the device accepts. If it accepts none, raises the refusal
+        of the last one.
         """
         refused: Refused | None = None
         for branch in step.branches:
@@ -144,7 +144,7 @@ class Caller(Calls, PreparedCommands):
     def create(
         self, parent: int, public: objects.Public, *uses: Means, user_auth: bytes = b"", **more: Any
     ) -> Made:
-        """Creates an object below a parent, which `load` then loads. Optional arguments: `data`,
+        """Creates an object below a parent, for `load` to load. Optional arguments: `data`,
         `outside_info` and `pcrs`.
         """
         response = self.send(self.child(parent, public, *uses, user_auth=user_auth, **more))

@@ -1,5 +1,5 @@
-"""Commands by their names in Part 3, and a response's class for each. All of it is made from the
-table of commands, `tpmsim.standard.commands`. The types of each command are in calls.pyi, which
+"""Commands by their names in Part 3, and a response class for each. Both are made from the table of
+commands, `tpmsim.standard.commands`. The types of each command are in calls.pyi, which
 packing/call_types.py writes from the same table.
 """
 
@@ -9,7 +9,7 @@ from tpmsim.caller.entries import Means, Prepared, Response, Session
 from tpmsim.caller.knowledge import Knowledge
 from tpmsim.standard import CC, given, nv, objects, Short
 
-# The parameters whose bytes are a structure: `response.outPublic` is the structure, and
+# The parameters whose bytes encode a structure: `response.outPublic` is the structure, and
 # `response["outPublic"]` its bytes.
 STRUCTURES: dict[str, Callable[[bytes], Any]] = {
     "outPublic": objects.Public.read,
@@ -18,8 +18,8 @@ STRUCTURES: dict[str, Callable[[bytes], Any]] = {
 
 
 def structure(response: Response, name: str) -> Any:
-    """Returns the structure that a parameter contains. Raises ValueError if it is one that the
-    device does not know, such as the public area of another TPM's RSA key.
+    """Returns the structure that a parameter contains. Raises ValueError for a structure that the
+    device does not support, such as the public area of another TPM's RSA key.
     """
     text = response[name]
     try:
@@ -32,7 +32,7 @@ def structure(response: Response, name: str) -> Any:
 
 
 def attribute(name: str) -> property:
-    """Returns the attribute for a parameter of a response."""
+    """Returns the attribute of a response class for one parameter."""
     if name in STRUCTURES:
         return property(lambda self: structure(self, name), doc=f"{name}, as a structure.")
     return property(lambda self: self[name], doc=f"{name}.")
@@ -56,7 +56,7 @@ class Commands(Knowledge):
     """Prepares any command by its name."""
 
     def by(self, uses: Sequence[Means], handle: int) -> Sequence[Means]:
-        """Returns the uses; without any, the known authorization value of the handle."""
+        """Returns the uses; if there are none, the known authorization value of the handle."""
         return uses or [self.auth_value(handle)]
 
     def command(
@@ -66,7 +66,7 @@ class Commands(Knowledge):
         uses: Sequence[Means] = (),
         **arguments: Any,
     ) -> Prepared:
-        """Prepares any command, named as in Part 3, with parameters by their names there. Raises
+        """Prepares any command. The command and its parameters have their names in Part 3. Raises
         TypeError if a handle or a parameter is missing, BadValue if one has a wrong value, and
         KeyError if there is no such command.
         """
@@ -99,6 +99,6 @@ class Calls(Commands):
         **arguments: Any,
     ) -> Response:
         """Sends any command, such as `call("NV_Read", index, index, size=8, offset=0)`, with the
-        handles first. `command` says what it raises for wrong arguments.
+        handles first. Wrong arguments raise the same exceptions as in `command`.
         """
         return self.send(self.command(name, *those, uses=uses, **arguments))

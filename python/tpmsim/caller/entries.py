@@ -15,7 +15,7 @@ from tpmsim.standard.values import read_all
 
 @dataclass
 class Session:
-    """A session as its caller knows it; `bind` is the Name of its bind entity."""
+    """A session as its caller knows it. `bind` is the Name of its bind entity."""
 
     handle: int
     algorithm: int
@@ -28,21 +28,22 @@ class Session:
 
     @property
     def decrypting(self) -> Use:
-        """The use of the session to encrypt the command's first parameter, which the device
-        decrypts.
+        """Returns a use of the session that encrypts the command's first parameter, which the
+        device decrypts.
         """
         return Use(self, CONTINUE_SESSION | DECRYPT)
 
     @property
     def encrypting(self) -> Use:
-        """The use of the session to have the device encrypt the response's first parameter."""
+        """Returns a use of the session that has the device encrypt the response's first parameter.
+        """
         return Use(self, CONTINUE_SESSION | ENCRYPT)
 
 
 @dataclass
 class Use:
-    """The use of a session in an entry. With `shows_empty_key` the hmac is sent although its key is
-    empty, when it may be left out. `demand` is what the session's policy demands.
+    """The use of a session in an entry. An hmac whose key is empty may be left out; with
+    `shows_empty_key`, it is sent. `demand` is what the session's policy demands.
     """
 
     session: Session
@@ -54,9 +55,7 @@ class Use:
 
 @dataclass(frozen=True)
 class Made:
-    """The areas that TPM2_Create returned, for TPM2_Load, and the authorization value that was
-    requested.
-    """
+    """The areas that TPM2_Create returned, for TPM2_Load, and the requested authorization value."""
 
     private: bytes
     public: Public
@@ -69,7 +68,7 @@ Means = Union[bytes, Session, Use]
 
 @dataclass
 class Prepared:
-    """A command, ready to be sent; each entry is at the same position as its use."""
+    """A command that is ready to be sent. `entries` and `uses` have the same order."""
 
     code: CC
     handles: list[int]
@@ -86,11 +85,11 @@ class Prepared:
         return self.handles[place - 1] if place <= self.code.authorized else None
 
     def but(self, **changes: Any) -> Prepared:
-        """Returns the command with other parameters or handles but the same hmacs."""
+        """Returns the command with changed parameters or handles, but with the same hmacs."""
         return replace(self, **changes)
 
     def but_entry(self, place: int, **changes: Any) -> Prepared:
-        """Returns the command with other fields of one entry, counted from 1."""
+        """Returns the command with changed fields of one entry, counted from 1."""
         entries = list(self.entries)
         entries[place - 1] = replace(entries[place - 1], **changes)
         return replace(self, entries=entries)
@@ -104,8 +103,8 @@ def flipped(data: bytes, at: int = -1) -> bytes:
 
 
 def wrong(prepared: Prepared, place: int = 1) -> Prepared:
-    """Returns the command with one bit flipped in an entry's HMAC or password. If that is empty,
-    one byte is added.
+    """Returns the command with one bit flipped in an entry's HMAC or password. If the HMAC or
+    password is empty, adds one byte.
     """
     hmac = prepared.entries[place - 1].hmac
     return prepared.but_entry(place, hmac=flipped(hmac) if hmac else b"\1")
@@ -113,10 +112,10 @@ def wrong(prepared: Prepared, place: int = 1) -> Prepared:
 
 @dataclass(frozen=True)
 class Response:
-    """A success with its parameters, decrypted, by their names in Part 3, as in
-    `response["randomBytes"]`; docs/table describes each one. A wrong name raises KeyError, which
-    lists the right names. In the class of each command, such as GetRandomResponse, they are
-    attributes too: `response.randomBytes`.
+    """The successful response to a command. Its decrypted parameters have their names in Part 3, as
+    in `response["randomBytes"]`; docs/table describes each one. A wrong name raises KeyError, which
+    lists the right names. The response class of each command, such as GetRandomResponse, also has
+    them as attributes: `response.randomBytes`.
     """
 
     code: CC
@@ -135,9 +134,9 @@ class Response:
 
 
 class Refused(TpmsimError):
-    """A command that the device refuses: the number of the response code; its name, empty if it is
-    unknown here; its place, such as p1, h2 or s1, or empty; and the check that refuses, such as G9
-    or A1, if a trace reports it.
+    """A command that the device refuses. `number` is the response code; `name` its name, empty if
+    it is unknown here; `place` its place, such as p1, h2 or s1, or empty; and `check` the check
+    that refused the command, such as G9 or A1, if a trace reports it.
     """
 
     def __init__(self, prepared: Prepared, number: int, check: str | None = None) -> None:
@@ -147,7 +146,7 @@ class Refused(TpmsimError):
 
     @property
     def code(self) -> str:
-        """The name with its place, such as VALUE/p1."""
+        """The name of the response code with its place, such as VALUE/p1."""
         return f"{self.name}/{self.place}" if self.place else self.name
 
     def __str__(self) -> str:

@@ -1,5 +1,5 @@
-"""An example of each command that succeeds, with the entities that it needs. A test that plays each
-command, or plays it truncated or with changed bytes, starts from here:
+"""A successful example of each command, with the entities that it needs. A test that sends each
+command, or sends it truncated or with changed bytes, starts from here:
     scene = Scene.on(Device())
     scene.tpm.send(EXAMPLES[CC.NV_Read](scene))
 """
@@ -15,7 +15,7 @@ from tpmsim.policies.policy_file import digest_of
 from tpmsim.standard import CC, SE_POLICY, SHA256
 from tpmsim.standard.objects import Sensitive
 
-# The policy under which the value of an index may be changed.
+# The policy that authorizes a change of an index's authorization value.
 CHANGES = "PolicyCommandCode NV_ChangeAuth\n"
 
 INDEX, COUNTER, BITS, EXTENDED, FREE = range(0x0100_0001, 0x0100_0006)
@@ -27,8 +27,8 @@ LOCKABLE = f"{READABLE}|read_stclear|write_stclear"
 @dataclass
 class Scene:
     """A started device with an entity of each type: a storage parent; sealed data below it, not
-    loaded; an HMAC key and sealed data, loaded; an index of each type, written if it has data; and
-    a policy session.
+    loaded; a loaded HMAC key and loaded sealed data; an index of each type, the ordinary one
+    written; and a policy session.
     """
 
     device: Transport
@@ -41,7 +41,7 @@ class Scene:
 
     @classmethod
     def on(cls, device: Transport) -> Self:
-        """Prepares a fresh device."""
+        """Starts a fresh device, and makes these entities."""
         tpm = Caller(device)
         tpm.start_up()
         parent = tpm.create_primary(storage_key())

@@ -1,5 +1,5 @@
-"""What a caller of a device knows, and what it computes from that: commands that sessions
-authorize, and the contents of their responses.
+"""What a caller of a device knows and computes: commands that sessions authorize, and the contents
+of their responses.
 
 It learns nonces only from responses. It knows the authorization values that it set, and the Names
 of objects from the public areas in responses. It stops if a response's hmac differs from the hmac
@@ -21,7 +21,7 @@ NONCE_BYTES = 16
 # The parameter of TPM2_Startup and TPM2_Shutdown.
 CLEAR, STATE = 0, 1
 
-# The attribute that each command sets in the index that it uses.
+# The attribute that each of these commands sets in the index that it uses.
 MARKS = {
     CC.NV_Write: nv.Attribute.WRITTEN,
     CC.NV_Increment: nv.Attribute.WRITTEN,
@@ -70,7 +70,7 @@ class Knowledge:
         self.publics[public.index], self.names[public.index] = public, public.name
 
     def forget(self, *those: int) -> None:
-        """Forgets what is known of these handles."""
+        """Forgets everything that is known about these handles."""
         for handle in those:
             self.names.pop(handle, None)
             self.auth_values.pop(handle, None)
@@ -78,7 +78,7 @@ class Knowledge:
 
     @contextlib.contextmanager
     def breaking(self, **rules: Any) -> Iterator[None]:
-        """Within this context, commands are prepared by these rules instead of those of the
+        """In a `with` block, prepares commands with these methods instead of the methods of the
         class.
         """
         vars(self).update(rules)
@@ -91,7 +91,7 @@ class Knowledge:
     def prepare(
         self, code: CC, handles: Sequence[int], parameters: bytes = b"", *means: Means
     ) -> Prepared:
-        """Prepares a command with an entry for each means: a password's bytes, a session, or a
+        """Prepares a command. Each of `means` becomes an entry: a password's bytes, a session, or a
         `Use`.
         """
         uses = [Use(it) if isinstance(it, Session) else it for it in means]
@@ -160,8 +160,8 @@ class Knowledge:
 
     @staticmethod
     def nonces_of_others(prepared: Prepared, place: int, handle: int | None) -> list[bytes]:
-        """Returns, for the first entry if it authorizes a handle: the nonces of the other sessions
-        that decrypt, followed by those of the sessions that encrypt.
+        """For a first entry that authorizes a handle, returns the nonces of the other sessions that
+        decrypt, followed by those of the sessions that encrypt; otherwise none.
         """
         if place != 1 or handle is None:
             return []
@@ -179,7 +179,7 @@ class Knowledge:
         kind: int,
         cipher: int = frames.ALG_NULL,
     ) -> Session:
-        """Returns the session that TPM2_StartAuthSession started, from the handle and the
+        """Returns the session that TPM2_StartAuthSession started, from the response's handle and
         parameters.
         """
         handle, parameters = answer
@@ -190,11 +190,11 @@ class Knowledge:
         bound = self.name(bind), bind_auth
         return Session(handle or 0, algorithm, nonce_tpm, key, *bound, kind, cipher)
 
-    # Responses of commands that were accepted.
+    # Responses to accepted commands.
 
     def received(self, prepared: Prepared, response: bytes) -> tuple[int | None, bytes]:
-        """Checks a response, learns what the command changed, and returns the returned handle and
-        the decrypted parameters. Raises WrongResponse if it is not the response to this command.
+        """Checks a response, learns what the command changed, and returns the response's handle and
+        its decrypted parameters. Raises WrongResponse if it is not the response to this command.
         """
         fields = Fields(response)
         tag, size, code = fields.number(2), fields.number(4), fields.number(4)
@@ -223,8 +223,8 @@ class Knowledge:
         return prepared.parameters
 
     def note_effect(self, prepared: Prepared, request: bytes) -> None:
-        """Learns what an accepted command changes before its response is made. The parameters are
-        decrypted.
+        """Learns the changes that an accepted command makes before the device computes its
+        response. The parameters are decrypted.
         """
         code, handles = prepared.code, prepared.handles
         if code in MARKS and handles[1] in self.publics:
@@ -240,7 +240,7 @@ class Knowledge:
     def note_answer(
         self, prepared: Prepared, request: bytes, handle: int | None, parameters: bytes
     ) -> None:
-        """Learns the rest from the command and its response, both decrypted."""
+        """Learns everything else from the command and its response. Both are decrypted."""
         code, fields = prepared.code, Fields(request)
         if code == CC.NV_ReadPublic:
             self.note_public(nv.Public.read(Fields(parameters).sized()))
@@ -262,14 +262,15 @@ class Knowledge:
             self.auth_values[public.index] = trimmed(auth_value)
         elif handle is not None and code in (CC.CreatePrimary, CC.Load):
             name = values.read_all(code.answered_parameters, parameters)["name"]
-            # A loaded object's value is in its private area. Only the maker of that area knows it.
+            # The authorization value of a loaded object is in its private area. Only the caller
+            # that created the object knows it.
             user_auth = Fields(fields.sized()).sized() if code == CC.CreatePrimary else b""
             self.note(handle, name, trimmed(user_auth))
 
     def check_answer(
         self, prepared: Prepared, place: int, parameters: bytes, fields: Fields
     ) -> None:
-        """Reads the response's part for one entry from the fields, and checks it."""
+        """Reads the part of a response that answers one entry, and checks it."""
         use, entry = prepared.uses[place - 1], prepared.entries[place - 1]
         nonce_tpm, attributes, hmac = fields.sized(), fields.number(1), fields.sized()
         if isinstance(use, bytes):

@@ -24,8 +24,8 @@ class PreparedCommands(Commands):
     def asked(
         self, code: CC, those: Sequence[int], uses: Sequence[Means], *values: Any
     ) -> Prepared:
-        """Prepares a command with a value for each parameter; without uses, a password authorizes
-        it.
+        """Prepares a command with a value for each parameter. Without uses, the handle's known
+        authorization value authorizes it, as a password.
         """
         return self.bare(code, those, self.by(uses, those[0]) if code.authorized else uses, *values)
 
@@ -40,7 +40,7 @@ class PreparedCommands(Commands):
         return self.bare(CC.PCR_Event, [pcr], uses, data)
 
     def random(self, count: int, *uses: Means) -> Prepared:
-        """TPM2_GetRandom of this many bytes."""
+        """TPM2_GetRandom for `count` bytes."""
         return self.asked(CC.GetRandom, [], uses, count)
 
     def change_auth(self, hierarchy: int, new: bytes, *uses: Means) -> Prepared:
@@ -95,7 +95,8 @@ class PreparedCommands(Commands):
         return self.asked(CC.PolicyNvWritten, [session.handle], uses, is_written)
 
     def branches(self, session: Session, *digests: bytes, count: int | None = None) -> Prepared:
-        """TPM2_PolicyOR; its count is the number of digests unless another count is given."""
+        """TPM2_PolicyOR. The count in its list is the number of digests, unless `count` is passed.
+        """
         return self.told(CC.PolicyOR, session, frames.sized_list(*digests, count=count))
 
     def pcrs(
@@ -105,7 +106,7 @@ class PreparedCommands(Commands):
         given: bytes = b"",
         uses: Sequence[Means] = (),
     ) -> Prepared:
-        """TPM2_PolicyPCR; `given` is the digest that the values must have, or empty."""
+        """TPM2_PolicyPCR; `given` is the expected digest of the PCR values, or empty."""
         return self.asked(CC.PolicyPCR, [session.handle], uses, given, banks)
 
     def secret(
@@ -118,7 +119,7 @@ class PreparedCommands(Commands):
         policy_ref: bytes = b"",
         expiration: int = 0,
     ) -> Prepared:
-        """TPM2_PolicySecret, with the empty password if there are no uses."""
+        """TPM2_PolicySecret; without uses, the empty password authorizes it."""
         values = nonce_tpm, cp_hash, policy_ref, expiration
         return self.bare(CC.PolicySecret, [of, session.handle], uses or [b""], *values)
 
@@ -142,15 +143,15 @@ class PreparedCommands(Commands):
     def primary(
         self, hierarchy: int, public: objects.Public, *uses: Means, **more: Any
     ) -> Prepared:
-        """TPM2_CreatePrimary; `more` as for `creation`."""
+        """TPM2_CreatePrimary; `more` is passed to `creation`."""
         return self.creation(CC.CreatePrimary, hierarchy, public, *uses, **more)
 
     def child(self, parent: int, public: objects.Public, *uses: Means, **more: Any) -> Prepared:
-        """TPM2_Create; `more` as for `creation`."""
+        """TPM2_Create; `more` is passed to `creation`."""
         return self.creation(CC.Create, parent, public, *uses, **more)
 
     def loading(self, parent: int, made: Made, *uses: Means) -> Prepared:
-        """TPM2_Load of what TPM2_Create returned."""
+        """TPM2_Load of an object that TPM2_Create returned."""
         return self.asked(CC.Load, [parent], uses, made.private, made.public)
 
     def public(self, handle: int, *uses: Means) -> Prepared:
@@ -166,7 +167,9 @@ class PreparedCommands(Commands):
         return self.asked(CC.HMAC, [handle], uses, data, algorithm)
 
     def evicting(self, asker: int, handle: int, wanted: int, *uses: Means) -> Prepared:
-        """TPM2_EvictControl: makes an object persistent as `wanted`, or removes `wanted` itself."""
+        """TPM2_EvictControl: makes an object persistent with the handle `wanted`, or removes the
+        object `wanted`.
+        """
         return self.asked(CC.EvictControl, [asker, handle], uses, wanted)
 
     # NV indices. An index authorizes its own use unless `by` names another handle.
@@ -174,7 +177,7 @@ class PreparedCommands(Commands):
     def on_index(
         self, code: CC, index: int, uses: Sequence[Means], by: int | None, *values: Any
     ) -> Prepared:
-        """Any command on an index, authorized by `by` or the index itself."""
+        """Prepares any command on an index, authorized by `by` or by the index itself."""
         return self.asked(code, [index if by is None else by, index], uses, *values)
 
     def defining(
@@ -202,7 +205,7 @@ class PreparedCommands(Commands):
         return self.on_index(CC.NV_Increment, index, uses, by)
 
     def setting(self, index: int, bits: int, *uses: Means, by: int | None = None) -> Prepared:
-        """TPM2_NV_SetBits: sets these bits of a bit field."""
+        """TPM2_NV_SetBits: sets the bits of `bits` in a bit field."""
         return self.on_index(CC.NV_SetBits, index, uses, by, bits)
 
     def extending(self, index: int, data: bytes, *uses: Means, by: int | None = None) -> Prepared:
@@ -212,7 +215,7 @@ class PreparedCommands(Commands):
     def reading(
         self, index: int, size: int, *uses: Means, offset: int = 0, by: int | None = None
     ) -> Prepared:
-        """TPM2_NV_Read of this many bytes, starting at the offset."""
+        """TPM2_NV_Read of `size` bytes, starting at the offset."""
         return self.on_index(CC.NV_Read, index, uses, by, size, offset)
 
     def write_locking(self, index: int, *uses: Means, by: int | None = None) -> Prepared:
@@ -271,7 +274,7 @@ class PreparedCommands(Commands):
         return self.asked(CC.ReadClock, [], ())
 
     def capability(self, capability: int, wanted: int, count: int, *uses: Means) -> Prepared:
-        """TPM2_GetCapability: at most `count` elements, from `wanted` on."""
+        """TPM2_GetCapability: at most `count` elements, starting at `wanted`."""
         return self.asked(CC.GetCapability, [], uses, capability, wanted, count)
 
     def clearing(self, asker: int, *uses: Means) -> Prepared:

@@ -1,5 +1,5 @@
-"""Templates of objects and public areas of NV indices, for most tests. Attributes may be given as
-words, such as `ownerread|authread`, and algorithms as `sha1` or `sha256`.
+"""Templates of objects, and public areas of NV indices, for most tests. Attributes may be written
+as words, such as `ownerread|authread`, and algorithms as `sha1` or `sha256`.
 """
 
 from dataclasses import replace
@@ -15,14 +15,14 @@ HERE = Attribute.FIXED_TPM | Attribute.FIXED_PARENT
 OPEN = Attribute.USER_WITH_AUTH | Attribute.NO_DA
 STORES = Attribute.RESTRICTED | Attribute.DECRYPT
 
-# Attributes that say who may write and read an index, and the first index.
+# Attributes that say who may write and read an index, and the handle of the first index.
 BY_OWNER = nv.Attribute.OWNERWRITE | nv.Attribute.OWNERREAD
 BY_PLATFORM = nv.Attribute.PPWRITE | nv.Attribute.PPREAD
 BY_VALUE = nv.Attribute.AUTHWRITE | nv.Attribute.AUTHREAD
 BY_POLICY = nv.Attribute.POLICYWRITE | nv.Attribute.POLICYREAD
 FIRST = 0x0100_0001
 
-# A set of attributes or an algorithm: its number or its words.
+# A set of attributes or an algorithm, as a number or in words.
 Worded = int | str
 
 
@@ -40,7 +40,7 @@ def storage_key(
 
 
 def sealed(algorithm: Worded = SHA256, attributes: Worded = HERE | OPEN, **more: Any) -> Public:
-    """Returns the template of sealed data; the data are passed along with it."""
+    """Returns the template of sealed data. The data are a separate argument of the command."""
     return template(KEYEDHASH, algorithm, attributes, **more)
 
 
@@ -50,7 +50,7 @@ def hmac_key(
     scheme: Worded = SHA256,
     **more: Any,
 ) -> Public:
-    """Returns the template of an HMAC key; the key is passed along with it."""
+    """Returns the template of an HMAC key. The key is a separate argument of the command."""
     signs, hashing = objects.attributes_of(attributes) | Attribute.SIGN, given.algorithm(scheme)
     return template(KEYEDHASH, algorithm, signs, scheme=hashing, **more)
 
@@ -75,17 +75,18 @@ def area(
 
 
 def counter(index: int = FIRST, attributes: Worded = BY_OWNER | BY_VALUE, **more: Any) -> nv.Public:
-    """Returns the public area of a counter index; `more` as for `area`."""
+    """Returns the public area of a counter index; `more` is passed to `area`."""
     return area(index, attributes, kind=Type.COUNTER, **more)
 
 
 def bits(index: int = FIRST, attributes: Worded = BY_OWNER | BY_VALUE, **more: Any) -> nv.Public:
-    """Returns the public area of a bit field; `more` as for `area`."""
+    """Returns the public area of a bit field; `more` is passed to `area`."""
     return area(index, attributes, kind=Type.BITS, **more)
 
 
 def extended(
     index: int = FIRST, attributes: Worded = BY_OWNER | BY_VALUE, **more: Any
 ) -> nv.Public:
-    """Returns the public area of an extend index, as long as a digest; `more` as for `area`."""
+    """Returns the public area of an extend index, as long as a digest; `more` is passed to `area`.
+    """
     return area(index, attributes, kind=Type.EXTEND, **more)

@@ -1,4 +1,4 @@
-"""Contexts of objects and sessions: for this device the completing layer makes them; the other TPM
+"""Contexts of objects and sessions. For this device, the completing layer makes them; the other TPM
 makes its own.
 """
 
@@ -26,14 +26,14 @@ class Kept:
 
 
 class Contexts:
-    """The contexts of the other TPM, by the corresponding contexts of this device."""
+    """The contexts of the other TPM, by the matching contexts of this device."""
 
     def __init__(self, translation: Translation) -> None:
         self.translation, self.kept = translation, dict[bytes, Kept]()
 
     def command(self, buffer: bytes) -> bytes:
         """Returns the command for the other TPM; a command without contexts is returned unchanged.
-        Raises Unsupported for a context from elsewhere, which the two TPMs cannot both have.
+        Raises Unsupported for a context from elsewhere, because no context works on both TPMs.
         """
         asked = asked_of(buffer)
         if asked is None:
@@ -71,8 +71,8 @@ class Contexts:
         self.kept = {text: it for text, it in self.kept.items() if not names_session(text)}
 
     def loaded(self, handle: int, there: bytes, kept: Kept | None) -> None:
-        """Notes that a reloaded object or session has a different handle on the other TPM than
-        before.
+        """Notes the handle that a reloaded object or session has on the other TPM, which may be
+        new.
         """
         other = int.from_bytes(there[10:14], "big")
         self.translation.handles[handle] = other

@@ -10,7 +10,7 @@ from tpmsim.standard import frames, Short
 from tpmsim.standard.objects import Public
 from tpmsim.standard.values import Digest, Ticket, Time
 
-# Fields made from random bytes or from a TPM's own secrets: only their sizes are compared.
+# Fields made from random bytes or from a TPM's own secrets. Only their sizes are compared.
 BY_CHANCE = {
     *("nonceTPM", "randomBytes", "outPrivate", "name", "qualifiedName", "creationHash"),
     "creationData",
@@ -94,9 +94,7 @@ def between(here: dict[str, Any], there: dict[str, Any]) -> Iterator[tuple[str, 
 
 @dataclass(frozen=True)
 class Cause:
-    """A known cause: the pattern of its differences, the section of rev. 01.38, and our
-    decision.
-    """
+    """A known cause of differences: their pattern, the section of rev. 01.38, and our decision."""
 
     words: str
     form: str

@@ -19,8 +19,8 @@ from tpmsim.standard import SHA256, TRANSIENT
 from tpmsim.standard.command_names import command_name
 from tpmsim.standard.values import read_all
 
-# The part of a command's changes that no handle names, so that a later difference may follow from
-# it.
+# Changes that no handle identifies, by the command that makes them. A later difference may follow
+# from them.
 GUESSES = "guesses"
 ALL = "all"
 CHANGES = {
@@ -35,7 +35,7 @@ CHANGES = {
 OF_GUESSES = {"AUTH_FAIL", "LOCKOUT", "BAD_AUTH"}
 LEAST_WAIT = 1000
 
-# Changes of PCRs are visible in their values and in a PCR policy. NV indices, policy sessions and
+# Changes of PCRs are visible in the PCR values and in a PCR policy. NV indices, policy sessions and
 # objects are identified by their handles.
 COUNTER, PCR_COMMANDS = "pcrUpdateCounter", (CC.PolicyPCR,)
 OWN_KINDS = NV, POLICY_SESSION, TRANSIENT, PERSISTENT
@@ -66,7 +66,7 @@ class Report:
 
 
 class Comparison:
-    """A script on this device and on another TPM, which first expects TPM2_Startup."""
+    """Plays a script on this device and on another TPM, which first expects TPM2_Startup."""
 
     def __init__(self, other: Transport) -> None:
         self.other, self.here, self.report = other, Reference(), Report()
@@ -96,8 +96,8 @@ class Comparison:
         return self.report
 
     def begin(self, step: records.Begin, is_begun: bool) -> None:
-        """Reads a head, which is of a new device, or of the same device again; a state text then
-        changes nothing.
+        """Reads a head, which must be of a new device, or of the same device again. A state text of
+        the same device changes nothing.
         """
         if is_begun and self.here.is_device_of(step):
             if not records.is_state_text(step.content):
@@ -197,7 +197,8 @@ class Comparison:
         elif not codes[0]:
             self.lose(asked, event, self.line)
         elif there:
-            # Removes an entity that exists only on the other TPM, if one command can do that.
+            # If the entity exists only on the other TPM, removes it there, if one command can do
+            # that.
             self.flush(there.handle)
             if asked.code == CC.NV_DefineSpace:
                 self.other.execute(self.translation.undefining(there))
@@ -211,7 +212,7 @@ class Comparison:
         elif is_here:
             contexts.lose(event.buffer, event.response, self.line)
         elif is_there and loads_context(event.buffer):
-            # Removes what is loaded only on the other TPM.
+            # Removes what was loaded only on the other TPM.
             self.flush(int.from_bytes(response[10:14], "big"))
 
     def differ(self, name: str, asked: Command | None, what: str, here: str, there: str) -> None:
@@ -229,8 +230,8 @@ class Comparison:
                 self.causes.setdefault(it, self.line)
 
     def touched(self, asked: Command | None, what: str) -> list[object]:
-        """Returns what a command reads or changes, so that a difference can follow from an earlier
-        one.
+        """Returns what a command reads or changes, so that its difference can be traced to an
+        earlier one.
         """
         if asked is None:
             return []
@@ -245,8 +246,8 @@ class Comparison:
         return [*touched, ALL]
 
     def lose(self, asked: Command | None, event: Executed, line: int) -> None:
-        """Notes the entities that now exist only on this device, because a command returned or made
-        them here, and those that it ended here.
+        """Notes what happened only on this device: which entities exist only here, because a
+        command returned or made them, and which sessions ended.
         """
         if any(event.response[6:10]):
             return
@@ -268,8 +269,8 @@ class Comparison:
                 self.keep_step(entry, handle)
 
     def keep_step(self, entry: Entry, handle: int | None) -> None:
-        """After a use of a session on this device only: ends the session on the other TPM too, or
-        restarts its policy there.
+        """After an entry used a session on this device only: ends the session on the other TPM too,
+        or restarts its policy there.
         """
         handles = self.translation.handles
         if not entry.attributes & CONTINUE_SESSION:

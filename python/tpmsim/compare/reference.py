@@ -1,4 +1,4 @@
-"""Plays the unchanged script on this device, with its caller's knowledge at each command."""
+"""Plays the unchanged script on this device, and finds what its caller knew at each command."""
 
 from dataclasses import dataclass, field
 from typing import Any
@@ -24,7 +24,7 @@ from tpmsim.standard.values import read_all
 
 
 def parsed(buffer: bytes) -> Command | None:
-    """Parses a buffer as a command, by its form only; returns None if it is not one."""
+    """Parses a buffer as a command, checking only its format; returns None if it is not one."""
     fields = Fields(buffer)
     try:
         tag, size, code = fields.number(2), fields.number(4), NUMBERED.get(fields.number(4))
@@ -41,7 +41,7 @@ def parsed(buffer: bytes) -> Command | None:
 
 @dataclass(frozen=True)
 class Shown:
-    """How an entry was correct; `key` says whether the authorization value is in the key of the
+    """Why an entry was correct; `key` says whether the authorization value is in the key of the
     correct HMAC.
     """
 
@@ -60,8 +60,8 @@ class Received:
 
 
 class Reference:
-    """This device twice: an instance that responds, and a model in Python whose state can be read.
-    The completing layer is above both.
+    """This device in two instances: one that responds, and a model in Python whose state can be
+    read. The completing layer is above both.
     """
 
     event: Executed
@@ -102,8 +102,8 @@ class Reference:
         return True
 
     def open_empty(self, step: records.Begin) -> bool:
-        """Becomes the device of a head, if that device was just powered on and contains nothing
-        that a new device lacks. Returns whether it did.
+        """Continues with the device of a head, if that device was just powered on and contains
+        nothing that a new device lacks. Returns whether it does.
         """
         begun = opened(step.content, step.start)
         found = begun.device
@@ -123,8 +123,7 @@ class Reference:
         self.layer.forget(self.model)
 
     def shown(self, command: Command, place: int, entry: Entry, handle: int | None) -> Shown:
-        """Returns how the entry of an existing session is correct, before the command is
-        executed.
+        """Returns why the entry of an existing session is correct, before the command is executed.
         """
         session, value = self.model.sessions[entry.handle], self.model.auth_value(handle)
         if handle is not None and session.policy.demand == "password":
@@ -143,7 +142,9 @@ class Reference:
         return Shown()
 
     def plain(self, command: Command) -> bytes:
-        """Returns the parameters, decrypted if a session of the command can and should do so."""
+        """Returns the parameters, decrypted if a session of the command encrypts them and can
+        decrypt them.
+        """
         found = command.with_attribute(DECRYPT)
         session = self.model.sessions.get(found[1].handle) if found else None
         is_encrypted = session and session.cipher != ALG_NULL and command.code.takes_sized

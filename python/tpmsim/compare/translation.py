@@ -12,14 +12,14 @@ from tpmsim.standard import ALG_NULL, CC, CONTINUE_SESSION, DECRYPT, Entry, Fiel
 from tpmsim.standard import frames, is_policy, is_session, Kind, nv, RS_PW, sessions, Short
 from tpmsim.standard.values import read_all, VALUES
 
-# A shorter value could occur in a command by chance.
+# The least size of a replaced value. A shorter one could occur in a command by chance.
 LEAST_VALUE = 8
 
 TIED = "a Name of an object is in its policy"
 
 
 class NotComparable(TpmsimError):
-    """Why a command cannot be rebuilt, as text, and the line of the script that causes this."""
+    """Why a command cannot be rebuilt, as text, and the line of the script that is the reason."""
 
     def __init__(self, words: str, line: int) -> None:
         super().__init__(words, line)
@@ -27,9 +27,7 @@ class NotComparable(TpmsimError):
 
 
 class Translation:
-    """Everything that is known about the other TPM: each entity and value by its name in the
-    script.
-    """
+    """What is known about the other TPM: its entities and values, by those in the script."""
 
     def __init__(self, here: Reference) -> None:
         self.here, self.known = here, Knowledge()
@@ -77,8 +75,8 @@ class Translation:
         return prepared
 
     def check_hashed(self, asked: Command, handles: list[int], parameters: bytes) -> None:
-        """Raises NotComparable if a cpHash names this command, but Names or parameters differ on
-        the other TPM.
+        """Raises NotComparable if a policy contains this command's cpHash, but its Names or
+        parameters differ on the other TPM.
         """
         names = [self.known.name(it) for it in handles]
         if (names, parameters) == (self.here.model.names(asked), asked.parameters):
@@ -88,8 +86,8 @@ class Translation:
                 raise NotComparable(TIED, self.hashed[entry.handle])
 
     def is_made_elsewhere(self, asked: Command) -> bool:
-        """Whether a command loads an area that no response contained. Such an area in the script
-        was made with the seeds of its own device.
+        """Whether a command loads an area that no response contained. The device on which the
+        script was recorded made that area with its own seeds.
         """
         if asked.code != CC.Load:
             return False
@@ -141,8 +139,8 @@ class Translation:
         return sessions.entry_hmac(*given, use.attributes)
 
     def password(self, given: bytes, handle: int | None, there: int | None) -> bytes:
-        """Returns the password for the other TPM: a correct password is replaced by the value
-        there, if the two values differ.
+        """Returns the password for the other TPM. If a correct password differs from the
+        authorization value there, it is replaced by that value.
         """
         value, other = self.here.model.auth_value(handle), self.known.auth_value(there)
         return other if sessions.trimmed(given) == value != other else given
@@ -173,7 +171,8 @@ class Translation:
         return self.values.get(value, value)
 
     def received(self, prepared: Prepared, response: bytes) -> Received:
-        """Reads a success of the other TPM; the sessions then have their new nonces."""
+        """Reads a successful response of the other TPM, and stores the new nonces of the sessions.
+        """
         fields = Fields(response[10:])
         handle = fields.number(4) if prepared.code.answers_handle else None
         request = self.known.plain_request(prepared)
@@ -189,7 +188,7 @@ class Translation:
         try:
             self.known.note_answer(prepared, request, handle, parameters)
         except KeyError:
-            pass  # the Name's hash algorithm exists only there
+            pass  # only the other TPM supports the Name's hash algorithm
         answer.fields = read_all(prepared.code.answered_parameters, parameters)
         answer.wrong = "; ".join(wrong) or None
         return answer
@@ -228,7 +227,7 @@ class Translation:
         self.sessions[session.handle] = session
 
     def tie(self, asked: Command, prepared: Prepared, there: Received, line: int) -> None:
-        """Notes a policy that contains a cpHash, or a Name that the other TPM does not have."""
+        """Notes a policy with a cpHash, or with a Name that differs on the other TPM."""
         session = asked.handles[-1]
         if asked.code == CC.PolicyRestart:
             self.untie(session)

@@ -1,4 +1,4 @@
-"""Devices that execute commands, all with the same methods, those of `Transport`."""
+"""Devices that execute commands. They all have the methods of `Transport`."""
 
 from tpmsim.device import library
 from tpmsim.device.base import Answered, BadImage, BadState, DeviceEnded, Snapshot

@@ -1,4 +1,4 @@
-"""The interface of every device, wherever the device is."""
+"""The interface of every device, in this process or elsewhere."""
 
 from abc import ABC, abstractmethod
 from dataclasses import dataclass
@@ -14,7 +14,7 @@ class Unsupported(TpmsimError):
 
 
 class DeviceEnded(TpmsimError):
-    """The device has ended; the message says how."""
+    """The device has ended, or is unusable; the message says why."""
 
 
 class BadImage(TpmsimError):
@@ -41,7 +41,7 @@ class Answered:
 
 @dataclass(frozen=True, slots=True)
 class Executed:
-    """A command and its response. The other fields are None if they are not known."""
+    """A command and its response. A field that is not known is None."""
 
     buffer: bytes
     response: bytes
@@ -53,7 +53,9 @@ class Executed:
 
     @property
     def traced(self) -> str:
-        """The text of its trace, or only the response code if the device reports no check."""
+        """The text of the command's trace, or only the response code if the device reports no
+        check.
+        """
         code = self.response[6:10].hex()
         if self.check is None:
             return code
@@ -75,7 +77,7 @@ def line(buffer: bytes) -> str:
 
 
 def lines_told(event: str | Executed) -> list[str]:
-    """Returns the lines of a trace for one event."""
+    """Returns the lines of a script for one event."""
     if isinstance(event, str):
         return [event]
     entropy = [f"entropy {event.random.hex()}"] if event.random else []
@@ -84,7 +86,7 @@ def lines_told(event: str | Executed) -> list[str]:
 
 class Snapshot(bytes):
     """A device's state text (docs/table/state_text.md), which may be stored, compared and restored
-    anywhere. It also carries what the text does not contain: the locality of the next commands, the
+    anywhere. It also has what the text does not contain: the locality of the next commands, the
     milliseconds that pass before the next one, and the events so far. `begun` is the image or the
     state text of the device that received the events. It is empty for a script's device, and None
     if it is not known.
@@ -121,14 +123,16 @@ class Snapshot(bytes):
 
 
 class Transport(ABC):
-    """A device, or a connection to one. Raises Unsupported in a method that it does not support."""
+    """A device, or a connection to one. A method that the device does not support raises
+    Unsupported.
+    """
 
     def __init__(self) -> None:
         self.events: list[str | Executed] = []
 
     @property
     def trace(self) -> list[str]:
-        """The lines of a script that does the same, with each trace as a comment after its command.
+        """The events so far as lines of a script, with each trace as a comment after its command.
 
         >>> with ModelDevice() as device:
         ...     Caller(device).start_up()
@@ -180,8 +184,8 @@ class Transport(ABC):
         raise Unsupported("there are no snapshots")
 
     def close(self) -> None:
-        """Ends the device, or the connection to it; `with` does so too. If the device has an image
-        file, the file then contains the clock.
+        """Ends the device, or the connection to it, as the end of a `with` block does. If the
+        device has an image file, the file then contains the clock.
 
         >>> device = Device()
         >>> device.close()

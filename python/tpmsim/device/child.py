@@ -15,7 +15,7 @@ from tpmsim.device.shipped import shipped
 from tpmsim.device.told import Device, Path
 from tpmsim.standard import CC
 
-# The start of the program's message about a file that is not a state text.
+# The beginning of the program's message about a file that is not a state text.
 NO_STATE_TEXT = "tpmsim: snapshot "
 
 
@@ -77,7 +77,9 @@ class ChildDevice(InStep, Device):
         return os.path.join(self.folder, name)
 
     def begin(self, image: bytes) -> None:
-        """Starts the device of an image. Other bytes make the first command raise DeviceEnded."""
+        """Starts the device of an image. If the bytes are no image, the first command raises
+        DeviceEnded.
+        """
         self.image = pathlib.Path(self.within("image"))
         self.image.write_bytes(image)
         self.start_anew()
@@ -107,17 +109,17 @@ class ChildDevice(InStep, Device):
         return text.decode("ascii").rstrip("\n")
 
     def ended(self) -> DeviceEnded:
-        """Returns the fault that says how the program ended."""
+        """Returns the exception that says how the program ended."""
         assert self.process.stderr is not None
         words = self.process.stderr.read().decode("utf-8", "replace").strip()
         return DeviceEnded(f"status {self.process.wait()}: {words}")
 
     def answer(self, buffer: bytes, locality: int, elapsed: int, random: bytes) -> Executed:
-        """Executes a command as one exchange, which is not left halfway."""
+        """Executes a command as one exchange; if it is interrupted, the device is closed."""
         return self.whole(lambda: self.told(buffer, locality, elapsed, random))
 
     def told(self, buffer: bytes, locality: int, elapsed: int, random: bytes) -> Executed:
-        """Sends a command with its circumstances, and reads its trace and response."""
+        """Sends a command with its settings, and reads its trace and response."""
         before = [f"wait {elapsed}"] if elapsed else []
         if locality != self.told_locality:
             before.append(f"loc {locality}")
@@ -143,7 +145,8 @@ class ChildDevice(InStep, Device):
         return self.image.read_bytes()
 
     def check_folder(self) -> None:
-        """Raises Unsupported for a device with an image, whose random seeds are unknown here."""
+        """Raises Unsupported for a device with an image, because its random seeds are unknown here.
+        """
         if self.image is not None:
             raise Unsupported("a child's device with an image has no snapshots")
 
@@ -155,7 +158,7 @@ class ChildDevice(InStep, Device):
         return self.asked("snapshot", self.within("state"))
 
     def await_journal(self) -> None:
-        """Waits for the journal, which the process starts before it reads a command."""
+        """Waits for the journal, which the process creates before it reads a command."""
         while not os.path.exists(self.within("state/journal")):
             if self.process.poll() is not None:
                 raise self.ended()
@@ -190,7 +193,7 @@ class ChildDevice(InStep, Device):
             try:
                 pipe.close()
             except BrokenPipeError:
-                pass  # it had ended before
+                pass  # the program had already ended
         self.process.wait()
 
     def hang_up(self) -> None:
@@ -199,7 +202,7 @@ class ChildDevice(InStep, Device):
         self.end()
 
     def close(self) -> None:
-        """Ends the process and waits for it; its image is then complete, with the clock."""
+        """Ends the process and waits for it; its image file is then complete, with the clock."""
         self.why_closed = self.why_closed or CLOSED
         self.end()
         self.removal()

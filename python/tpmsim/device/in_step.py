@@ -1,4 +1,4 @@
-"""A connection to a device on which each response follows its command."""
+"""A connection to a device that answers each command before it receives the next one."""
 
 from typing import Callable, TypeVar
 
@@ -11,19 +11,19 @@ Done = TypeVar("Done")
 
 
 class InStep(Transport):
-    """A connection that is closed if an exchange does not complete, for whatever reason: otherwise
-    the next command would get the response of this one. Each later call raises DeviceEnded with the
-    reason.
+    """A connection that is closed if an exchange does not complete, for whatever reason. Otherwise
+    the next command would get the response to the interrupted one. Each later call raises
+    DeviceEnded with the reason.
     """
 
-    # Why the connection is closed; empty while it is open. An exchange sets it first, and clears it
-    # at its end.
+    # Why the connection is closed; empty while it is open. An exchange sets it at its start, and
+    # clears it at its end.
     why_closed = ""
 
     def whole(self, exchange: Callable[[], Done]) -> Done:
         """Returns the result of an exchange; if it is interrupted, the connection is closed."""
         if self.why_closed:
-            self.hang_up()  # again, as an interrupt may have come before
+            self.hang_up()  # again, since an interrupt may have stopped the first call
             raise DeviceEnded(self.why_closed)
         self.why_closed = NOT_ENDED
         try:

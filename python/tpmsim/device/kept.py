@@ -55,7 +55,7 @@ def host() -> ctypes.CDLL:
 
 
 def check(told: int, reason: str) -> None:
-    """Raises an exception that says why, unless the call was done."""
+    """Raises an exception with the reason, unless the call succeeded."""
     if told == NO_MEMORY:
         raise MemoryError(reason)
     if told in IMAGE_FAULTS:
@@ -68,16 +68,16 @@ def check(told: int, reason: str) -> None:
 
 class KeptDevice(LocatedDevice):
     """The device in a folder. If the folder has none, a new one is made there. Several processes
-    may use it at once: each executes what the others added, and then its own command. With
-    `forces`, the name of each journal that is new or opened is synced to the disk. With
-    `completes`, the completing layer of the library is above the device. The last `keep` replaced
-    journals, 0 to 99, stay in the folder. With `cuts`, the rest of a journal from its first damage
-    on is dropped; otherwise a damaged journal is refused. A forked child may use its parent's
-    device, and threads take turns.
+    may use it at once: each executes the commands that the others added, and then its own. With
+    `forces`, the name of each new or opened journal is synced to the disk. With `completes`, the
+    completing layer of the library is above the device. The last `keep` replaced journals, 0 to 99,
+    stay in the folder. With `cuts`, the rest of a journal from its first damage on is dropped;
+    otherwise a damaged journal is refused. A forked child may use its parent's device, and threads
+    take turns.
 
-    If a call fails, DeviceEnded has a sentence of docs/ATTACHED.md. If the journal begins with
-    bytes that are not an image or a state text, the exception is BadImage or BadState. If the end
-    of a journal was cut off, a RuntimeWarning says what is missing.
+    If a call fails, the message of DeviceEnded is a sentence of docs/ATTACHED.md. If the journal
+    begins with bytes that are not an image or a state text, the exception is BadImage or BadState.
+    If the end of a journal was cut off, a RuntimeWarning says what is missing.
 
     >>> import tempfile
     >>> with tempfile.TemporaryDirectory() as folder:
@@ -122,7 +122,7 @@ class KeptDevice(LocatedDevice):
         return told, reason
 
     def ask(self, call: Callable[..., int], *given: object) -> None:
-        """Calls the C host for this device; raises the fault that it reports."""
+        """Calls the C host for this device; raises an exception if the call fails."""
         if not self.holder:
             raise ValueError("the device is closed")
         check(*self.told(call, *given))
@@ -167,7 +167,7 @@ class KeptDevice(LocatedDevice):
 
     def restore(self, snapshot: object) -> None:
         """Restores a snapshot for every process that uses the device. The journal restarts from the
-        snapshot. The completing layer has a new start, so no earlier context can be loaded.
+        snapshot. The completing layer starts again, so no earlier context can be loaded.
         """
         text = Snapshot.of(snapshot)
         if not self.holder:

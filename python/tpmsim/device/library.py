@@ -25,8 +25,8 @@ OWNER_ALONE = 0o600
 
 
 def opened(path: str, flags: int) -> io.FileIO:
-    """Opens a file that is closed together with its object. `map` makes both calls in C, with no
-    signal handler between them, so every descriptor has an object.
+    """Opens a file that is closed together with its object. `map` makes both calls in C, where no
+    signal handler can run between them, so every descriptor has an object.
     """
     call = functools.partial(os.open, mode=OWNER_ALONE)
     return next(map(io.FileIO, map(call, [path], [flags]), ["r+"]))
@@ -42,9 +42,9 @@ def but_clock(image: bytes) -> bytes:
 
 
 class ImageFile:
-    """The file of an image, with the lock that `tpmsim` takes, held until `close`. Raises
-    FileExistsError if another holds the lock, and OSError if the folder is not writable. The file
-    belongs to the process that opened it, and not to a forked child.
+    """The file of an image. It holds the lock that `tpmsim` takes until `close`. Raises
+    FileExistsError if the lock is already taken, and OSError if the folder is not writable. The
+    file belongs to the process that opened it, and not to a forked child.
     """
 
     is_left = False
@@ -75,7 +75,7 @@ class ImageFile:
             return b""
 
     def keep(self, image: bytes) -> None:
-        """Writes an image, if it differs in more than the clock from the one written last."""
+        """Writes an image if it differs from the last written one in more than the clock."""
         if not self.kept or but_clock(image) != but_clock(self.kept):
             self.write(image)
 
@@ -106,14 +106,14 @@ class ImageFile:
             self.leave()
 
     def leave(self) -> None:
-        """Releases the lock without writing the file. A child may share the lock."""
+        """Releases the lock without writing the file. A forked child may share the lock."""
         is_here, self.is_left = self.is_here, True
         if is_here:
             fcntl.flock(self.lock, fcntl.LOCK_UN)
         self.lock.close()
 
     def give_up(self) -> None:
-        """Leaves the file and its lock to the parent."""
+        """Leaves the file and its lock to the parent process."""
         self.is_left = True
         self.lock.close()
 
@@ -171,7 +171,7 @@ def places() -> list[str]:
 
 
 def beside(name: str) -> str:
-    """Returns the path of another shared object, which is next to the library."""
+    """Returns the path of another shared object in the library's folder."""
     return os.path.join(os.path.dirname(places()[0]), name)
 
 
@@ -219,8 +219,8 @@ Write = Callable[[int, ctypes.Array[ctypes.c_char], int], int]
 
 
 def written(call: Write, handle: int) -> bytes:
-    """Returns the text that a call writes about a device, with a buffer large enough for all of it;
-    no bytes if there is no device.
+    """Calls a function that writes a text about a device, with a large enough buffer, and returns
+    the text. Returns no bytes if there is no device.
     """
     size = TEXT_BYTES
     while True:
@@ -232,9 +232,9 @@ def written(call: Write, handle: int) -> bytes:
 
 
 class LibraryDevice(Device):
-    """A device in this process, manufactured with 256 bytes, which are fresh unless they are given.
-    If it has an image, it is kept there: the file is written again before the response to a change,
-    and at the end. Raises FileExistsError if another device has the image.
+    """A device in this process, manufactured with 256 bytes, which are random unless they are
+    passed. If it has an image, its state is kept in that file: the file is written before the
+    response to a change, and at the end. Raises FileExistsError if another device uses the image.
 
     >>> with LibraryDevice(manufactured=bytes(256)) as device:
     ...     len(device.save())
@@ -267,7 +267,7 @@ class LibraryDevice(Device):
         self.begun = kept or self.save()
 
     def manufacture(self, given: bytes | None) -> None:
-        """Makes the device from random bytes, or from those of its seed."""
+        """Manufactures the device from the given bytes, from its seed, or from random bytes."""
         if given is None and self.seed is not None:
             given = hashlib.shake_256(self.seed).digest(RANDOM_BYTES)
         random = os.urandom(RANDOM_BYTES) if given is None else given
@@ -292,7 +292,7 @@ class LibraryDevice(Device):
         self.keep()
 
     def look_open(self) -> None:
-        """Checks like `look`; also raises ValueError after `close`."""
+        """Raises DeviceEnded like `look`, and ValueError after `close`."""
         self.look()
         if not self.holder:
             raise ValueError("the device is closed")
@@ -325,7 +325,7 @@ class LibraryDevice(Device):
         return Executed(buffer, response, locality, elapsed, *told)
 
     def executed(self, buffer: bytes, event: tuple[object, ...]) -> None:
-        """Executes a command in the library, and keeps the image."""
+        """Executes a command in the library, and saves the image."""
         self.library.tpmsim_execute(self.handle, buffer, len(buffer), *event)
         self.keep()
 
@@ -336,16 +336,16 @@ class LibraryDevice(Device):
                 self.file.keep(self.save())
             except OSError as fault:
                 if fault.errno is None:
-                    raise  # by a signal handler, such as a test's TimeoutError, not by a system call
+                    raise  # from a signal handler, such as a test's TimeoutError, not a system call
                 raise DeviceEnded(f"the image is not written: {fault}") from None
 
     def cycle(self) -> None:
-        """Power-cycles the device, without leaving it halfway."""
+        """Power-cycles the device. If that is interrupted, later calls raise DeviceEnded."""
         self.look_open()
         self.to_its_end(self.cycled)
 
     def cycled(self) -> None:
-        """Power-cycles the device in the library, and keeps the image."""
+        """Power-cycles the device in the library, and saves the image."""
         self.library.tpmsim_power_cycle(self.handle)
         self.keep()
 

@@ -1,4 +1,6 @@
-"""Devices at the other end of a socket or a file, which use the host's time and random bytes."""
+"""Devices at the other end of a socket or a file. They use the time and the random bytes of their
+host.
+"""
 
 import io
 import os
@@ -9,7 +11,7 @@ from tpmsim.device.base import Answered, checked_locality, DeviceEnded, Executed
 from tpmsim.device.in_step import InStep
 from tpmsim.standard import number
 
-# A Unix socket's path, or a host and a port.
+# The path of a Unix socket, or a host and a port.
 Address = str | tuple[str, int]
 
 RECEIVED_AT_ONCE = 65_536
@@ -70,7 +72,7 @@ RESPONSE_BYTES, RETRY, MOST_TIMES = 4096, number(0x922, 4), 5
 
 
 class OtherDevice(Transport):
-    """A device that only accepts commands; each subclass sends them in its own way."""
+    """A device that supports only commands. Each subclass sends them in its own way."""
 
     at: int | None = None
 
@@ -91,7 +93,7 @@ class OtherDevice(Transport):
 
 
 class LocatedDevice(OtherDevice):
-    """A device that receives the locality of its commands, which is 0 at first."""
+    """A device that receives the locality of each command. The locality is 0 at first."""
 
     at = 0
 
@@ -106,8 +108,8 @@ class LocatedDevice(OtherDevice):
 
 
 class ServedDevice(InStep, OtherDevice):
-    """A connection to `tpmsim serve` on a Unix socket, or to another server that takes commands
-    alone. The locality is that of the server's run. If a response takes longer than `seconds`,
+    """A connection to `tpmsim serve` on a Unix socket, or to another server that accepts plain
+    commands. The options of the server set the locality. If a response takes longer than `seconds`,
     TimeoutError is raised and the connection is closed.
 
     >>> ServedDevice("/nowhere")
@@ -129,7 +131,7 @@ class ServedDevice(InStep, OtherDevice):
 
 
 class FileDevice(InStep, OtherDevice):
-    """A file that takes a command and returns the response, as /dev/tpmrm0 and /dev/tpm0 do.
+    """A file that takes a command and returns the response, like /dev/tpmrm0 and /dev/tpm0.
     Commands to a TPM of this computer have their real effect.
 
     >>> import tempfile
@@ -155,13 +157,14 @@ class FileDevice(InStep, OtherDevice):
         self.file.close()
 
 
-# Requests of Microsoft's protocol (the simulator of the TPM 2.0 Library), at its two ports.
+# Requests of Microsoft's protocol (the simulator of the TPM 2.0 Library), on its two ports.
 POWER_ON, POWER_OFF, SEND_COMMAND, NV_ON, SESSION_END = 1, 2, 8, 11, 20
 
 
 class SimulatorDevice(InStep, LocatedDevice):
-    """A device that speaks Microsoft's protocol: commands at a port, and the platform at the next
-    one. Its power is switched on at first; `power_cycle` switches it off and on.
+    """A device that speaks Microsoft's protocol: it receives commands on a port, and requests to
+    the platform on the next one. Its power is switched on at first; `power_cycle` switches it off
+    and on.
 
     >>> SimulatorDevice("127.0.0.1", 1)
     Traceback (most recent call last):
@@ -180,7 +183,7 @@ class SimulatorDevice(InStep, LocatedDevice):
         self.whole(lambda: self.tell(POWER_ON, NV_ON))
 
     def tell(self, *requests: int) -> None:
-        """Sends requests to the platform; raises DeviceEnded if it refuses one."""
+        """Sends requests to the platform; raises DeviceEnded if the device refuses one."""
         for request in requests:
             told = self.platform.send(number(request, 4)).number()
             if told:

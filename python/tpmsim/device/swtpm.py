@@ -1,5 +1,5 @@
-"""A device that speaks swtpm's protocol: a data channel for commands, a control channel for the
-rest.
+"""A device that speaks swtpm's protocol: a data channel for commands, and a control channel for
+everything else.
 """
 
 import shutil
@@ -26,8 +26,8 @@ STARTUP, SHUTDOWN = (frames.command(it, number(0, 2)) for it in (CC.Startup, CC.
 
 
 class SwtpmDevice(InStep, LocatedDevice):
-    """A device that speaks swtpm's protocol, at the addresses of its two channels. The power stays
-    as it is. An answer has to come within `seconds`.
+    """A device that speaks swtpm's protocol, at the addresses of its two channels. Connecting does
+    not switch its power. An answer that takes longer than `seconds` raises TimeoutError.
 
     >>> SwtpmDevice("/nowhere", "/nowhere.ctrl")
     Traceback (most recent call last):
@@ -80,7 +80,7 @@ class SwtpmDevice(InStep, LocatedDevice):
         self.tell(INIT, number(0, 4))
 
     def save(self) -> bytes:
-        """Returns swtpm's blob of the state that it keeps without power."""
+        """Returns swtpm's blob of the state that survives without power."""
         return self.whole(lambda: self.blob(PERMANENT))
 
     def blob(self, kind: int) -> bytes:
@@ -135,7 +135,7 @@ class StartedSwtpm(SwtpmDevice):
                 self.end()
 
     def begin(self, data: str, control: str, seconds: float) -> None:
-        """Waits until swtpm serves, at most this many seconds."""
+        """Waits until swtpm accepts connections, for at most `seconds`."""
         until = time.monotonic() + seconds
         while not self.is_connected(data, control, seconds):
             if self.process.poll() is not None or time.monotonic() > until:
@@ -152,9 +152,7 @@ class StartedSwtpm(SwtpmDevice):
         return True
 
     def allocate(self) -> None:
-        """Selects the banks of tpmsim's device, SHA-1 and SHA-256, and clears the count of
-        starts.
-        """
+        """Selects the banks of tpmsim's device, SHA-1 and SHA-256, and sets resetCount to 0."""
         banks = *((it, handle_kinds.PCRS) for it in (SHA1, SHA256)), (SHA384, ()), (SHA512, ())
         allocating = frames.on_handle(PCR_ALLOCATE, RH_PLATFORM, frames.selection(*banks))
         clearing = frames.on_handle(CC.Clear, RH_PLATFORM)

@@ -23,13 +23,14 @@ Done = TypeVar("Done")
 
 
 class NothingReplaced(TpmsimError, MemoryError):
-    """Memory for the device of a state text is missing; the previous device is unchanged."""
+    """There is not enough memory for the device of a state text; the previous device is unchanged.
+    """
 
 
 class Device(Transport):
     """A fresh device that was just powered on, or the device of an image, which is kept in its
     file. It is in this process if the library is found, and otherwise in a child process. Its seeds
-    and its random bytes are fresh; with a seed of your own they are the same in each run.
+    and its random bytes are fresh; if you pass a seed, they are the same in each run.
 
     >>> from tpmsim.caller import Caller
     >>> with Device(seed=b"mine") as device:
@@ -58,7 +59,8 @@ class Device(Transport):
 
     @classmethod
     def open(cls, image: bytes, seed: bytes | None = None) -> Self:
-        """Opens the device of an image, as after a power cycle; raises BadImage for other bytes.
+        """Opens the device of an image, as after a power cycle; raises BadImage if the bytes are
+        not an image.
 
         >>> with Device() as device, Device.open(device.save()) as other:
         ...     other.save() == device.save()
@@ -75,7 +77,7 @@ class Device(Transport):
 
     @property
     def trace(self) -> list[str]:
-        """The lines of a script that does the same. Unless the device started as a script's device,
+        """The events so far as lines of a script. Unless the device started as a script's device,
         the first line is a comment with its first image or state text.
         """
         word = "state" if self.begun.startswith(state_text.MAGIC) else "image"
@@ -83,12 +85,12 @@ class Device(Transport):
         return begun + super().trace
 
     def look_whole(self) -> None:
-        """Raises DeviceEnded if an interrupted call left the device halfway."""
+        """Raises DeviceEnded if an interrupted call left the device half changed."""
         if not self.is_whole:
             raise DeviceEnded("a call did not end, and left the device halfway; `restore` mends it")
 
     def to_its_end(self, act: Callable[[], Done]) -> Done:
-        """Runs an action; if the action does not complete, the device is left halfway."""
+        """Runs an action; if the action does not complete, `is_whole` stays False."""
         was_whole, self.is_whole = self.is_whole, False
         done = act()
         self.is_whole = was_whole
@@ -103,13 +105,13 @@ class Device(Transport):
         raise NotImplementedError
 
     def resume(self, text: bytes) -> None:
-        """Replaces this device by the device of a state text. Raises BadState for other bytes. If
-        it raises BadState, Unsupported or NothingReplaced, the device is unchanged.
+        """Replaces this device by the device of a state text. Raises BadState if it is not a state
+        text. If it raises BadState, Unsupported or NothingReplaced, the device is unchanged.
         """
         raise NotImplementedError
 
     def answer(self, buffer: bytes, locality: int, elapsed: int, random: bytes) -> Executed:
-        """Executes a command with its circumstances."""
+        """Executes a command with its locality, time and random bytes."""
         raise NotImplementedError
 
     def cycle(self) -> None:
@@ -117,7 +119,7 @@ class Device(Transport):
         raise NotImplementedError
 
     def drawn(self) -> bytes:
-        """Returns random bytes for the next command, which are repeatable with a seed."""
+        """Returns random bytes for the next command. With a seed, they are the same in each run."""
         self.drawings += 1
         if self.seed is None:
             return os.urandom(RANDOM_BYTES)
@@ -156,7 +158,7 @@ class Device(Transport):
         self.events.append(f"loc {number}")
 
     def execute(self, buffer: bytes) -> Answered:
-        """Returns the response to any bytes, and the check that refused them, or `ok`.
+        """Executes any bytes, and returns the response and the check that refused them, or `ok`.
 
         >>> with Device() as device:
         ...     device.execute(bytes.fromhex("80010000000c000001440000"))
@@ -202,8 +204,9 @@ class Device(Transport):
 
     def restore(self, snapshot: object) -> None:
         """Restores the state in a snapshot of any device, or in a state text. The events are then
-        those of the snapshot; after a text alone, or a kept device's snapshot, there are none.
-        Raises BadState for other bytes, which change nothing, and TypeError for anything else.
+        those of the snapshot; after a plain state text, or a kept device's snapshot, there are
+        none. Raises BadState for other bytes, which change nothing, and TypeError for anything
+        else.
 
         >>> with Device() as device:
         ...     before = device.snapshot()
@@ -244,7 +247,8 @@ class Device(Transport):
 
 class ModelDevice(Device):
     """The device in plain Python, in this process, manufactured with the bytes 00 to ff; or a given
-    model that was just powered on. Its trace is a script that no program has played.
+    model that was just powered on. Its trace is a script too, although the program did not execute
+    it.
 
     >>> with ModelDevice() as device:
     ...     device.execute(b"").check
@@ -254,7 +258,7 @@ class ModelDevice(Device):
     def __init__(self, model: Model | None = None, seed: bytes | None = None) -> None:
         super().__init__(seed=seed)
         self.model = model or Model(MANUFACTURED, encrypt_block)
-        self.layer = Layer()  # which no command here changes
+        self.layer = Layer()  # no command of this device changes the layer
         self.begun = b"" if model is None else self.save()
 
     def begin(self, image: bytes) -> None:

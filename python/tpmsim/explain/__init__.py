@@ -1,1 +1,1 @@
-"""Why was this refused? Plays a script on the device in Python, and explains each refusal."""
+"""Plays a script on the device in Python, and explains each refusal."""

@@ -1,4 +1,4 @@
-"""Mistakes ("slips") that a device accepts, and their consequences."""
+"""Mistakes ("slips") in commands that a device accepts nevertheless, and their consequences."""
 
 from typing import Iterator
 
@@ -18,8 +18,8 @@ def note(rule: str, slip: str, words: str) -> Reason:
 
 
 def before(scene: Scene) -> list[Reason]:
-    """Returns notes on a command whose authorization was accepted. They describe the state before
-    the command takes effect.
+    """Returns notes on a command whose authorization was accepted, in the state before the command
+    takes effect.
     """
     return [
         *(*garbage(scene), *zeros(scene), *nonces(scene), *unwritten(scene)),
@@ -28,8 +28,8 @@ def before(scene: Scene) -> list[Reason]:
 
 
 def garbage(scene: Scene) -> Iterator[Reason]:
-    """Notes a parameter that does not decrypt to a text, but would if it had been encrypted in
-    another way.
+    """Notes a parameter that does not decrypt to a text, but would do so if the caller had
+    encrypted it in another way.
     """
     if ingredients.decrypting_use(scene) is None or scene.plain is None:
         return
@@ -78,7 +78,7 @@ def nonces(scene: Scene) -> Iterator[Reason]:
 
 
 def unwritten(scene: Scene) -> Iterator[Reason]:
-    """Notes an unwritten index whose Name goes into a policy."""
+    """Notes that the Name of an unwritten index goes into a policy."""
     if scene.code not in (CC.PolicyNV, CC.PolicySecret):
         return
     handle = scene.command.handles[1 if scene.code == CC.PolicyNV else 0]
@@ -92,7 +92,7 @@ def unwritten(scene: Scene) -> Iterator[Reason]:
 
 
 def offline_guesses(scene: Scene) -> Iterator[Reason]:
-    """Notes encryption with a value that the entry did not have to know."""
+    """Notes encryption with a value that the caller did not have to know."""
     for place, entry, _ in scene.command.places:
         use = ingredients.use_of(scene, place)
         if use is None or not unshown.encrypts(entry.attributes):
@@ -107,7 +107,7 @@ def offline_guesses(scene: Scene) -> Iterator[Reason]:
 
 
 def after(scene: Scene) -> Iterator[Reason]:
-    """Returns notes after the effect: on random bytes that are zeros, once, and on a nonceTPM that
+    """Returns notes after the effect: that the random bytes are zeros, once, and that a nonceTPM
     repeats.
     """
     if scene.code in DRAWS and not any(scene.random) and "random" not in scene.past.told_once:

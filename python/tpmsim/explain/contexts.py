@@ -1,4 +1,4 @@
-"""The contexts of objects that a log saved, and why one of them can no longer be loaded."""
+"""The contexts of objects that a log saved, and why such a context can no longer be loaded."""
 
 from dataclasses import dataclass
 
@@ -9,7 +9,7 @@ from tpmsim.standard import Fields
 
 @dataclass(frozen=True)
 class Saved:
-    """The line that saved a context, its head, and what it is bound to."""
+    """A saved context: the line that saved it, its head, and what it is bound to."""
 
     line: int
     head: Head
@@ -48,7 +48,9 @@ class Contexts:
         return f"Line {saved.line} saved it; since then {ended}."
 
     def words_of_similar(self, context: bytes) -> str:
-        """Returns the line that saved a context with the same head and other bytes after it."""
+        """Returns the line that saved a context with the same head but with different bytes after
+        it.
+        """
         head = context[:HEAD_BYTES]
         lines = [it.line for text, it in self.saved.items() if text.startswith(head)]
         return f"It differs from the context that line {lines[-1]} saved." if lines else ""

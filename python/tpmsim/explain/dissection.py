@@ -1,5 +1,5 @@
-"""Splits commands and responses into fields. Every byte belongs to a field, whatever the bytes
-are.
+"""Splits commands and responses into fields. Every byte belongs to a field, even if the bytes are
+malformed.
 """
 
 import contextlib
@@ -24,8 +24,8 @@ class Cut(TpmsimError):
 
 @dataclass
 class Field:
-    """A field. Its first `front` bytes are a size, and it is inside `depth` structures. A structure
-    is a group; its fields follow it.
+    """A field. Its first `front` bytes are a size, and it is inside `depth` structures. If it is a
+    structure (`is_group`), its fields follow it.
     """
 
     name: str
@@ -39,9 +39,7 @@ class Field:
 
 
 class Walk:
-    """Takes fields from the front of bytes. Bytes that cannot be parsed are a field of their
-    own.
-    """
+    """Reads fields from bytes, in order. Bytes that cannot be parsed are a field of their own."""
 
     def __init__(self, data: bytes) -> None:
         self.data, self.at, self.depth, self.sort = data, 0, 0, HEADER
@@ -49,7 +47,7 @@ class Walk:
         self.end = len(data)
 
     def take(self, size: int, name: str, meaning: Callable[[bytes], str], front: int = 0) -> bytes:
-        """Takes the next bytes, the first `front` of which are a size; raises Cut if there are too
+        """Reads the next bytes, the first `front` of which are a size; raises Cut if there are too
         few.
         """
         left = self.end - self.at
@@ -67,14 +65,16 @@ class Walk:
         return int.from_bytes(data, "big")
 
     def peek(self) -> int:
-        """Returns the size in front of a buffer, at most 65,535."""
+        """Returns the size that precedes a buffer, at most 65,535."""
         return int.from_bytes(self.data[self.at : min(self.at + 2, self.end)], "big")
 
     def buffer(self, name: str, meaning: Callable[[bytes], str] | None = None) -> bytes:
         return self.take(2 + self.peek(), name, meaning or said_bytes, 2)
 
     def elements(self, name: str, word: str) -> Iterator[int]:
-        """Yields the numbers of a list's elements, from 1, within a group for the list."""
+        """Yields the numbers of a list's elements, starting with 1. The elements are inside the
+        list.
+        """
         for at in range(self.number(4, name, lambda it: words.plural(it, word))):
             self.depth += 1
             yield at + 1
@@ -82,8 +82,8 @@ class Walk:
 
     @contextmanager
     def group(self, name: str, size: int | None = None, front: int = 0) -> Iterator[None]:
-        """Opens a structure, of a known size or as large as the fields read in it; raises Cut if
-        the bytes end before its size.
+        """Opens a structure, of a given size or as large as the fields read in it; raises Cut if
+        the bytes end within its size field.
         """
         if self.end - self.at < front:
             self.take(front, name, lambda it: "")
@@ -124,7 +124,7 @@ def said_bytes(data: bytes) -> str:
 STARTS = {0: "CLEAR", 1: "STATE"}
 TICKETS = {frames.ST_CREATION: "of a creation", frames.ST_AUTH_SECRET: "of an assertion"}
 
-# Takes a parameter with a name.
+# Reads a parameter with a name.
 Reader = Callable[[Walk, str], object]
 
 
@@ -133,7 +133,7 @@ def number(size: int, meaning: Callable[[int], str] = str) -> Reader:
 
 
 def named(size: int, names: dict[int, str], other: str) -> Reader:
-    """Returns a reader of a number with its name, or with `other` if it has none."""
+    """Returns a reader of a number that has a name; without a name, it means `other`."""
     return number(size, lambda it: names.get(it, other))
 
 
@@ -267,7 +267,7 @@ OF_KIND: dict[Kind, Reader] = {
     Kind.CAPABILITY: capability,
 }
 
-# Parameters about which more is known than their kind.
+# Parameters whose name says more than their kind.
 NAMED: dict[str, Reader] = {
     "startupType": named(2, STARTS, "not a type of startup"),
     "shutdownType": named(2, STARTS, "not a type of shutdown"),
@@ -346,7 +346,7 @@ def entries(walk: Walk, end: int, is_command: bool) -> None:
 
 
 def parameters(walk: Walk, those: tuple[Parameter, ...], plain: bytes | None) -> None:
-    """Takes the parameters; `plain` holds them with the first one decrypted."""
+    """Reads the parameters; `plain` contains them with the first one decrypted."""
     walk.sort, at = PARAMETER, walk.at
     if plain is not None:
         walk.data = walk.data[:at] + plain + walk.data[at + len(plain) :]

@@ -1,4 +1,4 @@
-"""Why an entry is refused: because of the entity that it was to authorize, because of a lockout, or
+"""Why an entry is refused: because of the entity that it should authorize, because of a lockout, or
 because the entry is wrong (G9, G10).
 """
 
@@ -34,7 +34,9 @@ def reason(scene: Scene) -> Reason:
 
 
 def refused_place(scene: Scene) -> Place:
-    """Returns the refused entry: the one that the code names, or the first that a check refuses."""
+    """Returns the refused entry: the one that the response code names, or else the first one that
+    the check refuses.
+    """
     places, model = scene.command.places, scene.model
     if scene.place:
         return places[scene.place - 1]
@@ -107,8 +109,8 @@ def wrong_password(scene: Scene, found: Reason, entry: Entry, handle: int) -> No
 
 
 def name_password(scene: Scene, found: Reason, entry: Entry, handle: int) -> None:
-    """Names the slip that makes the given password, or the number of slips that were tried. Does
-    nothing if a slip is already named.
+    """Names the mistake that explains a wrong password, or says how many mistakes were tried. Does
+    nothing if a mistake is already named.
     """
     tried = 0
     for told, password in passwords(scene, handle) if not found.slips else ():
@@ -123,8 +125,8 @@ def name_password(scene: Scene, found: Reason, entry: Entry, handle: int) -> Non
 
 
 def passwords(scene: Scene, handle: int) -> Iterator[tuple[tuple[Told, ...], bytes]]:
-    """Yields what may have been given instead of a password, with the slips that explain each
-    one.
+    """Yields the passwords that a mistaken caller may have sent, with the mistakes that explain
+    each.
     """
     value, said = scene.model.auth_value(handle), handle_words(handle)
     if value:

@@ -1,5 +1,5 @@
-"""Other forms of a value that a caller may have used instead of the value: a table of each form's
-name, its words, and how a value is converted to it. An empty value is not a form.
+"""Other forms of a value that a caller may have used instead of the value, as a table: the name of
+each form, its words, and the conversion of a value to it. An empty value is not a form.
 """
 
 import base64
@@ -37,7 +37,7 @@ def of_sized(value: bytes) -> bytes:
     return value[2:] if value == sized(value[2:]) else b""
 
 
-# Forms that may be combined, one applied to the result of another.
+# Forms that may be combined, by applying one to the result of another.
 NESTED = (
     Form("with a line break", "with a line break after it", lambda it: it + b"\n"),
     Form("as SHA-256", "as its SHA-256 digest", lambda it: hashlib.sha256(it).digest()),
@@ -63,7 +63,7 @@ CUTS = (
     Form("cut to 20 bytes", "cut to 20 bytes", lambda it: it[:20]),
 )
 
-# The other forms, which are not combined.
+# Forms that are not combined with others.
 ALONE = (
     Form("in the other order", "with its bytes in the other order", lambda it: it[::-1]),
     Form("without its last byte", "without its last byte", lambda it: it[:-1]),
@@ -86,7 +86,8 @@ class Formed:
 
 
 def forms_of(value: bytes) -> Iterator[Formed]:
-    """Yields the values that one form makes, then those that two make, the inner form first."""
+    """Yields the values that one form makes, then those that two forms make, the inner form first.
+    """
     seen = {value, b""}
 
     def fresh(before: tuple[Form, ...], form: Form, turned: bytes) -> Iterator[Formed]:
@@ -103,7 +104,7 @@ def forms_of(value: bytes) -> Iterator[Formed]:
             yield from fresh(it.forms, form, form.turn(it.value))
 
 
-# A text of at most this many characters may have a typing error.
+# The largest length of a text in which typing errors are tried.
 MOST_TYPED = 24
 CHARACTERS = [bytes([it]) for it in range(0x20, 0x7F)]
 

@@ -65,12 +65,12 @@ def handles(scene: Scene) -> Reason:
     return with_others(scene, handle, Reason(rule, words, at=at))
 
 
-# The largest number of existing entities of the same kind that are listed.
+# The largest number of listed entities that have the same kind as a missing one.
 MOST_OTHERS = 8
 
 
 def with_others(scene: Scene, handle: int, found: Reason) -> Reason:
-    """Adds the existing entities of the same kind as the missing one."""
+    """Adds the existing entities that have the same kind as the missing one."""
     model, past = scene.model, scene.past
     held = sorted({*model.sessions, *model.objects, *model.indices})
     kind = [it for it in held if first_byte(it) == first_byte(handle)]

@@ -17,9 +17,9 @@ def joined(*parts: bytes) -> bytes:
 
 
 class Ingredients(NamedTuple):
-    """`code` comes before the Names in cpHash; `auth_value` is empty if it is not in the key. The
-    last fields say how the parts are combined: into the key, the text of cpHash, cpHash, the HMAC's
-    text and the HMAC.
+    """The ingredients of an HMAC. `code` precedes the Names in cpHash; `auth_value` is empty if it
+    is not in the key. The last fields combine the parts: into the key, the text of cpHash, cpHash,
+    the HMAC's text and the HMAC.
     """
 
     algorithm: int
@@ -60,7 +60,7 @@ class Ingredients(NamedTuple):
 
 @dataclass
 class Use:
-    """A session's entry in its command: its position, from 1, and what it authorizes, if
+    """A session's entry in its command: its position, counted from 1, and what it authorizes, if
     anything.
     """
 
@@ -103,8 +103,8 @@ class Use:
 
     @property
     def was_bound(self) -> bool:
-        """Whether the session was started bound to the entity that the entry authorizes, even if
-        the binding has ended since.
+        """Whether the session was started bound to the entity that the entry authorizes, even if it
+        is no longer bound.
         """
         if self.begun is None or self.is_policy or self.handle is None:
             return False
@@ -113,21 +113,22 @@ class Use:
 
     @property
     def is_bound_now(self) -> bool:
-        """Whether the session is bound to the authorized entity with the entity's current value."""
+        """Whether the session is still bound to the authorized entity, whose value has not changed.
+        """
         return self.handle is not None and self.scene.model.is_bound(self.session, self.handle)
 
     @property
     def has_unshown_binding(self) -> bool:
-        """Whether a bound value is in the session's key, and the entry carries a password instead
-        of an HMAC with that key.
+        """Whether the session's key contains the value of a bind entity, but the entry contains a
+        password instead of an HMAC with that key.
         """
         is_told = self.is_policy and self.entry.demand == policy.PASSWORD
         return is_told and bool(self.session.bind_auth) and not self.is_bound_now
 
     @property
     def has_unshown_value(self) -> bool:
-        """Whether the authorized entity has a value, and a policy does not require the caller to
-        know it.
+        """Whether the authorized entity has a value that the caller did not have to know, since a
+        policy authorizes.
         """
         is_asked = self.takes_value or self.is_bound_now
         return self.handle is not None and bool(self.auth_value) and not is_asked
@@ -205,7 +206,7 @@ def key_words(use: Use) -> str:
 
 @dataclass(frozen=True)
 class Otherwise:
-    """A mistake in a caller's encryption, and the parameters that the caller would have meant."""
+    """A mistake in a caller's encryption, and the parameters that the caller then meant."""
 
     name: str
     words: str
@@ -213,7 +214,8 @@ class Otherwise:
 
 
 def decrypting_use(scene: Scene) -> Use | None:
-    """Returns the entry whose session decrypts, if the command's first parameter is complete."""
+    """Returns the entry whose session decrypts, if the first parameter of the command is complete.
+    """
     found = scene.known.with_attribute(DECRYPT) if scene.known else None
     if found is None:
         return None

@@ -40,8 +40,7 @@ from tpmsim.records import is_state_text
 
 
 def called(installed: str, here: str) -> str:
-    """Returns the name by which a program was called: the installed one, or its path in the
-    clone.
+    """Returns the name by which a program was called: the installed name, or its path in the clone.
     """
     return installed if pathlib.Path(sys.argv[0]).name == installed else here
 
@@ -66,8 +65,8 @@ class Asked:
 
 
 def tried_of(word: str) -> bytes:
-    """Returns a value to try: a text's bytes, or those after `hex:`; raises Usage if these are not
-    hex.
+    """Returns a value to try: the bytes of a text, or those that follow `hex:`; raises Usage if
+    these are not hex.
     """
     if not word.startswith("hex:"):
         return word.encode()
@@ -141,7 +140,7 @@ def said_of(asked: Asked, told: list[Event], play: Play, counts: text.Counts) ->
 
 
 def tell(words: str) -> None:
-    """Prints words. The reader may close the output before the end."""
+    """Prints words. The reader of the output may close it before the end."""
     try:
         sys.stdout.buffer.write(words.encode("utf-8") + b"\n")
         sys.stdout.buffer.flush()

@@ -1,4 +1,4 @@
-"""Other forms of a Name that a caller may have used instead of the Name: a table."""
+"""Other forms of a Name that a caller may have used instead of the Name, as a table."""
 
 from typing import Callable, NamedTuple
 
@@ -6,7 +6,7 @@ from tpmsim.standard import sized
 
 
 class NameForm(NamedTuple):
-    """A form of the Names in cpHash; an empty Name is not a form."""
+    """A form of the Names in cpHash. An empty Name is not a form."""
 
     name: str
     words: str
@@ -14,7 +14,9 @@ class NameForm(NamedTuple):
 
 
 def of_digest(turn: Callable[[bytes], bytes]) -> Callable[[bytes], bytes]:
-    """Returns a form for Names that contain a digest, but not for a handle that is its own Name."""
+    """Returns a form that applies only to Names with a digest, and not to a handle that is its own
+    Name.
+    """
     return lambda name: turn(name) if len(name) > 4 else b""
 
 

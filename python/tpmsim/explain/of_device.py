@@ -1,4 +1,6 @@
-"""Why a device in Python refused a command, from the commands and responses so far, as a log."""
+"""Explains why a device in Python refused a command, from a log of the commands and responses so
+far.
+"""
 
 from tpmsim.device import KeptDevice, Transport
 from tpmsim.device.base import Executed, line
@@ -7,8 +9,8 @@ from tpmsim.explain.play import Event, Play
 
 
 def log_of(device: Transport) -> bytes:
-    """Returns the log of a device. For a kept device it is the journal: all events since power-on,
-    from any holder.
+    """Returns the log of a device. For a kept device it is the journal, with all events since
+    power-on, from any holder.
     """
     if isinstance(device, KeptDevice):
         return device.journal()
@@ -29,7 +31,7 @@ def lines_of(device: Transport) -> list[str]:
 
 def why_refused(log: bytes) -> str:
     """Returns why the last refused command of a log was refused; empty if none was. If a response
-    is not the model's, reports only that, since nothing is known from there on.
+    differs from the model's, returns only that difference, since the model is no longer reliable.
     """
     refused: Event | None = None
     for event in Play().events(log):

@@ -1,4 +1,4 @@
-"""The reasons, with numbers, for refusals by the own checks of commands on NV indices."""
+"""Explains, with numbers, the refusals by the own checks of commands on NV indices."""
 
 from tpmsim.explain.reason import Check, Look, said
 from tpmsim.explain.words import bytes_words, flag_words, plural

@@ -1,4 +1,4 @@
-"""The reasons, with numbers, for refusals by the own checks of commands on objects."""
+"""Explains, with numbers, the refusals by the own checks of commands on objects."""
 
 from tpmsim.explain import ingredients
 from tpmsim.explain.own_nv import too_long, wrong_policy
@@ -95,7 +95,7 @@ def key_size(look: Look) -> None:
 
 
 def misread(look: Look) -> None:
-    """Names a slip in the encryption, if it makes inSensitive valid."""
+    """Names a mistake in the caller's encryption, if it explains an invalid inSensitive."""
     for other in ingredients.otherwise(look.scene):
         size = int.from_bytes(other.plain[:2], "big")
         try:

@@ -1,6 +1,5 @@
-"""A log as a page to look at: the page of the device itself (docs/WEB.md), with the log and the
-findings about it. The page plays the log, so it contains the log's text, but no state and no
-fields.
+"""A log as a page to view: the page of the device (docs/WEB.md), with the log and the findings
+about it. The page itself plays the log, so it contains the log's text, but no state and no fields.
 A log is data in the page, which its script shows only as text. So no log can close the element that
 contains it, or be parsed as markup.
 """
@@ -18,12 +17,12 @@ from tpmsim.explain.text import Counts, ends_words, layer_words
 
 Value = dict[str, Any]
 
-# The page as installed, and the element that contains its log.
+# The installed page, and its element that contains the log.
 FILE = pathlib.Path(__file__).with_name("tpmsim.html")
 NO_LOG = '<script type="application/json" id="log">null</script>'
 TITLE = re.compile("<title>[^<]*</title>")
 
-# Characters that may not occur in an element of data, with their escapes in JSON.
+# Characters that must not occur in the element with the log, with their escapes in JSON.
 ESCAPES = {"<": "\\u003c", ">": "\\u003e", "&": "\\u0026"}
 
 
@@ -50,7 +49,7 @@ def of_log(name: str, play: Play, log: bytes, counts: Counts) -> str:
 
 
 def value_of(event: Event, tells_random: bool) -> Value:
-    """Returns what the page cannot find out itself, which is nothing for most accepted events."""
+    """Returns what the page cannot compute itself. For most accepted events this is nothing."""
     told: Value = {}
     if event.is_power:
         return told
@@ -86,7 +85,7 @@ def facts_value(facts: list[Fact]) -> list[list[str]]:
 
 
 def plain() -> str:
-    """Returns the page without a log, as installed, or as the repository ships it."""
+    """Returns the page without a log: the installed page, or else the one in the repository."""
     return (FILE if FILE.is_file() else DIST / FILE.name).read_text("utf-8")
 
 

@@ -1,4 +1,5 @@
-"""At which byte the parameters of a command are wrong, and what was expected there (G11)."""
+"""Finds the byte at which the parameters of a command are wrong, and what was expected there (G11).
+"""
 
 from typing import Callable, Iterable, TypeVar
 
@@ -16,8 +17,8 @@ T = TypeVar("T")
 
 
 class Trace:
-    """Where parsing stopped, what was expected and found there, and whether a structure ended
-    there.
+    """The offset where parsing stopped, what was expected and found there, and whether a structure
+    ended there.
     """
 
     def __init__(self) -> None:
@@ -36,8 +37,8 @@ class Whole(TpmsimError):
 
 
 class Traced(Parameters):
-    """Parameters that record where their parsing stops, before any effect; `base` is the offset at
-    which they start.
+    """Parameters that record where their parsing stops, before the command has any effect. They
+    start at the offset `base`.
     """
 
     def __init__(
@@ -120,7 +121,9 @@ def one_of_words(allowed: list[int], size: int) -> str:
 
 
 def read_again(scene: Scene, plain: bytes) -> tuple[Trace, str]:
-    """Returns where parsing these parameters stops, and the code, which is empty on success."""
+    """Returns where parsing of these parameters stops, and the response code, which is empty on
+    success.
+    """
     trace, command = Trace(), scene.command
     parameters = Traced(plain, scene.parameters_at, trace)
     request = Request(command.handles, parameters, scene.locality, scene.random)
@@ -170,7 +173,8 @@ def place_words(scene: Scene, field: Field | None) -> str:
 
 
 def wanted_by_code(scene: Scene, field: Field | None) -> str:
-    """Returns what the parser of a field expected, judged by the code with which it refused."""
+    """Returns what the parser of a field expected, judging from the response code of the refusal.
+    """
     if scene.name == "RESERVED_BITS":
         named = nv.NAMED if scene.code == CC.NV_DefineSpace else objects.NAMED
         return f"no bit but those of {named:08x}"
@@ -200,7 +204,7 @@ IN_PARAMETERS = {
 
 
 def misread(scene: Scene, found: Reason) -> None:
-    """Names how the caller encrypted, if the parameters are well formed only for that way."""
+    """Names a mistake in the caller's encryption, if it explains the malformed parameters."""
     use = ingredients.decrypting_use(scene)
     if use is None:
         return

@@ -1,4 +1,4 @@
-"""The events before a command: when each value was set, and what policies assert."""
+"""The events before a command: when each value was set, and which assertions policies contain."""
 
 from __future__ import annotations
 
@@ -23,7 +23,8 @@ Banks = dict[int, list[bytes]]
 
 @dataclass(frozen=True)
 class Step:
-    """An assertion, with the PCRs that it selects, or the entity whose Name it contains."""
+    """An assertion in the log, with the PCRs that it selects, or the entity whose Name it contains.
+    """
 
     line: int
     said: Said
@@ -37,7 +38,7 @@ class Step:
 
     @property
     def place(self) -> int:
-        """The position, among the assertion's values, of the PCRs' digest or of the Name."""
+        """The position of the PCRs' digest or of the Name among the assertion's values."""
         return 0 if self.selected is None else 1
 
     @property
@@ -46,7 +47,7 @@ class Step:
         return bytes(self.said.values[self.place]) if has_given else b""
 
     def but(self, given: bytes) -> Step:
-        """Returns the assertion with another Name, or with another digest of the PCRs."""
+        """Returns the assertion with a different Name, or with a different digest of the PCRs."""
         values = *self.said.values[: self.place], given, *self.said.values[self.place + 1 :]
         return replace(self, said=Said(self.code, values))
 
@@ -76,7 +77,7 @@ def step_of(line: int, command: Command, plain: bytes, model: Model, names: list
 
 
 def said_words(code: CC, handles: list[int], plain: bytes) -> str:
-    """Returns an assertion as written in a line, without the session and the entries."""
+    """Returns an assertion as a `do` line contains it, without the session and the entries."""
     fields = Fields(plain)
     words = [handle_words(it) for it in handles if not is_policy(it)]
     said = " ".join([code.name, *words, *lines.parameter_words(code, fields)])
@@ -85,7 +86,7 @@ def said_words(code: CC, handles: list[int], plain: bytes) -> str:
     return said
 
 
-# Why a policy starts over after a use.
+# Why a policy starts over after the session is used.
 USED = "which it authorized: each use needs new assertions"
 
 WRITES_PCR = CC.PCR_Extend, CC.PCR_Event, CC.PCR_Reset
@@ -101,7 +102,9 @@ class Since:
 
 @dataclass
 class Begun:
-    """A live session: its starting line, its assertions, and the data of its earlier entries."""
+    """A live session: the line that started it, its assertions, and the data of its earlier
+    entries.
+    """
 
     session: Session
     line: int
@@ -139,7 +142,7 @@ class Moved:
 
 
 class Past:
-    """The earlier values, by handle; the oldest comes first in each list."""
+    """The earlier values of each handle, the oldest first."""
 
     def __init__(self, model: Model) -> None:
         self.model = model
@@ -168,7 +171,7 @@ class Past:
         self, line: int, command: Command, plain: bytes, answered: int | None, names: list[bytes]
     ) -> None:
         """Notes an accepted command. `answered` is the handle that it returned; `names` are the
-        Names before it.
+        Names before the command.
         """
         name = command.code.name
         if command.code in (*WRITES_PCR, CC.Clear) and command.handles[0] != frames.RH_NULL:
@@ -193,7 +196,7 @@ class Past:
                     self.sessions[entry.handle].restart(line, f"{name}, {USED}")
 
     def note_value(self, command: Command, plain: bytes, answered: int | None) -> None:
-        """Notes an authorization value as it was given, with its trailing zeros."""
+        """Notes an authorization value as it was sent, with its trailing zeros."""
         fields = Parameters(plain)
         if command.code in (CC.HierarchyChangeAuth, CC.NV_ChangeAuth):
             self.untrimmed[command.handles[0]] = fields.sized(frames.COMMAND_BYTES)

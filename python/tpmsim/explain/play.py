@@ -1,4 +1,4 @@
-"""A played log: each event with its outcome, and the reason for it."""
+"""Plays a log: the outcome of each event, and the reason for it."""
 
 import re
 from collections import deque
@@ -34,12 +34,12 @@ class Difference:
 
 @dataclass
 class Event:
-    """An event of a log; at a power cycle its scene has no buffer. It holds why the command was
+    """An event of a log. At a power cycle its scene has no buffer. It contains why the command was
     refused, what else is reported about it, and where the log's responses differ; `answers` is the
-    number of responses in the log. If it is examined as a whole, `entries` holds the ingredients of
-    the HMACs, by position, and `answered` the decrypted response parameters. `comments` holds the
-    paragraphs of comments before it. With `completes` the completing layer was present: `layer`
-    says what it did, if anything, and `own` is the outcome of the device itself.
+    number of responses in the log. If it is examined as a whole, `entries` contains the ingredients
+    of the HMACs, by position, and `answered` the decrypted response parameters. `comments` contains
+    the paragraphs of comments before it. With `completes`, the completing layer was present:
+    `layer` says what it did, if anything, and `own` is the outcome of the device itself.
     """
 
     line: int
@@ -117,15 +117,14 @@ class Event:
 
 
 class Answers:
-    """The lines printed by `tpmsim run`, if they are given."""
+    """The lines that `tpmsim run` printed, if they are available."""
 
     def __init__(self, text: bytes | None) -> None:
         self.is_given = text is not None
         self.left = deque((text or b"").decode("latin-1").splitlines())
 
     def power(self) -> None:
-        """Takes the line `power` of a trace; without a trace nothing is printed for a power
-        cycle.
+        """Reads the line `power` of a trace. Without a trace, nothing is printed for a power cycle.
         """
         if self.left and self.left[0] == "power":
             self.left.popleft()
@@ -155,21 +154,21 @@ def reason_of(scene: Scene) -> Reason:
 
 
 class Watched:
-    """An observed device; explains a refusal if `explains` returns true for its scene."""
+    """An observed device. A refusal is explained if `explains` returns true for its scene."""
 
     def __init__(
         self, model: Model, explains: Callable[[Scene], bool] = lambda scene: True
     ) -> None:
         self.explains = explains
         self.line, self.at, self.is_whole = 0, -1, False
-        # Values that the user tries in a refused HMAC, password or policy.
+        # Values that the user asked to try in a refused HMAC, password or policy.
         self.tried: tuple[bytes, ...] = ()
         self.event: Event | None = None
         self.layer, self.contexts = Completion(), Contexts()
         self.put(model)
 
     def put(self, model: Model) -> None:
-        """Observes this device from now on; nothing is known about its past."""
+        """Observes this device from now on. Nothing is known about its past."""
         self.model, self.past = model, Past(model)
         for it in (self.authorize, self.answered_parameters, self.plain_parameters):
             setattr(model, it.__name__, it)
@@ -196,7 +195,7 @@ class Watched:
         return self.judged()
 
     def execute(self, buffer: bytes, locality: int, random: bytes, elapsed: int) -> Outcome:
-        """Executes a command on the device, without judging it yet."""
+        """Executes a command on the device; `judged` explains the outcome afterwards."""
         scene = Scene(self.model, self.past, self.line, buffer, locality, random, elapsed)
         scene.tried = self.tried
         event = self.event = Event(self.line, scene)
@@ -205,7 +204,7 @@ class Watched:
         return outcome
 
     def judged(self) -> Event:
-        """Returns the event, with why the device refused it, or what it did."""
+        """Returns the event, with the reason why the device refused it, or what it did."""
         event, scene = self.now, self.now.scene
         assert event.outcome is not None
         if not event.refused:
@@ -219,7 +218,7 @@ class Watched:
         return event
 
     def completed(self, buffer: bytes, locality: int, random: bytes, elapsed: int) -> Event:
-        """Executes a command with the completing layer, which may respond itself, and place the
+        """Executes a command with the completing layer, which may respond itself, or place the
         object of a context.
         """
         told = buffer, locality, random, elapsed
@@ -229,13 +228,13 @@ class Watched:
             return self.judged()
         event.layer, event.own = done.did, done.own
         if not done.own.refused:
-            self.judged()  # the device did it
+            self.judged()  # the device itself executed the command
         event.outcome, event.scene.refused = done.outcome, done.outcome.refused or ""
         self.note_context(event, done)
         return event
 
     def note_context(self, event: Event, done: Completed) -> None:
-        """Notes a saved context, or why a command with the layer is refused."""
+        """Notes a saved context, or the reason why the layer refuses a command."""
         asked, bound = asked_of(event.scene.buffer), (self.model, self.layer.start)
         if not event.refused:
             if asked is not None and asked.code == CONTEXT_SAVE:
@@ -289,8 +288,8 @@ def of_layer(done: Completed, more: str = "") -> Reason:
 class Play(Watched):
     """A device that plays the lines of a log. `bad_line` is the number of a bad line, and `fault`
     says why playing stopped. `damages` lists what is wrong with heads, and `cuts` the parts of
-    records that a crash cut off. `watch` is called with each event immediately, while the device is
-    in the state after the event.
+    records that a crash cut off. `watch` is called with each event at once, while the device is in
+    the state after the event.
     """
 
     def __init__(
@@ -300,8 +299,8 @@ class Play(Watched):
         at: int | None = None,
         is_whole: bool = False,
     ) -> None:
-        """Raises image.Fault if the image is neither an image nor a state text. Examines as a whole
-        the line `at`, or with `is_whole` each line.
+        """Raises image.Fault if the image is neither an image nor a state text. The event in the
+        line `at`, or with `is_whole` each event, is examined as a whole.
         """
         begun = Opened(Model(), Completion()) if image is None else opened(image)
         super().__init__(begun.device)
@@ -326,7 +325,7 @@ class Play(Watched):
                 yield event
 
     def step(self, step: records.Step) -> Event | None:
-        """Plays a step, and returns its event, if it is an event."""
+        """Plays a step, and returns its event, if there is one."""
         self.line = step.line
         if isinstance(step, records.Command):
             return self.shown(self.told(step), step.text)
@@ -362,7 +361,7 @@ class Play(Watched):
         return event
 
     def comment(self, words: str) -> None:
-        """Takes a line of a comment, or an empty line, which ends a paragraph."""
+        """Adds a line of a comment to its paragraph. An empty line ends the paragraph."""
         if words and self.comments:
             self.comments[-1] = f"{self.comments[-1]} {words}".strip()
         elif words:
@@ -371,8 +370,9 @@ class Play(Watched):
             self.comments.append("")
 
     def begin(self, step: records.Begin) -> Event | None:
-        """Takes the device of a head. If it is the device of the log so far, it continues: after a
-        power cycle, if the head holds an image, or a state text that says so.
+        """Continues with the device of a head. If the log's device so far is the same one, it
+        continues: after a power cycle if the head contains an image, or a state text after a power
+        cycle.
         """
         is_first = self.event is None
         if step.damage:
@@ -389,7 +389,7 @@ class Play(Watched):
         return self.shown(event, b"power")
 
     def is_same(self, step: records.Begin, is_first: bool) -> bool:
-        """Whether the head's device is the observed one."""
+        """Whether the device of a head is the observed one."""
         is_same = goes_on(self.model, step.content)
         if is_first and self.given is not None and not is_same:
             words = "the device in the log is another one than that of --image"

@@ -1,4 +1,4 @@
-"""Which condition of a policy session does not hold, and why its digest differs."""
+"""Finds which condition of a policy session does not hold, and why its digest differs."""
 
 from typing import Sequence
 
@@ -42,7 +42,7 @@ def policy_lacks(use: Use) -> str:
 
 
 def difference(use: Use, wanted: bytes, found: Reason) -> str:
-    """Returns the difference as text, with facts, as far as it can be seen."""
+    """Returns the difference as text, and adds facts, as far as the log shows it."""
     if use.begun is None:
         return "Its session began before the log, which may lack some of its assertions."
     steps = use.begun.told
@@ -56,7 +56,7 @@ def difference(use: Use, wanted: bytes, found: Reason) -> str:
     return from_outside(use, steps, wanted, found)
 
 
-# If the expected digest was made earlier in this log.
+# The expected digest was made earlier in this log.
 
 
 def from_earlier(use: Use, steps: Sequence[Step], earlier: Made, found: Reason) -> str:
@@ -117,7 +117,7 @@ def step_words(use: Use, own: Step, its: Step, earlier: Made, found: Reason) -> 
 
 
 def when_words(use: Use, own: Step, its: Step) -> str:
-    """Returns when the PCRs had the values in the expected digest."""
+    """Returns when the PCRs had the values that are in the expected digest."""
     between = sorted((own.line, its.line))
     lines = [it.line for it in use.scene.past.moves if between[0] < it.line < between[1]]
     if not lines:
@@ -127,7 +127,9 @@ def when_words(use: Use, own: Step, its: Step) -> str:
 
 
 def moved(use: Use, step: Step, then: Banks, found: Reason) -> str:
-    """Returns which of the selected PCRs had another value then, and which commands wrote them."""
+    """Returns which of the selected PCRs had different values then, and adds the commands that
+    wrote them.
+    """
     past, said = use.scene.past, []
     now = past.told_banks.get(step.line, use.scene.model.banks)
     for bank, pcr in [(bank, pcr) for bank, pcrs in step.selected or [] for pcr in pcrs]:
@@ -141,11 +143,13 @@ def moved(use: Use, step: Step, then: Banks, found: Reason) -> str:
     return listed(dict.fromkeys(said)) + "." if said else "in what PolicyPCR was given."
 
 
-# If the expected digest was made outside this log.
+# The expected digest was made outside this log.
 
 
 def from_outside(use: Use, steps: Sequence[Step], wanted: bytes, found: Reason) -> str:
-    """Returns what makes the expected digest, as text, or how much was tried."""
+    """Returns the mistake that explains the expected digest, as text, or how many digests were
+    tried.
+    """
     search = policy_slips.Search(use, steps, wanted)
     told = search.told()
     if not told:
@@ -165,7 +169,8 @@ MAKES_IT = " it would match"
 
 
 def together(told: Sequence[str]) -> str:
-    """Returns the sentence for one slip, or for two slips that combine, without its full stop."""
+    """Returns the sentence for one mistake, or for two that occur together, without its full stop.
+    """
     if len(told) == 1:
         return told[0].removesuffix(".")
     slips, _, rests = zip(*(it.rpartition(MAKES_IT) for it in told))

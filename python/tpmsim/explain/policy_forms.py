@@ -1,4 +1,4 @@
-"""Wrong ways to assemble the hashed text of an assertion: a table."""
+"""A table of wrong ways to assemble the text that is hashed for an assertion."""
 
 from dataclasses import dataclass
 from typing import Any, Callable, Iterator
@@ -14,8 +14,8 @@ from tpmsim.standard import CC, digest, digest_bytes, number, sized
 
 @dataclass(frozen=True)
 class Text:
-    """A row: a name, words, and a function from the previous digest to the next, which returns None
-    if the row does not apply to this assertion.
+    """A row of the table: a name, words, and a function from the previous digest to the next, which
+    returns None if the row does not apply to this assertion.
     """
 
     name: str
@@ -24,8 +24,8 @@ class Text:
 
 
 def pcr_text(parts: Callable[[int, bytes, bytes], bytes | None]) -> Any:
-    """Returns a row for PolicyPCR: `parts` makes what follows the command code, from the selection
-    and the digest.
+    """Returns the function of a PolicyPCR row. `parts` makes the text after the command code, from
+    the selection and the digest.
     """
 
     def link(step: Step, update: Update, algorithm: int, old: bytes) -> bytes | None:
@@ -54,7 +54,7 @@ def without_reference(algorithm: int, update: Update, old: bytes) -> bytes | Non
 
 
 def old_before_or(algorithm: int, update: Update, old: bytes) -> bytes | None:
-    """Continues a PolicyOR from the digest before it."""
+    """Makes a PolicyOR hash the digest before it."""
     return (
         digest(algorithm, old + number(update.code, 4) + update.about) if update.forgets else None
     )
@@ -65,7 +65,7 @@ def or_without_zeros(algorithm: int, update: Update, old: bytes) -> bytes | None
 
 
 def unhashed_arguments(algorithm: int, update: Update, old: bytes) -> bytes | None:
-    """Uses PolicyNV's operand, offset and operation instead of their hash."""
+    """Uses PolicyNV's operand, offset and operation, and not their hash."""
     if not update.apart:
         return None
     name = update.about[digest_bytes(algorithm) :]
@@ -158,7 +158,7 @@ def of_texts(use: Use, place: int, step: Step) -> Iterator[Turned]:
 
 
 def of_pcr_digests(use: Use, place: int, step: Step) -> Iterator[Turned]:
-    """Yields assertions with the PCR values hashed by the other hash, or not hashed."""
+    """Yields assertions in which the other hash algorithm hashes the PCR values, or none does."""
     algorithm, selected, past = use.session.algorithm, step.selected or [], use.scene.past
     states = [past.told_banks.get(step.line, use.scene.model.banks)]
     states += [banks for _, banks in reversed(past.pcr_states)]

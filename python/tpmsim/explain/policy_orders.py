@@ -1,5 +1,5 @@
-"""Finds out which assertions a policy has, and in which order: one may be missing, added or
-repeated, or they may be in another order.
+"""Finds which assertions a policy contains, and in which order. One may be missing, added or
+repeated, or they may be in a different order.
 """
 
 from __future__ import annotations
@@ -16,13 +16,13 @@ from tpmsim.explain.words import listed
 from tpmsim.policies.written import Said
 from tpmsim.standard import CC, policy
 
-# With more assertions than this, one is moved, but not two.
+# With more assertions than this, only one is moved; otherwise all orders are tried.
 MOST_ORDERED = 5
 
 
 @dataclass(frozen=True)
 class Item:
-    """An assertion with its words, and its position if it is one of the session's assertions."""
+    """An assertion with its words, and its position if the session made it."""
 
     link: Link
     words: str
@@ -41,8 +41,8 @@ def items_of(algorithm: int, steps: Sequence[Step]) -> Items:
 
 
 def arrangements(items: Items, missing: Sequence[Item]) -> Iterator[Arranged]:
-    """Yields arrangements with one mistake each; `missing` are the assertions that may be
-    missing.
+    """Yields arrangements of the assertions with one mistake each. `missing` contains the
+    assertions that may be missing.
     """
     yield from without(items)
     yield from orders(items)
@@ -51,7 +51,7 @@ def arrangements(items: Items, missing: Sequence[Item]) -> Iterator[Arranged]:
 
 
 def others(items: Items, missing: Sequence[Item]) -> Iterator[Arranged]:
-    """Yields arrangements that keep the order."""
+    """Yields arrangements with one mistake each, which is not the order."""
     yield from without(items)
     yield from with_another(items, missing)
     yield from twice(items)
@@ -64,7 +64,7 @@ def without(items: Items) -> Iterator[Arranged]:
 
 
 def twice(items: Items) -> Iterator[Arranged]:
-    """Yields arrangements that repeat one assertion, or start from an empty digest, not from
+    """Yields arrangements that repeat one assertion, or that start from an empty text instead of
     zeros.
     """
     for at, it in enumerate(items):
@@ -86,7 +86,7 @@ def orders(items: Items) -> Iterator[Arranged]:
 
 
 def moves(items: Items) -> Iterator[Arranged]:
-    """Yields arrangements with one assertion at another position."""
+    """Yields arrangements in which one assertion is at a different position."""
     seen = {tuple(range(len(items)))}
     for at in range(len(items)):
         left = [it for it in range(len(items)) if it != at]

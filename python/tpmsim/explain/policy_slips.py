@@ -1,8 +1,8 @@
-"""Common slips in a policy digest that was made elsewhere: finds those that make exactly the
-expected digest.
+"""Common mistakes ("slips") in a policy digest that was computed elsewhere: finds those that make
+exactly the expected digest.
 
-A digest is a chain of links, one for each assertion. A slip changes one link (policy_values.py,
-policy_forms.py), or which links there are and their order (policy_orders.py). Two slips are also
+A digest is a chain of links, one for each assertion. A mistake changes one link (policy_values.py,
+policy_forms.py), or the set or the order of the links (policy_orders.py). Two mistakes are also
 tried together.
 """
 
@@ -20,17 +20,16 @@ from tpmsim.explain.policy_values import Turned
 from tpmsim.explain.slip import Told
 from tpmsim.standard import digest_bytes
 
-# The largest number of links that are computed for the digests of each search, with one slip and
-# with two.
+# The largest number of links that are computed in each search, with one mistake and with two.
 MOST_LINKS, MOST_PAIRED = 50_000, 200_000
 
-# The number of possibly missing assertions that are tried together with another slip.
+# The number of possibly missing assertions that are tried together with another mistake.
 LIKELY = 4
 
 
 class Search:
-    """Searches for slips that make an expected digest from a session's assertions. It counts its
-    tries, and stores the PCRs of a slip in their values.
+    """Searches for mistakes that make an expected digest from a session's assertions. Counts the
+    tried digests, and stores the changed assertion that it found.
     """
 
     def __init__(self, use: Use, steps: Sequence[Step], wanted: bytes) -> None:
@@ -58,7 +57,7 @@ class Search:
         return self.one_turned(self.items, self.alternatives)
 
     def one_turned(self, items: Items, those: Sequence[Turned]) -> list[Told]:
-        """Tries one of these changed assertions."""
+        """Tries these changed assertions, one at a time."""
         self.tried += 1
         before = digests_before(self.zeros, items)
         places = {it.place: at for at, it in enumerate(items) if it.place is not None}
@@ -73,7 +72,7 @@ class Search:
         return self.two_turned() or self.turned_and_arranged() or self.two_arranged()
 
     def two_turned(self) -> list[Told]:
-        """Tries two changed assertions."""
+        """Tries two changed assertions at a time."""
         until = self.tried + self.most_paired
         for at, first in enumerate(self.alternatives):
             if self.tried >= until:
@@ -85,8 +84,8 @@ class Search:
         return []
 
     def turned_and_arranged(self) -> list[Told]:
-        """Tries one changed assertion together with one mistake in which assertions there are, or
-        in their order.
+        """Tries one changed assertion together with one mistake in the set or the order of the
+        assertions.
         """
         until = self.tried + self.most_paired
         for items, told in arrangements(self.items, self.missing[:LIKELY]):
@@ -98,7 +97,9 @@ class Search:
         return []
 
     def two_arranged(self) -> list[Told]:
-        """Tries two mistakes in which assertions there are; one of them may be in the order."""
+        """Tries two mistakes in the set or the order of the assertions, at most one of them in the
+        order.
+        """
         likely = self.missing[:LIKELY]
         counted = ((it, arrangements(it[0], likely)) for it in others(self.items, likely))
         ordered = ((it, others(it[0], likely)) for it in orders(self.items))
@@ -110,7 +111,7 @@ class Search:
 
 
 def digests_before(begin: bytes, items: Items) -> list[bytes]:
-    """Returns the digest before each of these items."""
+    """Returns the digests before, between and after these assertions."""
     found = [begin]
     for it in items:
         found.append(it.link(found[-1]))
@@ -122,7 +123,7 @@ def with_link(items: Items, turned: Turned) -> Items:
 
 
 def alternatives(use: Use, steps: Sequence[Step]) -> Iterator[Turned]:
-    """Yields each assertion with a change, the most likely changes first."""
+    """Yields the assertions with one change each, the most likely changes first."""
     ways = policy_values.of_values, policy_forms.of_texts, policy_values.of_tried
     return chain.from_iterable(
         way(use, place, step) for way in ways for place, step in enumerate(steps)

@@ -1,5 +1,5 @@
-"""An assertion of a policy with other values: other PCR values, Names, or values that the user
-tries.
+"""An assertion of a policy with different values: different PCR values, Names, or values that the
+user asked to try.
 """
 
 from __future__ import annotations
@@ -18,13 +18,13 @@ from tpmsim.policies.written import Said
 from tpmsim.standard import CC, digest, frames, number, policy
 from tpmsim.standard.command_names import NAMES
 
-# The function from the digest before an assertion to the digest after it.
+# A function from the digest before an assertion to the digest after it.
 Link = Callable[[bytes], bytes]
 
 
 @dataclass(frozen=True)
 class Turned:
-    """A changed assertion, and its position."""
+    """A changed assertion, and its position in the policy."""
 
     place: int
     link: Link
@@ -45,7 +45,7 @@ def turned(use: Use, place: int, step: Step, told: Told, banks: Banks | None = N
 
 
 def of_values(use: Use, place: int, step: Step) -> Iterator[Turned]:
-    """Yields the same assertion with other values."""
+    """Yields the assertion with different values."""
     if step.selected is not None:
         yield from of_pcrs(use, place, step)
     if step.handle is not None:
@@ -80,7 +80,9 @@ def pcr_step(step: Step, selected: Sequence[Any], algorithm: int, banks: Banks) 
 
 
 def of_pcrs(use: Use, place: int, step: Step) -> Iterator[Turned]:
-    """Yields other values of the PCRs, the latest first; other banks; another PCR."""
+    """Yields an assertion about different values of the PCRs, the latest first; different banks; a
+    different PCR.
+    """
     algorithm, selected, past = use.session.algorithm, step.selected or [], use.scene.past
     now = past.told_banks.get(step.line, use.scene.model.banks)
     pairs = list(zip(past.pcr_states, [*past.pcr_states[1:], None]))
@@ -110,7 +112,9 @@ def before_words(pairs: Sequence[Any]) -> Iterator[tuple[Any, str]]:
 
 
 def other_banks(selected: Sequence[Any]) -> Iterator[list[Any]]:
-    """Yields the same PCRs in the other bank or in both; for two banks, swapped, or one of them."""
+    """Yields the same PCRs in the other bank or in both; for two banks, the banks swapped, or one
+    of them.
+    """
     if len(selected) == 1:
         bank, pcrs = selected[0]
         other = other_hash(bank), pcrs
@@ -143,7 +147,7 @@ def of_names(use: Use, place: int, step: Step, handle: int) -> Iterator[Turned]:
 
 
 def of_tried(use: Use, place: int, step: Step) -> Iterator[Turned]:
-    """Yields assertions with the user's values in each of the assertion's buffers."""
+    """Yields assertions in which one buffer is a value that the user asked to try."""
     for value in use.scene.tried:
         for at, own in enumerate(step.said.values):
             if isinstance(own, bytes):

@@ -1,5 +1,5 @@
-"""A command under examination, and why it was refused, or what is reported about it if it was
-accepted.
+"""A command that is being explained: why it was refused or, if it was accepted, what is reported
+about it.
 """
 
 import json
@@ -18,7 +18,7 @@ from tpmsim.model.object_rules import Object
 from tpmsim.model.policy_state import Session
 from tpmsim.standard import CC, frames, HEADER_BYTES, is_policy, NUMBERED, nv, values
 
-# The sentence for each check and its location in docs/table; tests/table_rules.py writes the file.
+# The sentence for each check, and its location in docs/table. tests/table_rules.py writes the file.
 RULES_FILE = pathlib.Path(__file__).with_name("rules.json")
 RULES: dict[str, list[str]] = json.loads(RULES_FILE.read_text("utf-8"))
 
@@ -31,7 +31,7 @@ SLIP = "slip"
 
 @dataclass(frozen=True)
 class Fact:
-    """A value with its label; long values are in hex."""
+    """A value with its label. Long values are in hex."""
 
     label: str
     value: str
@@ -40,8 +40,9 @@ class Fact:
 
 @dataclass
 class Reason:
-    """A check, by its key of RULES, with the findings: `slips` are the common mistakes that make
-    exactly the given bytes, and `at` is the offset of the error in the buffer.
+    """Why a command was refused: a check, by its key in RULES, with the findings. `slips` are the
+    common mistakes that make exactly the sent bytes, and `at` is the offset of the error in the
+    buffer.
     """
 
     rule: str
@@ -63,7 +64,7 @@ class Reason:
 
     @property
     def told(self) -> list[Fact]:
-        """Returns the facts, with the slips first."""
+        """Returns the facts, with the mistakes ("slips") first."""
         return sorted(self.facts, key=lambda it: it.label != SLIP)
 
     def add(self, label: str, value: str, sort: str = PLAIN) -> None:
@@ -80,9 +81,10 @@ class Reason:
 
 @dataclass
 class Scene:
-    """A command, and the model before it. `refused` is the code, such as VALUE/p1, and `elapsed` is
-    in milliseconds. `known` is the command, if the general checks passed, and `plain` its decrypted
-    parameters, if the entries passed. `tried` holds the values that the user tries everywhere.
+    """A command, and the model before it. `refused` is the response code, such as VALUE/p1, and
+    `elapsed` is in milliseconds. `known` is the command, if it passed the general checks, and
+    `plain` its decrypted parameters, if its entries were accepted. `tried` contains the values of
+    `--try`.
     """
 
     model: Model
@@ -190,7 +192,7 @@ class Look:
 
     @property
     def index(self) -> Index:
-        """Returns the index concerned: the last handle that names one."""
+        """Returns the index that the command uses: the last handle that names one."""
         return self.model.indices[[it for it in self.handles if it in self.model.indices][-1]]
 
     @property
@@ -205,12 +207,13 @@ class Look:
         return handle_words(self.handles[place])
 
     def since(self, handle: int, words: str) -> str:
-        """Returns the words with the line that made a handle's entity; empty if that is unknown."""
+        """Returns the words and the line that made a handle's entity; empty if the line is unknown.
+        """
         line = self.past.begun.get(handle, 0)
         return f"{words} {line}" if line else ""
 
     def say(self, words: str, at: str = "") -> None:
-        """Sets why the command is refused, and the wrong field of the decrypted parameters."""
+        """Sets the reason for the refusal, and the wrong field of the decrypted parameters."""
         self.found.words = words
         if at:
             fields = dissection.fields_of_command(self.scene.buffer, self.scene.plain)

@@ -1,4 +1,6 @@
-"""A caller's slip: its name, its words, and how it changes the ingredients of a hash or an HMAC."""
+"""A caller's mistake ("slip"): its name, its words, and how it changes the ingredients of a hash or
+an HMAC.
+"""
 
 from __future__ import annotations
 
@@ -15,9 +17,9 @@ Changes = Mapping[str, Any]
 
 @dataclass(frozen=True)
 class Slip:
-    """The ingredients that a slip changes. It has a name and words, or two of each if one
-    ingredient contains two mistakes. An unpaired slip is not combined with others. `turn` makes the
-    changes on ingredients that another slip has already changed, if that is possible.
+    """The changes that a mistake makes to the ingredients. It has a name and words, or two of each
+    if one ingredient contains two mistakes. An unpaired mistake is not combined with others. `turn`
+    makes the changes to ingredients that another mistake has already changed, if that is possible.
     """
 
     told: tuple[Told, ...] = ()
@@ -38,7 +40,7 @@ class Slip:
 
 
 class Row(NamedTuple):
-    """A slip that changes the correct ingredients, or the correct parts of KDFa."""
+    """A mistake in a table, which changes the correct ingredients, or the correct parts of KDFa."""
 
     name: str
     words: str

@@ -1,4 +1,4 @@
-"""Slips in cpHash: another Name, another form of the Name, other parameters, or the whole
+"""Mistakes in cpHash: another Name, another form of the Name, other parameters, or the whole
 buffer.
 """
 
@@ -17,12 +17,12 @@ from tpmsim.standard import CC, digest, digest_bytes, frames, HEADER_BYTES, name
 from tpmsim.standard import NUMBERED, nv, objects, sized
 
 
-# The number of other entities whose Names are tried together with another slip.
+# The number of other entities whose Names are tried together with another mistake.
 PAIRED_OTHERS = 8
 
 
 def renamed(use: Use, handles: Sequence[int], names: Sequence[bytes]) -> tuple[bytes, ...]:
-    """Returns the Names, with replacements for some handles wherever they occur."""
+    """Returns the command's Names, with those of the given handles replaced."""
     others = dict(zip(handles, names))
     right = use.scene.model.names(use.command)
     return tuple(others.get(at, old) for at, old in zip(use.command.handles, right))
@@ -70,7 +70,9 @@ def formed_names(use: Use, handles: list[int]) -> Iterator[Slip]:
 
 
 def made_otherwise(use: Use, handle: int) -> Iterator[Slip]:
-    """Yields wrong computations of a Name from the public area, and the Names of the ancestors."""
+    """Yields the results of wrong computations of a Name from the public area, and the Names of the
+    ancestors.
+    """
     held, said = use.scene.model.held(handle), handle_words(handle)
     if held is None:
         return
@@ -118,7 +120,7 @@ def is_parent(it: Object, held: Object) -> bool:
 
 
 def names_of_others(use: Use, handles: list[int]) -> Iterator[Slip]:
-    """Yields the Names of all other existing entities."""
+    """Yields cpHashes with the Name of another existing entity."""
     model = use.scene.model
     known = [*model.objects, *model.indices]
     for handle in handles:
@@ -129,7 +131,7 @@ def names_of_others(use: Use, handles: list[int]) -> Iterator[Slip]:
                 yield name_slip("another's Name", words, names, at < PAIRED_OTHERS)
 
 
-# Other texts that are hashed.
+# Other texts that a caller may have hashed.
 
 
 def parameters(use: Use) -> Iterator[Slip]:
@@ -156,8 +158,8 @@ def plain_parameters(use: Use) -> Iterator[Slip]:
 
 
 def whole_buffers(use: Use) -> Iterator[Slip]:
-    """Yields cpHash over the whole command: with the HMACs as zeros or left out, or without the
-    entries.
+    """Yields cpHashes over the whole command, with the HMACs replaced by zeros or left out, or
+    without the entries.
     """
     for words, text in texts_of_buffer(use):
         changes: dict[str, Any] = {"code": b"", "names": (), "parameters": text}
@@ -165,8 +167,8 @@ def whole_buffers(use: Use) -> Iterator[Slip]:
 
 
 def blank_entries(use: Use) -> Iterator[tuple[str, list[frames.Entry]]]:
-    """Yields the entries with placeholders that a caller may use for the HMAC while it computes it:
-    in all entries, or only in its own.
+    """Yields the entries with the placeholders that a caller may use for an HMAC while it computes
+    the HMAC: in all entries, or only in its own entry.
     """
     entries, size = use.command.entries or [], digest_bytes(use.session.algorithm)
     sizes = ("zeros", None), (f"{size} zeros", size), ("empty", 0)

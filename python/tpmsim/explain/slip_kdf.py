@@ -1,5 +1,5 @@
-"""The common slips in KDFa, which makes a session key: a table of a name, words, and how the parts
-change.
+"""The common mistakes in KDFa, which makes a session key, as a table: a name, words, and how the
+parts change.
 """
 
 from typing import Callable, Iterator, NamedTuple
@@ -23,7 +23,7 @@ class Kdf(NamedTuple):
 
     @property
     def key(self) -> bytes:
-        """Returns the session key that KDFa makes, which is a single block."""
+        """Returns the session key that KDFa makes. It is a single block."""
         text = self.counter + self.label + self.zero + self.newer + self.older + self.bits
         return mac(self.algorithm, self.value, text)
 
@@ -97,7 +97,7 @@ KDF_ROWS = (
 
 
 def of_kdf(right: Kdf) -> Iterator[tuple[Told, bytes]]:
-    """Yields each slip in a session key made from the correct parts, and the resulting key."""
+    """Yields each mistake in a session key, and the key that it makes from the correct parts."""
     said = other_words(right.algorithm)
     for row in KDF_ROWS:
         words = "the session key was " + row.words.format(hash=said)

@@ -1,8 +1,8 @@
-"""Two slips at once in an HMAC: two that change different ingredients, or one that is applied to
+"""Two mistakes at once in an HMAC: two that change different ingredients, or one that is applied to
 the result of the other.
 
 An HMAC has three parts: its key, cpHash and the rest of its text. Each part is computed once for
-each slip that changes only that part, and two parts are combined.
+each mistake that changes only that part, and the parts of two mistakes are combined.
 """
 
 from __future__ import annotations
@@ -23,8 +23,8 @@ PARTS = {
 
 
 class Turned:
-    """A slip that is tried with others; `part` is the part that it changes, if it changes only
-    one.
+    """A mistake that is combined with others; `part` is the part that it changes, if it changes
+    only one.
     """
 
     def __init__(self, slip: Slip, right: Ingredients) -> None:
@@ -39,7 +39,9 @@ class Turned:
 
 
 def hmacs_of(those: Sequence[Slip], right: Ingredients) -> Iterator[tuple[Slip, Slip, bytes]]:
-    """Yields two slips, the inner one first, and the resulting HMAC; the likely ones come first."""
+    """Yields two mistakes, the inner one first, and the HMAC that they make. Likely pairs come
+    first.
+    """
     turned = [Turned(it, right) for it in those]
     for first, second in combinations(turned, 2):
         if first.names.isdisjoint(second.names):
@@ -51,7 +53,7 @@ def hmacs_of(those: Sequence[Slip], right: Ingredients) -> Iterator[tuple[Slip, 
 
 
 def together(first: Turned, second: Turned, right: Ingredients) -> bytes:
-    """Returns the HMAC for two slips that change different ingredients."""
+    """Returns the HMAC for two mistakes that change different ingredients."""
     parts = first.part, second.part
     if "" in parts or parts[0] == parts[1]:
         return right._replace(**first.slip.changes, **second.slip.changes).hmac
@@ -63,7 +65,9 @@ def together(first: Turned, second: Turned, right: Ingredients) -> bytes:
 
 
 def upon(inner: Turned, outer: Turned) -> Ingredients | None:
-    """Applies the outer slip to the inner slip's result, if both change one ingredient."""
+    """Applies the outer mistake to the inner one's result; None if they change different
+    ingredients.
+    """
     if inner is outer or outer.slip.turn is None or inner.names.isdisjoint(outer.names):
         return None
     changes = outer.slip.turn(inner.made)

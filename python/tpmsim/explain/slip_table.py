@@ -1,4 +1,4 @@
-"""The common slips in the parts of an HMAC: a table of a name, words, and how the ingredients
+"""The common mistakes in the parts of an HMAC, as a table: a name, words, and how the ingredients
 change.
 """
 
@@ -10,7 +10,7 @@ from tpmsim.standard import digest, number, sized
 from tpmsim.standard.sessions import mac
 
 
-# Other ways to combine the parts.
+# Other ways to combine the parts of an HMAC.
 
 
 def value_first(session_key: bytes, auth_value: bytes) -> bytes:
@@ -63,8 +63,7 @@ def as_hex(data: bytes) -> bytes:
 
 
 def without_size(parameters: bytes) -> bytes:
-    """Returns the parameters without the size of their first buffer, if they start with a
-    buffer.
+    """Returns the parameters without the size of their first buffer, if they begin with a buffer.
     """
     size = int.from_bytes(parameters[:2], "big")
     return parameters[2:] if 0 < size <= len(parameters) - 2 else parameters
@@ -73,7 +72,7 @@ def without_size(parameters: bytes) -> bytes:
 ORDER = "the HMAC is over cpHash, nonceCaller, nonceTPM and the attributes, in this order"
 
 ROWS = (
-    # Two nonces.
+    # Mistakes with the two nonces.
     Row(
         "nonces swapped",
         "nonceTPM was put before nonceCaller, which is a response's order; a command has nonceCaller "
@@ -107,7 +106,7 @@ ROWS = (
         "nonceCaller was zeros, and not the one that the entry has",
         lambda it: {"newer": bytes(len(it.newer))},
     ),
-    # The attributes.
+    # Mistakes with the attributes.
     Row(
         "attributes left out",
         "the attributes were left out of the HMAC, where they are the last byte",
@@ -128,7 +127,7 @@ ROWS = (
         f"cpHash comes after all else; {ORDER}",
         lambda it: {"message_of": cp_hash_last},
     ),
-    # The key.
+    # Mistakes with the key.
     Row(
         "session key left out",
         "the session key was left out: a bound session has one",
@@ -139,7 +138,7 @@ ROWS = (
         "the authValue comes before the session key in the key; the session key is first",
         lambda it: {"key_of": value_first},
     ),
-    # cpHash.
+    # Mistakes with cpHash.
     Row(
         "response's hash",
         "the parameters were hashed as a response's: 00000000 before the command code, and no Names",
@@ -223,7 +222,7 @@ ROWS = (
         "the HMAC has cpHash as the text of its hex",
         lambda it: {"cp_hash_of": then(it.cp_hash_of, as_hex)},
     ),
-    # The hashes.
+    # Mistakes with the hash algorithms.
     Row("wrong hash", "cpHash was made {hash}", by_other("hash_algorithm")),
     Row("wrong hash", "the HMAC was made {hash}", by_other("algorithm")),
     Row(
@@ -241,7 +240,7 @@ ROWS = (
         "it is the HMAC of the hash of the text, and not of the text",
         lambda it: {"mac_of": mac_of_hash},
     ),
-    # The nonces of other sessions.
+    # Mistakes with the nonces of other sessions.
     Row(
         "other nonces left out",
         "the nonceTPM of the session that decrypts or encrypts was left out",
@@ -267,8 +266,8 @@ ROWS = (
 
 
 def of_rows(right: Ingredients) -> Iterator[Slip]:
-    """Yields the slips of the table. A row that changes nothing here makes the correct HMAC, and so
-    explains nothing.
+    """Yields the mistakes of the table. A row that changes nothing here makes the correct HMAC, so
+    it explains nothing.
     """
     said = other_words(right.algorithm)
     for row in ROWS:

@@ -1,4 +1,6 @@
-"""Slips in the key of an HMAC: another authorization value, another form of it, another session key."""
+"""Mistakes in the key of an HMAC: another authorization value, another form of it, or another
+session key.
+"""
 
 from typing import Any, Callable, Iterator
 
@@ -11,7 +13,7 @@ from tpmsim.explain.words import bytes_words, handle_words
 from tpmsim.standard import RH_NULL, trimmed
 
 
-# The number of other entities whose values are tried together with another slip.
+# The number of other entities whose values are tried together with another mistake.
 PAIRED_OTHERS = 4
 
 
@@ -62,8 +64,8 @@ def new_value(use: Use) -> bytes:
 
 
 def values_put_in(use: Use) -> Iterator[Slip]:
-    """For an entry that authorizes nothing, yields the values of the command's handles and of the
-    bind entity.
+    """Yields the values of the command's handles and of the bind entity, for an entry that
+    authorizes nothing.
     """
     bind = [] if use.begun is None else [use.begun.bind]
     for handle in dict.fromkeys([*use.scene.handles, *bind]):
@@ -75,14 +77,14 @@ def values_put_in(use: Use) -> Iterator[Slip]:
 
 
 def told_forms(value: bytes) -> Iterator[tuple[tuple[Told, ...], bytes, bool]]:
-    """Yields a value in each form, and whether that is a single form."""
+    """Yields a value in each form, and whether only one form was applied."""
     for it in forms_of(value):
         told = tuple((f"authValue {form.name}", form.words) for form in it.forms)
         yield told, it.value, it.is_single
 
 
 def worded(told: tuple[Told, ...], begin: str) -> tuple[Told, ...]:
-    """Returns the words for each form, preceded by the words for the value in that form."""
+    """Returns the words for each form, after words that say where the value was used."""
     return tuple((name, f"{begin} {words}") for name, words in told)
 
 
@@ -108,12 +110,15 @@ def of_others(use: Use) -> Iterator[Slip]:
         yield value_slip("another's authValue", words, value, at < PAIRED_OTHERS)
 
 
-# The block size of both hashes, to which an HMAC's key is padded with zeros.
+# The block size of both hash algorithms, to which keys are padded with zeros; and the largest size
+# that is tried.
 BLOCK, MOST_PADDED = 64, 128
 
 
 def zeros(use: Use) -> Iterator[Slip]:
-    """Trailing zeros of a key matter only if it is longer than a block; leading zeros always do."""
+    """Yields the value with zeros. Trailing zeros change an HMAC only if its key is longer than a
+    block; leading zeros always do.
+    """
     value = use.auth_value if use.takes_value else b""
     if not value:
         return
@@ -151,11 +156,11 @@ def mistyped(use: Use) -> Iterator[Slip]:
                 yield Slip.of("authValue mistyped", words, False, **changes)
 
 
-# The session key.
+# Mistakes with the session key.
 
 
 def kdf_of(use: Use) -> Kdf | None:
-    """Returns the parts of the session key, if there is one and its start is known."""
+    """Returns the parts of the session key, if there is a key and the log shows its start."""
     begun, session = use.begun, use.session
     if begun is None or not session.key:
         return None
@@ -196,7 +201,7 @@ def session_keys(use: Use) -> Iterator[Slip]:
 
 
 def keys_made(use: Use) -> Iterator[Slip]:
-    """Yields keys for an unbound session, whose correct key is empty."""
+    """Yields session keys for an unbound session, whose correct key is empty."""
     begun = use.begun
     if begun is None or begun.bind != RH_NULL:
         return
@@ -227,11 +232,11 @@ def bind_values(use: Use) -> Iterator[tuple[bytes, str]]:
             yield value, f"the authValue of {handle_words(handle)}, and it is bound to {said}"
 
 
-# Values that the user tries.
+# Values that the user asked to try.
 
 
 def tried(use: Use) -> Iterator[Slip]:
-    """Yields each value in every position, and as an authorization value in each form."""
+    """Yields each `--try` value in every position, and as an authorization value in each form."""
     names, kdf = use.right().names, kdf_of(use)
     for value in use.scene.tried:
         said = f"the tried value, {bytes_words(value)},"

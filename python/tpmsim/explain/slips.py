@@ -1,6 +1,7 @@
-"""Finds the common slips of a caller that make exactly the HMAC that it sent: one slip, or two.
+"""Finds a caller's common mistakes ("slips") that make exactly the HMAC that it sent: one mistake,
+or two.
 
-A slip is reported only if its HMAC is the one that was sent. The tables of slips are in
+A mistake is reported only if it makes the HMAC that was sent. The tables of mistakes are in
 slip_table.py, slip_kdf.py, name_forms.py and forms.py; slip_pairs.py tries two at once.
 """
 
@@ -17,24 +18,24 @@ from tpmsim.explain.words import attribute_words, plural, size_words
 from tpmsim.standard import CONTINUE_SESSION, DECRYPT, digest_bytes, ENCRYPT, HASH_WORDS, number
 from tpmsim.standard import trimmed
 
-# The largest number of single slips that are tried, and of pairs. Each of them costs one HMAC.
+# The largest number of single mistakes that are tried, and of pairs. Each of them costs one HMAC.
 MOST_ALONE, MOST_PAIRS = 10_000, 100_000
 
-# The number of old nonces that are tried together with another slip, and the number of a session's
-# nonces that are tried at all, in addition to its first one.
+# The number of old nonces that are tried together with another mistake, and the number of nonces of
+# a session that are tried at all, in addition to its first one.
 PAIRED, MOST_NONCES = 3, 100
 
-# A shorter value would be the beginning of too many HMACs.
+# The least size of a cut HMAC; the beginnings of too many HMACs would equal a shorter one.
 LEAST_CUT = 4
 
 
-# The hint about values that the user can still try.
+# The hint that the user can try more values.
 TRY = "--try VALUE tries one that the log does not have, as another PIN"
 
 
 @dataclass
 class Found:
-    """The slips that explain an HMAC, and how many were tried singly and in pairs."""
+    """The mistakes that explain an HMAC, and the numbers of mistakes and pairs that were tried."""
 
     told: list[Told] = field(default_factory=list)
     alone: int = 0
@@ -47,8 +48,8 @@ class Found:
 
 
 def found(use: Use) -> Found:
-    """Returns the slips that make the HMAC that was sent. Sending a whole command again is also a
-    slip.
+    """Returns the mistakes that make the HMAC that was sent. Sending a whole command again is also
+    a mistake.
     """
     if not use.entry.hmac:
         words = "the HMAC was left out, which is right only where the key is empty"
@@ -67,7 +68,7 @@ def found(use: Use) -> Found:
 
 
 class Search:
-    """A search for what makes an HMAC, which counts what it tries."""
+    """A search for the mistakes that make an HMAC. It counts what it tries."""
 
     def __init__(self, use: Use) -> None:
         self.use, self.given, self.found = use, use.entry.hmac, Found()
@@ -79,7 +80,7 @@ class Search:
         return explained or plain_value(use) or another_size(use)
 
     def one(self, right: Ingredients, those: Iterable[Slip]) -> list[Told]:
-        """Returns the first slip whose HMAC equals, contains or is part of the HMAC that was
+        """Returns the first mistake whose HMAC equals, contains or is part of the HMAC that was
         sent.
         """
         for slip in chain([Slip()], islice(those, MOST_ALONE)):
@@ -93,7 +94,7 @@ class Search:
         return []
 
     def part_words(self, made: bytes) -> str:
-        """Returns how the given HMAC is a part of this one, or this one a part of it."""
+        """Returns how the sent HMAC or `made` is a part of the other one; empty if neither is."""
         given, algorithm = self.given, self.use.session.algorithm
         has = f"{size_words(len(given))}, and one by {HASH_WORDS[algorithm]} has "
         has += str(digest_bytes(algorithm))
@@ -114,7 +115,7 @@ class Search:
 
 
 def kept(those: Iterator[Slip], tried: list[Slip]) -> Iterator[Slip]:
-    """Yields the same slips, and stores those that may be paired."""
+    """Yields the mistakes unchanged, and stores those that may be combined with others."""
     for it in those:
         if it.is_paired:
             tried.append(it)
@@ -122,7 +123,7 @@ def kept(those: Iterator[Slip], tried: list[Slip]) -> Iterator[Slip]:
 
 
 def slips(use: Use) -> Iterator[Slip]:
-    """Yields all slips, the most likely ones first."""
+    """Yields all single mistakes, the most likely ones first."""
     yield from old_nonces(use)
     yield from slip_values.auth_values(use)
     yield from slip_values.session_keys(use)
@@ -171,7 +172,7 @@ def old_nonces(use: Use) -> Iterator[Slip]:
 
 
 def other_attributes(use: Use) -> Iterator[Slip]:
-    """Yields all other attributes. The words say if a set is that of the previous entry."""
+    """Yields all other attributes. The words say which attributes the previous entry had."""
     last = use.begun.last_attributes if use.begun else None
     own = use.entry.attributes
     sent = f"sent were {attribute_words(own)}"
@@ -185,7 +186,7 @@ def other_attributes(use: Use) -> Iterator[Slip]:
 
 
 def others(use: Use) -> Iterator[Slip]:
-    """Yields the nonces of the sessions that decrypt and encrypt, in the first entry; other
+    """Yields the nonces of the sessions that decrypt and encrypt, in the first entry; and other
     sessions.
     """
     model, right = use.scene.model, use.right().others

@@ -59,13 +59,13 @@ class Counts:
 
 
 def name_of(event: Event) -> str:
-    """Returns the command's name, whether the device implements the command or not."""
+    """Returns the command's name, even if the device does not implement the command."""
     return command_name(event.scene.number) or "A command"
 
 
 def of_log(events: list[Event], play: Play) -> Iterator[str]:
-    """Yields the lines about a log. Differences from the model come first, since they make the rest
-    unreliable.
+    """Yields the lines about a log. Differences from the model come first, since everything after
+    them is unreliable.
     """
     for words in play.damages:
         yield from (words, "")
@@ -88,7 +88,7 @@ def cut_words(play: Play) -> list[str]:
 
 
 def ends_words(play: Play) -> list[str]:
-    """Returns sentences about what is wrong with the log's heads and ends."""
+    """Returns sentences about what is wrong with the log's heads and with its end."""
     return [f"{it[0].upper()}{it[1:]}." for it in (*play.damages, *cut_words(play))]
 
 

@@ -1,6 +1,6 @@
-"""Encryption with an authorization value that nobody had to show. The TPM compares nothing, so
-anyone who has the ciphertext can test guesses of the value without the device, and no guess counts
-as a failed try (docs/table/lockout.md).
+"""Encryption with an authorization value that the caller did not have to know. The TPM compares
+nothing, so anyone who has the ciphertext can test guesses of the value without the device, and no
+guess counts as a failed try (docs/table/lockout.md).
 """
 
 from tpmsim.standard import DECRYPT, ENCRYPT
@@ -9,7 +9,8 @@ OFFLINE = "Whoever knows the text can test guesses of the value offline, without
 
 
 def encrypts(attributes: int) -> str:
-    """Returns what a session with these attributes does to a parameter; empty if nothing."""
+    """Returns what a session with these attributes does to a parameter; empty if it does nothing.
+    """
     if attributes & ENCRYPT:
         return "encrypts an answer to"
     return "decrypts a parameter of" if attributes & DECRYPT else ""

@@ -53,7 +53,9 @@ def algorithm_words(number: int) -> str:
 
 
 def handle_words(handle: int) -> str:
-    """Returns a handle as in a line; a PCR by number, and the password's handle by its meaning."""
+    """Returns a handle as it is written in a line; a PCR by its number, and the password's handle
+    by its meaning.
+    """
     if handle_kinds.is_pcr(handle):
         return f"PCR {handle}"
     return "the password" if handle == frames.RS_PW else lines.handle_word(handle)
@@ -85,7 +87,7 @@ def printable(data: bytes) -> bool:
 
 
 def bytes_words(data: bytes) -> str:
-    """Returns bytes in hex, followed by the text if they are one."""
+    """Returns bytes in hex, followed by their text if they are printable."""
     if not data:
         return "empty"
     return f'{data.hex()} "{data.decode("ascii")}"' if printable(data) else data.hex()
@@ -106,7 +108,7 @@ def listed(words: Iterable[str]) -> str:
 
 
 def bit_words(value: int, names: dict[int, str]) -> str:
-    """Returns the names of the set bits; bits without a name are in hex."""
+    """Returns the names of the set bits, and in hex the bits without a name."""
     found = [name for bit, name in names.items() if value & bit]
     others = value & ~sum(names)
     if others:

@@ -1,4 +1,6 @@
-"""TPM2_GetCapability: what the device has and is (TPM 2.0 Library, Part 3, section 30.2)."""
+"""TPM2_GetCapability, which lists what the device contains and supports (TPM 2.0 Library, Part 3,
+section 30.2).
+"""
 
 from tpmsim.model.general import Answer, Refusal
 from tpmsim.model.parameters import Held, integer, Request, takes
@@ -51,7 +53,7 @@ class Commands(Held):
         return Answer(more + number(capability, 4) + number(len(given), 4) + b"".join(given))
 
     def elements(self, capability: int, wanted: int) -> list[bytes]:
-        """Returns all elements from the requested one on, in their order."""
+        """Returns all elements of a capability from the requested one on, in order."""
         if capability == HANDLES:
             return [number(it, 4) for it in self.handles_from(wanted)]
         if capability == COMMANDS:
@@ -78,7 +80,7 @@ class Commands(Held):
             # Sessions of all types, in the order of their slots.
             by_place = sorted((it & PLACE_BITS, it) for it in self.sessions)
             return [handle for at, handle in by_place if at >= wanted & PLACE_BITS]
-        # This kind requests saved sessions, and the device never saves any.
+        # This kind requests saved sessions. The device never saves a session.
         if kind == POLICY_SESSION:
             return []
         if kind not in held:

@@ -1,6 +1,6 @@
-"""The completing layer above the device: what it answers where the device by design does not
-(docs/USING.md). The context of an object holds the object; the context of a session is a token for
-the session, which stays in the device.
+"""The completing layer above the device, which answers commands that the device by design does not
+support (docs/USING.md). The context of an object contains the object; the context of a session is a
+token for the session, which stays in the device.
 """
 
 from __future__ import annotations
@@ -24,10 +24,10 @@ OWN_COMMANDS = {
 }
 MOST_STIRRED = 128
 
-# A code that the device has no use for.
+# A response code that only the layer returns.
 OWN_CODES = {"TOO_MANY_CONTEXTS": 0x12E}
 
-# A command of TPM 1.2, and what the device answers it.
+# The tag of a TPM 1.2 command, and the device's response to it.
 OF_FAMILY_1, BAD_TAG = 0xC1, frames.HEADER.pack(0xC4, 10, 0x1E)
 
 ALGORITHMS = {
@@ -36,16 +36,17 @@ ALGORITHMS = {
 }
 OF_ALGORITHMS, OF_PCR_PROPERTIES = 0, 7
 
-# The PCRs, each a bit, that a TPM2_Shutdown(STATE) saves (0); that may be extended from each locality (1, 3,
-# ..) and reset from it (2, 4, ..); that do not count (11); and with a policy (13) or a value (14).
+# PCR properties, with a bit for each PCR: it is saved by TPM2_Shutdown(STATE) (0); it may be
+# extended from each locality (1, 3, ..) and reset from it (2, 4, ..); its changes are not counted
+# (11); it has a policy (13) or an authorization value (14).
 PCR_PROPERTIES = {
     **{0x00: 0x00FFFF, 0x01: 0x81FFFF, 0x02: 0x810000, 0x03: 0x81FFFF, 0x04: 0x810000},
     **{0x05: 0xFFFFFF, 0x06: 0x810000, 0x07: 0xFFFFFF, 0x08: 0x810000, 0x09: 0xFFFFFF},
     **{0x0A: 0xFF0000, 0x11: 0, 0x13: 0, 0x14: 0},
 }
 
-# The capabilities that the device refuses, and of which the layer has an empty list: physical presence,
-# the audit of commands, and elliptic curves.
+# The capabilities that the device refuses and for which the layer returns an empty list: physical
+# presence, the audit of commands, and elliptic curves.
 EMPTY = (3, 4, 8)
 
 LISTS = {
@@ -98,7 +99,7 @@ def asked_of(buffer: bytes) -> Asked | None:
 
 
 def numbers_of(parameters: bytes, count: int) -> list[int] | None:
-    """Returns `count` numbers of four bytes; None if the parameters are not exactly that."""
+    """Returns `count` numbers of four bytes; None if the parameters have any other size."""
     if len(parameters) != 4 * count:
         return None
     fields = Fields(parameters)
@@ -115,8 +116,8 @@ def told(outcome: Outcome, parameters: bytes = b"") -> Outcome:
 
 
 def names_session(context: bytes) -> bool:
-    """Returns whether the savedHandle of a context, which comes after the sequence, is a session's.
-    Every other context is read as an object's.
+    """Returns whether the savedHandle of a context, which follows the sequence, is a session's.
+    Every other context is parsed as an object's.
     """
     fields = Fields(context)
     try:
@@ -127,8 +128,9 @@ def names_session(context: bytes) -> bool:
 
 
 class Completion:
-    """What the layer remembers of a device since a start, by whose number it knows its contexts:
-    the sequence of the last context, and for each saved session the sequence of its context.
+    """What the layer remembers about a device: the number of its start, by which it recognizes its
+    contexts; the sequence of the last context; and for each saved session the sequence of its
+    context.
     """
 
     def __init__(self, start: int = 0) -> None:
@@ -137,21 +139,22 @@ class Completion:
 
     @classmethod
     def of(cls, numbers: Layer) -> Self:
-        """The layer whose numbers a state text has."""
+        """Returns the layer that a state text describes."""
         made = cls(numbers.start)
         made.count, made.sessions = numbers.count, list(numbers.sessions)
         return made
 
     @property
     def numbers(self) -> Layer:
-        """Those that a state text has."""
+        """The layer's numbers in a state text."""
         return Layer(self.start, self.count, list(self.sessions))
 
     def execute(
         self, device: Model, event: tuple[bytes, int, bytes, int], execute: Execute, place: Place
     ) -> Completed:
-        """A command with the layer: its buffer, locality, random bytes and milliseconds. `execute`
-        has the device execute it, and `place` has the device place the object of a context.
+        """Executes a command with the layer. `event` is its buffer, locality, random bytes and
+        milliseconds. `execute` executes it on the device, and `place` places the object of a
+        context there.
         """
         own = execute(*event)
         self.forget(device)
@@ -166,7 +169,7 @@ class Completion:
         place = handle & PLACE_BITS
         return self.sessions[place] if place < SESSIONS else 0
 
-    # Answers after the device's.
+    # Answers of the layer.
 
     def reply(self, device: Model, buffer: bytes, own: Outcome, place: Place) -> Completed:
         stands, asked = Completed(own, own), asked_of(buffer)
@@ -214,7 +217,9 @@ class Completion:
     def listed(
         self, device: Model, wanted: list[int], own: Outcome
     ) -> list[tuple[int, bytes]] | None:
-        """The elements of a list that is the layer's, each with the number by which it is asked for."""
+        """Returns the elements of a list that the layer makes, each with its number in requests;
+        None for other lists.
+        """
         if own.refused:
             return self.unserved(wanted[0]) if own.refused == "VALUE/p1" else None
         if wanted[0] == capability.COMMANDS:
@@ -227,7 +232,7 @@ class Completion:
 
     @staticmethod
     def unserved(wanted: int) -> list[tuple[int, bytes]] | None:
-        """The elements of a list that the device refused."""
+        """Returns the elements of a list that the device refused."""
         if wanted == OF_ALGORITHMS:
             return [(it, number(it, 2) + number(told, 4)) for it, told in ALGORITHMS.items()]
         if wanted == OF_PCR_PROPERTIES:
@@ -241,7 +246,7 @@ class Completion:
         return Counts(len(device.sessions) - saved, saved, objects)
 
     def handles(self, device: Model, kind: int) -> list[tuple[int, bytes]] | None:
-        """Those of sessions that are loaded (02) or saved (03)."""
+        """Returns the handles of loaded (kind 02) or saved (kind 03) sessions."""
         if kind not in (frames.HMAC_SESSION, frames.POLICY_SESSION):
             return None
         is_saved = kind == frames.POLICY_SESSION
@@ -252,7 +257,7 @@ class Completion:
     # Contexts.
 
     def token(self, handle: int, sequence: int) -> bytes:
-        """The context of a session."""
+        """Returns the context of a session."""
         token = TOKEN + number(self.start, 8) + number(handle, 4)
         return number(sequence, 8) + number(handle, 4) + number(RH_NULL, 4) + sized(token)
 
@@ -277,7 +282,7 @@ class Completion:
         return self.saved_as(device, handle, own)
 
     def saved_as(self, device: Model, handle: int, own: Outcome) -> Completed:
-        """Saves an object, or a session that is loaded, with the next sequence."""
+        """Saves an object or a loaded session, with the next sequence."""
         self.count += 1
         if handle in device.objects:
             text = contexts.sealed(device, self.start, self.count, device.objects[handle])

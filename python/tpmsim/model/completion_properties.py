@@ -1,5 +1,5 @@
-"""The properties that the completing layer lists (TPM 2.0 Library, Part 2, sections 6.13, 8.6 and 8.7).
-The comments have the names of the standard, without TPM_PT_.
+"""The properties that the completing layer lists (TPM 2.0 Library, Part 2, sections 6.13, 8.6 and
+8.7). The comments contain the standard's names without TPM_PT_.
 """
 
 from dataclasses import dataclass
@@ -26,7 +26,7 @@ LIMITS = {
     **{0x112: len(PCRS), 0x113: 3},  # PCR_COUNT, PCR_SELECT_MIN
     0x114: 2**32 - 1,  # CONTEXT_GAP_MAX: a saved context never gets too old
     **{0x116: nv_commands.INDICES, 0x117: nv_commands.INDEX_BYTES},  # NV_COUNTERS_MAX, NV_INDEX_MAX
-    0x118: 0,  # MEMORY: none is shared
+    0x118: 0,  # MEMORY: no memory is shared
     # CONTEXT_HASH, CONTEXT_SYM, CONTEXT_SYM_SIZE: of an object's context
     **{0x11A: SHA256, 0x11B: AES, 0x11C: frames.AES_KEY_BITS},
     **{0x11E: COMMAND_BYTES, 0x11F: COMMAND_BYTES},  # MAX_COMMAND_SIZE, MAX_RESPONSE_SIZE
@@ -42,17 +42,17 @@ TOTAL_COMMANDS, LIBRARY_COMMANDS = 0x129, 0x12A
 # NV_WRITE_RECOVERY, AUDIT_COUNTER_0 and 1.
 NOTHING = {0x20C: 0, 0x20D: 0, 0x212: 0, 0x213: 0, 0x214: 0}
 
-# TPMA_PERMANENT: what says that a value is set, and the rest.
+# Bits of TPMA_PERMANENT: those that say that an authorization value is set, and the others.
 VALUES_SET = {RH_OWNER: 1, RH_ENDORSEMENT: 2, RH_LOCKOUT: 4}
 DISABLE_CLEAR, IN_LOCKOUT, TPM_GENERATED_EPS = 0x100, 0x200, 0x400
 
-# TPMA_STARTUP_CLEAR: phEnable, shEnable, ehEnable and phEnableNV; and orderly.
+# Bits of TPMA_STARTUP_CLEAR: phEnable, shEnable, ehEnable and phEnableNV; and orderly.
 ENABLED, ORDERLY = 0xF, 0x8000_0000
 
 
 @dataclass(frozen=True)
 class Counts:
-    """How many sessions are loaded, how many are saved, and how many transient objects there are."""
+    """The numbers of loaded sessions, of saved sessions, and of transient objects."""
 
     loaded: int
     saved: int
@@ -83,7 +83,7 @@ def counted(device: Model, counts: Counts) -> dict[int, int]:
 
 
 def properties(device: Model, counts: Counts, own_commands: int) -> dict[int, int]:
-    """All of them; the parameters of lockout are those that the device lists itself."""
+    """Returns all properties. The parameters of lockout are those that the device itself lists."""
     commands = len(CC) + own_commands
     of_device = {it: int.from_bytes(told, "big") for it, told in device.properties().items()}
     own = IDENTITY | LIMITS | counted(device, counts) | NOTHING

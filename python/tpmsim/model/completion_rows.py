@@ -1,5 +1,5 @@
-"""The commands of the completing layer that need no context (TPM 2.0 Library, Part 3, sections 10.3, 10.4,
-15.4 and 30.3). Each gives what it answers after the header.
+"""The commands of the completing layer that need no context (TPM 2.0 Library, Part 3, sections
+10.3, 10.4, 15.4 and 30.3). Each function returns the bytes of its response after the header.
 """
 
 from typing import Callable
@@ -14,10 +14,10 @@ from tpmsim.standard.handle_kinds import PRIMARY_HIERARCHIES
 
 INCREMENTAL_SELF_TEST, GET_TEST_RESULT, HASH, TEST_PARMS = 0x142, 0x17C, 0x17D, 0x18A
 
-# The most algorithms of a list, and no list and no fault.
+# The largest number of algorithms in a list, an empty list, and the result of successful tests.
 MOST_ALGORITHMS, NOTHING, SUCCESS = 64, number(0, 4), number(0, 4)
 
-# The tag of a ticket of a digest; and what the data begin with that a TPM signs of itself.
+# The tag of the ticket of a digest, and the first bytes of data that a TPM generates and signs.
 ST_HASHCHECK, GENERATED_VALUE = 0x8024, bytes.fromhex("ff544347")
 
 
@@ -45,7 +45,7 @@ def test_parms(device: Model, parameters: Parameters) -> bytes:
 
 
 def hash_check(device: Model, hierarchy: int, data: bytes, found: bytes) -> bytes:
-    """The ticket that a restricted key may sign the digest of the data."""
+    """Returns the ticket with which a restricted key may sign the digest, or else a NULL ticket."""
     if hierarchy == RH_NULL or data.startswith(GENERATED_VALUE):
         return frames.ticket(ST_HASHCHECK, RH_NULL, b"")
     check = mac(SHA256, device.proofs[hierarchy], number(ST_HASHCHECK, 2) + found)
@@ -71,7 +71,9 @@ ROWS: dict[int, tuple[Row, str]] = {
 
 
 def answer(device: Model, code: int, parameters: bytes) -> tuple[bytes, str, str]:
-    """What is answered after the header, the response code of a refusal, and what the layer did."""
+    """Returns the response after the header, the name of a refusal's response code, and what the
+    layer did.
+    """
     row, words = ROWS[code]
     try:
         return row(device, Parameters(parameters)), "", words

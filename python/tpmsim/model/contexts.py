@@ -1,7 +1,7 @@
 """The context of a transient object (TPM 2.0 Library, Part 1, section 30, and Part 2, section 14).
 TPM2_ContextSave returns it, and TPM2_ContextLoad loads the object from it.
 
-A context holds the whole object, encrypted. Its integrity value binds it to the proof of the
+A context contains the whole object, encrypted. Its integrity value binds it to the proof of the
 object's hierarchy, to the start of the completing layer, and to the device's count of TPM Resets.
 """
 
@@ -93,7 +93,7 @@ def key_and_iv(proof: bytes, start: int, head: Head) -> tuple[bytes, bytes]:
 
 
 def integrity(proof: bytes, binding: Binding, head: Head, cipher: bytes) -> bytes:
-    """Only an object with stClear is bound to restartCount."""
+    """Returns the integrity value. It depends on restartCount only for an object with stClear."""
     restarts = binding.restarts if head.saved_handle == ST_CLEAR else 0
     counts = number(binding.start, 8) + number(binding.resets, 4) + number(restarts, 4)
     bound = counts + number(head.sequence, 8) + number(head.saved_handle, 4)
@@ -113,7 +113,8 @@ def sealed(device: Model, start: int, sequence: int, kept: Object) -> bytes:
 
 
 def opened(device: Model, start: int, context: bytes) -> Object:
-    """Returns the object of a context; raises Fault for bytes that are not a context of it."""
+    """Returns the object of a context; raises Fault if the bytes are not a context of this device.
+    """
     fields = Fields(context)
     head = read_head(fields)
     given, cipher = parts_of(read_blob(fields))
@@ -168,7 +169,9 @@ def parts_of(blob: bytes) -> tuple[bytes, bytes]:
 
 
 def read_object(head: Head, plain: bytes) -> Object:
-    """Returns the object of a decrypted text, whose hierarchy and stClear are those of the head."""
+    """Returns the object that a decrypted text encodes. Its hierarchy and stClear must be those of
+    the head.
+    """
     fields = Parameters(plain)
     try:
         found = image.read_object(fields, image.HIERARCHIES)

@@ -1,4 +1,4 @@
-"""The checks that every command passes first (docs/table/order_of_refusals.md)."""
+"""The checks that come first for every command (docs/table/order_of_refusals.md)."""
 
 from __future__ import annotations
 
@@ -24,8 +24,8 @@ HEADER_CHECKS = "G1", "G2", "G3", "G4"
 
 
 class Refusal(TpmsimError):
-    """A refusal of a command: a code such as HASH/p1, and a check such as G11 or A1. `touched` is
-    what it counts against in dictionary attack protection, if anything.
+    """A refusal of a command: a code such as HASH/p1, and a check such as G11 or A1. `touched` says
+    which dictionary attack protection counts it as a failed try, if any.
     """
 
     def __init__(self, name: str, check: str, touched: str | None = None) -> None:
@@ -50,8 +50,8 @@ class Command:
         return [(at, *both) for at, both in enumerate(zip(entries, authorized), 1)]
 
     def others(self, place: int, handle: int | None) -> list[int]:
-        """Returns the other sessions that decrypt and encrypt, if this is the first entry and it
-        authorizes a handle.
+        """Returns the sessions of other entries that decrypt or encrypt, if this is the first entry
+        and it authorizes a handle.
         """
         if place != 1 or handle is None:
             return []
@@ -60,7 +60,7 @@ class Command:
 
     def with_attribute(self, attribute: int) -> tuple[int, Entry, int | None] | None:
         """Returns the entry that decrypts or encrypts, its number, and the handle that it
-        authorizes.
+        authorizes; None if there is none.
         """
         for place, entry, handle in self.places:
             if entry.attributes & attribute:
@@ -155,7 +155,9 @@ def check_entry(
 
 
 def decode(buffer: bytes, device: Held) -> Command:
-    """Decodes a buffer's command; raises the first refusal that needs no authorization value."""
+    """Decodes a buffer's command; raises the first refusal that does not depend on an authorization
+    value.
+    """
     fields = Fields(buffer)
     tag, code = read_header(fields, len(buffer))
     if device.started == (code == CC.Startup):

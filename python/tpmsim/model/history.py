@@ -1,9 +1,9 @@
-"""The history of a device: all that it has accepted, and everything that this determines: the
-values of its PCRs, its counters, its authorization values, and the start, key, nonce and policy of
-each session.
+"""The history of a device: everything that it has accepted, and everything that follows from that:
+the values of its PCRs, its counters, its authorization values, and the start, key, nonce and policy
+of each session.
 
-Each of these is a fold over the accepted events, the earliest first. It reads only what the events
-show of the device. The rules are those of docs/THEOREMS.md.
+Each of these is a fold over the accepted events, starting with the earliest. It uses only what the
+events show of the device. The rules are those of docs/THEOREMS.md.
 """
 
 from __future__ import annotations
@@ -70,7 +70,7 @@ class PowerCycle:
 
 @dataclass(frozen=True)
 class ObjectPlaced:
-    """The object of a context, which the completing layer loaded under this handle."""
+    """An object from a context, which the completing layer loaded with this handle."""
 
     handle: int
     placed: Object
@@ -84,7 +84,9 @@ PastEvent = Accepted | PowerCycle | ObjectPlaced
 
 @dataclass
 class Pcrs:
-    """`updates` counts writes and TPM2_Clear; `saved` holds the values at the last shutdown."""
+    """PCR values. `updates` counts their changes and TPM2_Clear; `saved` contains those at the last
+    shutdown.
+    """
 
     values: dict[int, list[bytes]] = field(default_factory=pcrs.starting_banks)
     updates: int = 0
@@ -204,7 +206,7 @@ class LiveSession:
 
 @dataclass
 class Sessions:
-    """The live sessions. The PCRs and the authorization values are those before the command."""
+    """The live sessions. `values` and `auth_values` are those before the command."""
 
     live: dict[int, LiveSession] = field(default_factory=dict)
 
@@ -239,7 +241,8 @@ class Sessions:
         return LiveSession(kind, algorithm, cipher, bound, key, nonce_tpm, starting)
 
     def roll(self, it: Accepted) -> None:
-        """Draws a new nonce of the same size for the session of each entry, in order."""
+        """Replaces the nonce of each entry's session, in order, by random bytes of the same size.
+        """
         left = it.random[it.drawn :]
         for use in it.uses:
             if use.handle != RS_PW:

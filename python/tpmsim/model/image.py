@@ -53,7 +53,7 @@ VERSION_1 = Version(1, 32, 8192, False)
 VERSION_2 = Version(2, nv_commands.INDICES, nv_commands.ALL_BYTES, True)
 VERSIONS = {it.number: it for it in (VERSION_1, VERSION_2)}
 
-# The offset of the body in an image that is written.
+# The offset of the body in an image that this module writes.
 BODY_AT = HEAD_BYTES + len(VERSION_2.limits)
 
 
@@ -76,7 +76,7 @@ def body_text(device: Model) -> bytes:
 
 
 def framed(body: bytes, version: Version = VERSION_2) -> bytes:
-    """Returns a body with its head, the limits if the version writes them, and the digest."""
+    """Returns a body with its head, the limits if the version stores them, and the digest."""
     return digested(version.number, version.limits + body)
 
 
@@ -96,7 +96,9 @@ def hierarchies_text(device: Model) -> bytes:
 
 
 def lockout_text(lockout: Lockout) -> bytes:
-    """The two times are not written, since a power cycle restarts them."""
+    """Encodes dictionary attack protection, without its two times, since a power cycle restarts
+    them.
+    """
     names = "failed_tries", "max_tries", "recovery_time", "lockout_recovery"
     numbers = b"".join(number(getattr(lockout, it), 4) for it in names)
     return numbers + number(lockout.is_closed, 1)
@@ -136,7 +138,8 @@ def indices_text(device: Model) -> bytes:
     return text
 
 
-# Reading. A fault in the body is one of these, or a refusal by a parser of command parameters.
+# Reading. In the body, a failed `check` is a fault, and so is a refusal by a parser of command
+# parameters.
 
 
 def check(holds: bool) -> None:
@@ -175,7 +178,9 @@ def open_image(text: bytes, block_cipher: aes.BlockCipher = encrypt_block) -> Mo
 
 
 def goes_on(device: Model, text: bytes) -> bool:
-    """Whether an image is of this device. A later clock is allowed, and is then taken over."""
+    """Whether an image is of this device. Its clock may be later; the device then continues from
+    that clock.
+    """
     found, clock = open_image(text), device.clock
     device.clock = found.clock
     if image(device) == image(found):

@@ -44,14 +44,14 @@ HANDLE_KINDS = {
 }
 PLACE_BITS = 0xFF_FFFF
 
-# The response to a command for which allocation fails, MEMORY, and the name of the check in its
+# The response MEMORY to a command for which allocation fails, and the name of that check in a
 # trace.
 STARVED, MEMORY_CHECK = frames.refusal(0x904), "M"
 
 
 @dataclass(frozen=True)
 class Row:
-    """A command's code, or 0 if its header is refused, and the name of the check, or `ok`."""
+    """A command's code, or 0 if its header is refused; and the check that refused it, or `ok`."""
 
     code: int
     check: str
@@ -82,7 +82,7 @@ class Model(
     capability.Commands,
 ):
     """The device. It calls `tell` with each accepted event. It is manufactured with 256 bytes, and
-    uses the block cipher of aes_tables.py unless another one is given.
+    uses the block cipher of aes_tables.py unless another is passed.
     """
 
     def __init__(
@@ -153,7 +153,7 @@ class Model(
 
     @staticmethod
     def tell(event: PastEvent) -> None:
-        """Has no effect unless it is replaced."""
+        """Called with each accepted event. Does nothing by default."""
 
     def accepted(
         self,
@@ -163,7 +163,9 @@ class Model(
         answer: Answer,
         random: bytes,
     ) -> Accepted:
-        """Returns the event of a command, after its effect; the Names are those before it."""
+        """Returns the event of a command that has taken effect. The Names are those before the
+        effect.
+        """
         goes_on = frames.CONTINUE_SESSION
         uses = [
             history.Use(it.handle, bool(it.attributes & goes_on), handle is not None)
@@ -199,7 +201,7 @@ class Model(
         return held.auth_value if held else self.auth_values.get(handle, b"")
 
     def protection(self, handle: int) -> str | None:
-        """Returns what wrong authorization values for a handle count against, if anything."""
+        """Returns which protection counts wrong authorization values for a handle, if any."""
         if handle == RH_LOCKOUT:
             return protection.LOCKOUT_AUTH
         held = self.held(handle)
@@ -254,8 +256,8 @@ class Model(
         return session.key + self.auth_value(handle)
 
     def touched(self, entry: Entry, handle: int | None) -> str | None:
-        """Returns what a wrong entry counts against: the protection of the value that the entry
-        uses, or of the value from which the session's key was made.
+        """Returns which protection counts a wrong entry: that of the value that the entry uses, or
+        of the value from which the session's key was made.
         """
         if handle is not None and self.uses_auth_value(entry, handle) and self.protection(handle):
             return self.protection(handle)
@@ -319,7 +321,7 @@ class Model(
         nonces = entry.nonce, session.nonce_tpm
         return sessions.first_decrypted(*given, *nonces, command.parameters, self.block_cipher)
 
-    # Responses, which are made after the effect.
+    # Responses, which are encoded after the command's effect.
 
     def success(self, command: Command, answer: Answer, random: bytes) -> bytes:
         if command.entries is None:
@@ -333,7 +335,9 @@ class Model(
         return frames.success(parameters, entries, answer.handle)
 
     def end_use(self, entry: Entry, handle: int | None) -> None:
-        """Ends a session, or restarts its policy, which is valid for one authorization."""
+        """Ends a session, or restarts its policy if it authorized, since a policy is valid for one
+        authorization.
+        """
         if entry.handle == RS_PW:
             return
         if not entry.attributes & frames.CONTINUE_SESSION:
@@ -366,15 +370,15 @@ class Model(
             return frames.entry_answer()
         session = self.sessions[entry.handle]
         hmac = b""
-        # The response to an empty hmac, accepted with an empty key, is empty; so is that to a
-        # password.
+        # An empty hmac, which is accepted if its key is empty, is answered by an empty hmac; a
+        # password is too.
         if entry.hmac and entry.demand != policy.PASSWORD:
             answered = sessions.response_hash(session.algorithm, command.code, parameters)
             given = session.algorithm, self.key(entry, handle), answered, session.nonce_tpm
             hmac = sessions.entry_hmac(*given, entry.nonce, [], entry.attributes)
         return frames.entry_answer(session.nonce_tpm, entry.attributes, hmac)
 
-    # The commands: first their parameters, then their own checks, then the changes.
+    # The commands. Each parses its parameters, makes its own checks, and then changes the device.
 
     @takes(integer(2))
     def get_random(self, request: Request, wanted: int) -> Answer:
@@ -434,7 +438,7 @@ class Model(
         return Answer(sized(nonce_tpm), number(handle, 4), drawn=size)
 
 
-# Each command's row is the method with its name.
+# The row of each command is the method with the command's name.
 ROWS: dict[CC, Callable[[Model, Request], Answer]] = {
     it: getattr(Model, it.method_name) for it in CC
 }

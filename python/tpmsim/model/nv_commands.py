@@ -1,6 +1,6 @@
 """NV indices, and the commands that define and use them (TPM 2.0 Library, Part 1, section 37; Part
-2, section 13; Part 3, section 31). docs/table lists the choices that the standard leaves to each TPM, and
-the narrower limits of this device.
+2, section 13; Part 3, section 31). docs/table lists the choices that the standard leaves to each
+TPM, and the narrower limits of this device.
 """
 
 from dataclasses import dataclass
@@ -14,15 +14,14 @@ from tpmsim.standard.nv import Attribute, NAMED, NUMBER_BYTES, Public, READS, Ty
 # The largest number of indices, the largest total size of their data, and the largest size of one.
 INDICES, ALL_BYTES, INDEX_BYTES = 64, 16_384, 2048
 
-# The largest size of a buffer that is written, extended by or read.
+# The largest size of a buffer in TPM2_NV_Write, TPM2_NV_Extend and TPM2_NV_Read.
 BUFFER_BYTES = 1024
 
 # The largest value of a counter.
 LARGEST = 2**64 - 1
 
 
-# Attributes that a new index may not have: those that it gets only later, and those not
-# implemented.
+# Attributes that a new index may not have, because they are set only later or are not implemented.
 NOT_DEFINED = (
     Attribute.WRITTEN
     | Attribute.READLOCKED
@@ -66,7 +65,7 @@ def has_wrong_attributes(public: Public, hierarchy: int) -> bool:
         return True
     if not public.has(WRITES) or not public.has(READS):
         return True
-    # A counter never decreases, and so is not cleared.
+    # A counter never decreases, so it cannot be cleared.
     if public.kind == Type.COUNTER and public.has(Attribute.CLEAR_STCLEAR):
         return True
     return public.has(Attribute.PLATFORMCREATE) != (hierarchy == RH_PLATFORM)
@@ -93,7 +92,7 @@ def check_definition(
         raise Refusal("SIZE/p2", "A4")
     if public.index in indices:
         raise Refusal("NV_DEFINED", "A5")
-    # An index uses up its bytes even if it is not written.
+    # An unwritten index takes as much space as a written one.
     taken = sum(it.public.data_size for it in indices.values())
     if len(indices) == INDICES or taken + public.data_size > ALL_BYTES:
         raise Refusal("NV_SPACE", "A6")
@@ -127,7 +126,7 @@ def check_asker(public: Public, asker: int, by_owner: Attribute, by_platform: At
 
 
 def check_writing(public: Public, asker: int, kind: Type) -> None:
-    """Makes the checks before every change of an index; the index has to be of this type."""
+    """Makes the checks that precede every change of an index, which must have the type `kind`."""
     check_asker(public, asker, *WRITERS)
     if public.has(Attribute.WRITELOCKED):
         raise Refusal("NV_LOCKED", "A2")
@@ -238,7 +237,8 @@ class Commands(Held):
     def nv_increment(self, request: Request) -> Answer:
         asker, index = self.asked(request)
         check_writing(index.public, asker, Type.COUNTER)
-        # So a counter that is undefined and defined again does not decrease.
+        # A new counter starts at the largest value so far, so redefining a counter does not
+        # decrease it.
         old = self.largest_counter
         if index.public.has(Attribute.WRITTEN):
             old = unsigned(index.data)

@@ -44,8 +44,8 @@ class Commands(Held):
         hierarchy: int,
         locality: int,
     ) -> bytes:
-        """Returns the response of both commands: public area, creation data, their hash and
-        ticket.
+        """Returns the response of TPM2_CreatePrimary and TPM2_Create: public area, creation data,
+        their hash and ticket.
         """
         values = self.values(template.pcrs)
         data = object_rules.creation_data(template, parent, hierarchy, values, locality)

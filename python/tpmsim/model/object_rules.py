@@ -18,7 +18,7 @@ DATA_BYTES = 128
 NAME_BYTES = 34
 PRIVATE_BYTES = 256
 
-# The number of checks of a public area, which come before the checks of a sensitive area.
+# The number of checks of a public area, which precede the checks of a sensitive area.
 PUBLIC_CHECKS = 3
 
 
@@ -56,7 +56,9 @@ class Object:
 def loaded(
     public: Public, sensitive: Sensitive, hierarchy: int, parent_qualified_name: bytes
 ) -> Object:
-    """The qualified Name covers all Names above the object, and uses the object's own nameAlg."""
+    """Returns a loaded object. Its qualified Name covers all Names above it, and uses its own
+    nameAlg.
+    """
     algorithm = public.name_algorithm
     qualified = digest(algorithm, parent_qualified_name + public.name)
     return Object(public, sensitive, hierarchy, number(algorithm, 2) + qualified)
@@ -64,7 +66,9 @@ def loaded(
 
 @dataclass(frozen=True)
 class Template:
-    """The template of TPM2_CreatePrimary and TPM2_Create; `pcrs` are for the creation data."""
+    """The template of TPM2_CreatePrimary and TPM2_Create; `pcrs` selects the PCRs of the creation
+    data.
+    """
 
     values: tuple[bytes, bytes]
     public: Public
@@ -109,7 +113,7 @@ TEMPLATE = (
 def has_wrong_attributes(public: Public, parent: Object | None) -> bool:
     if public.has(Attribute.FIXED_TPM) and public.has(Attribute.ENCRYPTED_DUPLICATION):
         return True
-    # fixedTPM says that no ancestor can be duplicated, and so depends on the parent.
+    # fixedTPM says that no ancestor can be duplicated, so it depends on the parent.
     if parent is not None and not parent.public.has(Attribute.FIXED_TPM):
         if public.has(Attribute.FIXED_TPM):
             return True
@@ -124,8 +128,8 @@ def has_wrong_attributes(public: Public, parent: Object | None) -> bool:
 
 
 def checks_before(parent: Object | None) -> int:
-    """Returns the number of checks before those of a template: one if a parent has to be
-    checked.
+    """Returns the number of checks before those of a template: 1 if there is a parent to check, and
+    otherwise 0.
     """
     return 0 if parent is None else 1
 
@@ -156,7 +160,7 @@ def check_sensitive(template: Template, parent: Object | None) -> None:
 
 
 def key_bytes(template: Template) -> int:
-    """Returns the size of the generated key, 0 if the data are given."""
+    """Returns the size of the generated key, or 0 if the template contains the data."""
     public = template.public
     if template.data:
         return 0
@@ -167,7 +171,7 @@ def key_bytes(template: Template) -> int:
 
 
 def made(template: Template, key: bytes, seed_value: bytes) -> tuple[Public, Sensitive]:
-    """Returns the two areas; the field `unique` binds the public area to the sensitive area."""
+    """Returns the public area and the sensitive area; the field `unique` binds one to the other."""
     public = template.public
     data = template.data or key
     unique = digest(public.name_algorithm, seed_value + data)
@@ -176,7 +180,7 @@ def made(template: Template, key: bytes, seed_value: bytes) -> tuple[Public, Sen
 
 
 def primary(template: Template, hierarchy: int, seed: bytes) -> Object:
-    """Returns the primary object of a template and a hierarchy's seed, which is always the same."""
+    """Returns the primary object of a template and a hierarchy's seed. It is the same each time."""
     algorithm = template.public.name_algorithm
     size = digest_bytes(algorithm)
     texts = template.public.text, b"".join(map(sized, template.values))
@@ -214,7 +218,7 @@ def creation_data(
 
 
 def creation_ticket(hierarchy: int, proof: bytes, name: bytes, creation_hash: bytes) -> bytes:
-    """Returns the ticket that proves, only to this device, that it created an object of this Name
+    """Returns the ticket that proves, only to this device, that it created an object with this Name
     (Part 2, 10.7.3).
     """
     text = number(frames.ST_CREATION, 2) + name + creation_hash
@@ -225,7 +229,9 @@ def creation_ticket(hierarchy: int, proof: bytes, name: bytes, creation_hash: by
 
 
 def encrypting_key(parent: Object, name: bytes) -> bytes:
-    """Returns the key, which differs for each object, since it depends on the object's Name."""
+    """Returns the key that encrypts the sensitive area. It differs for each object, since it
+    depends on the object's Name.
+    """
     algorithm, seed = parent.public.name_algorithm, parent.sensitive.seed_value
     return kdfa(algorithm, seed, b"STORAGE", name, b"", AES_KEY_BYTES)
 

@@ -148,7 +148,9 @@ Row = Callable[[Any, Request], Answer]
 
 
 def takes(*readers: Reader) -> Callable[[Act], Row]:
-    """Sets the parsers of a command's parameters; no bytes may be left after them."""
+    """Makes a row from a function and a parser for each parameter. Refuses bytes after the last
+    one.
+    """
 
     def row_of(act: Act) -> Row:
         @functools.wraps(act)
@@ -163,7 +165,7 @@ def takes(*readers: Reader) -> Callable[[Act], Row]:
 
 
 class Held:
-    """Values by the handles of their entities. The times are in milliseconds."""
+    """The state of a device. Dictionaries have handles as keys. The times are in milliseconds."""
 
     block_cipher: BlockCipher
     started: bool

@@ -35,7 +35,7 @@ def read_persistent(fields: Parameters) -> int:
 
 
 class Commands(Held):
-    """The command, for a device with transient and persistent `objects`."""
+    """TPM2_EvictControl, for a device with transient and persistent `objects`."""
 
     @takes(read_persistent)
     def evict_control(self, request: Request, wanted: int) -> Answer:

@@ -1,4 +1,4 @@
-"""Scripts: what `tpmsim run --trace` prints for a script, line by line, and how it ends."""
+"""Scripts: the lines that `tpmsim run --trace` prints for a script, and how it ends."""
 
 import re
 from typing import Iterable
@@ -45,7 +45,9 @@ class Words:
         self.locality, self.random, self.elapsed = 0, bytes(RANDOM_BYTES), 0
 
     def take(self, line: bytes) -> bytes | None:
-        """Returns the buffer of a command's line; stores other settings. `power` is not allowed."""
+        """Returns the buffer of a command's line. Stores other settings, and returns None. Refuses
+        `power`.
+        """
         word, space, argument = line.partition(b" ")
         if len(line) > LINE_BYTES:
             raise BadLine
@@ -79,7 +81,7 @@ class Words:
 
 
 class Player(Words):
-    """A device that plays lines; `starved` lists the commands, by number, whose allocation
+    """A device that plays lines; `starved` contains the numbers of the commands whose allocation
     fails.
     """
 

@@ -1,5 +1,5 @@
-"""The policy assertions (TPM 2.0 Library, Part 3, section 23); in a trial session they may be
-false.
+"""The policy assertions (TPM 2.0 Library, Part 3, section 23). In a trial session an assertion may
+be false.
 """
 
 from tpmsim.model import nv_commands, policy_state
@@ -11,7 +11,7 @@ from tpmsim.standard import digest, digest_bytes, frames, number, NUMBERED, poli
 
 
 class Commands(Held):
-    """The commands, for a device with `sessions`, PCRs, and `indices`."""
+    """The policy commands, for a device with `sessions`, PCRs, and `indices`."""
 
     def told_to(self, request: Request) -> tuple[Session, State, int]:
         session = self.sessions[request.handles[-1]]
@@ -45,7 +45,9 @@ class Commands(Held):
         return Answer()
 
     def demanding(self, request: Request, demand: str) -> Answer:
-        """Sets what a use has to show in addition to the session; only the last demand counts."""
+        """Sets what the policy demands in the entry that uses the session; only the last demand
+        counts.
+        """
         _, told, algorithm = self.told_to(request)
         told.digest = policy.after_auth_value(algorithm, told.digest)
         told.demand = demand

@@ -56,8 +56,8 @@ class Session:
 
 @dataclass(frozen=True)
 class Use:
-    """The facts of a use that are compared with the policy. `written` is None if the entity is not
-    an NV index.
+    """The facts about a use of a session that are compared with its policy. `written` is None if
+    the entity is not an NV index.
     """
 
     code: int
@@ -71,7 +71,7 @@ class Use:
 def check_use(
     session: Session, entity: objects.Public | nv.Public | None, use: Use, place: int
 ) -> None:
-    """Refuses an entry before its hmac is checked; without an entity no policy can authorize."""
+    """Refuses an entry before its hmac is checked. If `entity` is None, no policy can authorize."""
     told = session.policy
     if session.is_trial:
         raise Refusal(f"ATTRIBUTES/s{place}", "G9")

@@ -15,9 +15,9 @@ MILLISECONDS = 1000
 
 @dataclass
 class Lockout:
-    """`failed_tries` counts those not yet forgiven. `recovery_time` and `lockout_recovery` are in
-    seconds. The two times are the milliseconds since a try was counted or forgiven, and since
-    lockoutAuth was disabled.
+    """`failed_tries` counts the failed tries that are not yet forgiven. `recovery_time` and
+    `lockout_recovery` are in seconds. `forgiving_time` and `closed_time` are the milliseconds since
+    a try was counted or forgiven, and since lockoutAuth was disabled.
     """
 
     failed_tries: int = 0
@@ -29,7 +29,7 @@ class Lockout:
     closed_time: int = 0
 
     def power_cycle(self) -> None:
-        """Restarts only the times."""
+        """Restarts only the two times."""
         self.forgiving_time = self.closed_time = 0
 
     def tick(self, elapsed: int) -> None:
@@ -66,7 +66,7 @@ class Lockout:
         return touched == LOCKOUT_AUTH and self.is_closed
 
     def count(self, touched: str | None) -> None:
-        """Counts a failed try whose value was compared."""
+        """Counts a failed try: a value was compared and was wrong."""
         if touched == TRIES and self.recovery_time:
             self.failed_tries += 1
             self.forgiving_time = 0

@@ -42,10 +42,10 @@ class Commands(Held):
     def read_clock(self, request: Request) -> Answer:
         times = number(self.time, 8) + number(self.clock, 8)
         counts = number(self.reset_count, 4) + number(self.restart_count, 4)
-        # The clock never goes back, and so is safe.
+        # The clock never goes back, so its value is always safe.
         return Answer(times + counts + b"\x01")
 
-    # A startup is a reset, or a restart or a resume of the saved state.
+    # A startup is a reset, or a restart or a resume from saved state.
 
     @takes(choice(2, (CLEAR, STATE)))
     def startup(self, request: Request, kind: int) -> Answer:

@@ -1,10 +1,10 @@
 """The state text of a device: its whole state as bytes. A device that is restored from it continues
-where the old one stopped.
+where the original device stopped.
 
 It has the frame of an image, with another magic. Its body (docs/table/state_text.md) contains what
-the device keeps without power, as in its image; what a power cycle would clear; and what the
-completing layer remembers, if there is one. State texts are written in version 2. Version 1, in
-which the layer remembers objects too, is also read.
+the device keeps without power, encoded as in its image; what a power cycle would clear; and what
+the completing layer remembers, if there is one. State texts are written in version 2. Version 1, in
+which the layer remembers objects too, can also be read.
 """
 
 from __future__ import annotations
@@ -33,7 +33,7 @@ MAGIC, VERSION = b"TPMS", 2
 VERSION_1 = 1
 VERSIONS = VERSION_1, VERSION
 
-# The meaning of a byte, by its value.
+# The protections and the demands, each at the index that encodes it.
 PROTECTIONS = None, TRIES, LOCKOUT_AUTH
 DEMANDS = None, policy.AUTH_VALUE, policy.PASSWORD
 
@@ -149,7 +149,7 @@ def open_state(
 
 
 def is_earlier(text: bytes) -> bool:
-    """Returns whether a text begins as a state text of version 1 does."""
+    """Returns whether a text begins like a state text of version 1."""
     return text.startswith(MAGIC + number(VERSION_1, 2))
 
 

@@ -9,19 +9,19 @@ from dataclasses import dataclass
 from tpmsim.standard import digest, digest_bytes, frames, HASH_WORDS, PCRS
 from tpmsim.standard.lines import bytes_of, HASHES, hex_word, JOIN, number_up_to, Wrong
 
-# The PCRs of a bank, in order, each with its value.
+# The PCRs of a bank with their values, in order.
 Pairs = tuple[tuple[int, bytes], ...]
 
 
 @dataclass(frozen=True)
 class PcrValues:
-    """For each bank its hash algorithm, and its PCRs with their values."""
+    """For each bank, its hash algorithm and its PCRs with their values."""
 
     banks: tuple[tuple[int, Pairs], ...]
 
     @property
     def selection(self) -> bytes:
-        """The encoding of the selection."""
+        """The encoding of the PCR selection."""
         return frames.selection(*((it, [pcr for pcr, _ in pairs]) for it, pairs in self.banks))
 
     def digest(self, algorithm: int) -> bytes:
@@ -31,7 +31,7 @@ class PcrValues:
 
     @property
     def word(self) -> str:
-        """The word of the values, as in a policy's text."""
+        """The values as the word of a policy's text."""
         banks = [f"{HASH_WORDS[it]}:{','.join(map(pair_word, pairs))}" for it, pairs in self.banks]
         return JOIN.decode("ascii").join(banks)
 
@@ -42,7 +42,7 @@ def pair_word(pair: tuple[int, bytes]) -> str:
 
 
 def read_values(word: bytes) -> PcrValues:
-    """Parses such a word; raises Wrong for any other word."""
+    """Parses the word of PCRs with their values; raises Wrong for any other word."""
     return PcrValues(tuple(map(read_bank, word.split(JOIN))))
 
 

@@ -1,4 +1,4 @@
-"""The policy in a file (docs/USING.md), and its steps in a session, in order."""
+"""The policy in a file (docs/USING.md), and the steps that execute it in a session, in order."""
 
 from __future__ import annotations
 
@@ -30,7 +30,8 @@ class Fault(TpmsimError):
 
 @dataclass(frozen=True)
 class Row:
-    """A line with content: its number, its indentation in steps, and its words."""
+    """A line that is not empty or a comment: its number, its indentation in steps, and its words.
+    """
 
     number: int
     depth: int
@@ -60,7 +61,8 @@ def rows_of(text: bytes) -> list[Row]:
     return [row_of(*it) for it in told]
 
 
-# The largest indentation, in steps, and why a line that opens or fills a block is misplaced.
+# The largest indentation, in steps, and the errors for a misplaced line that opens or fills a
+# block.
 MOST_STEPS = 16
 OUT_OF_PLACE = {
     EITHER: "either must come first in its block",
@@ -70,8 +72,8 @@ OUT_OF_PLACE = {
 
 
 class Reader:
-    """Reads the policy in rows. All digests in it have the size of the first one, which is in line
-    `size_line`.
+    """Reads a policy from its rows. All its digests have the size of the first one, which is in
+    line `size_line`.
     """
 
     def __init__(self, rows: list[Row]) -> None:
@@ -90,7 +92,7 @@ class Reader:
         return self.next.text if self.next else b""
 
     def take(self) -> Row:
-        """Returns the next row, and goes past it."""
+        """Returns the next row, and moves to the one after it."""
         self.at += 1
         return self.rows[self.at - 1]
 
@@ -184,7 +186,9 @@ class PolicyFile:
 
 @dataclass(frozen=True)
 class Step:
-    """An assertion. A PolicyOR has the steps of each branch; one about an entity has its Name."""
+    """The step of an assertion. A PolicyOR contains the steps of each branch; a step about an
+    entity contains its Name.
+    """
 
     code: CC
     parameters: bytes = b""
@@ -203,7 +207,7 @@ def digest_of(words: str, algorithm: int = SHA256) -> bytes:
 
 
 def steps_of(policy: Policy, algorithm: int) -> tuple[Step, ...]:
-    """Returns all steps of a policy; the first one contains the steps of its branches."""
+    """Returns all steps of a policy. If it has branches, the first step contains their steps."""
     those = [it.said.by(algorithm) for it in policy.assertions]
     steps = [Step(it.code, it.parameters, it.name) for it in those]
     if policy.branches:

@@ -1,5 +1,5 @@
 """The digest of a policy, as in an authPolicy. It is the end of a chain of texts, each of which
-starts with the hash of the previous one, as tpm_policy_meaning defines it (PolicyDigest).
+begins with the hash of the previous one, as tpm_policy_meaning defines it (PolicyDigest).
 """
 
 from __future__ import annotations
@@ -18,8 +18,8 @@ class Written:
 
 @dataclass(frozen=True)
 class Policy:
-    """Assertions, perhaps after an `either` with several branches. The line is then that of the
-    `either`.
+    """Assertions, perhaps after an `either` with several branches. In that case `line` is the line
+    of the `either`.
     """
 
     line: int = 0
@@ -45,7 +45,7 @@ def texts_after(algorithm: int, old: bytes, update: Update) -> list[bytes]:
 
 
 def digest_after(algorithm: int, texts: list[bytes]) -> bytes:
-    """Returns the digest of texts, given the latest first: the hash of the latest."""
+    """Returns the digest of a chain of texts, latest first: the hash of the latest text."""
     return digest(algorithm, texts[0]) if texts else zeros(algorithm)
 
 
@@ -64,5 +64,5 @@ def policy_texts(algorithm: int, policy: Policy) -> list[bytes]:
 
 
 def policy_digest(algorithm: int, policy: Policy) -> bytes:
-    """Returns the digest of a policy under a hash algorithm."""
+    """Returns the digest of a policy for a hash algorithm."""
     return digest_after(algorithm, policy_texts(algorithm, policy))

@@ -1,5 +1,5 @@
 """Written assertions, in the terms of tpm_policy_meaning (Expression, PolicyDigest): their words in
-docs/USING.md, the texts that they add to the digest, and the parameters that a session gets.
+docs/USING.md, the texts that they add to the digest, and the parameters of their commands.
 """
 
 from __future__ import annotations
@@ -17,7 +17,7 @@ from tpmsim.standard.lines import Wrong
 
 LOCALITIES = {b"0", b"1", b"2", b"3", b"4"}
 
-# The first bytes of the Name of an object or an index, and the size of that Name.
+# The first bytes of the Name of an object or an index, and the size of such a Name.
 HASHED_NAMES = {number(it, 2): 2 + digest_bytes(it) for it in (SHA1, SHA256)}
 
 
@@ -36,16 +36,16 @@ class Update:
 
 
 class Unsaid(TpmsimError):
-    """Why words are not an assertion."""
+    """The reason why words are not an assertion."""
 
 
 def shown(word: bytes) -> str:
-    """Returns a word in quotes, with `?` for what is not ASCII."""
+    """Returns a word in quotes, with `?` for each character that is not printable ASCII."""
     plain = "".join(chr(it) if 0x20 < it < 0x7F else "?" for it in word)
     return f'"{plain}"'
 
 
-# The value of each word; a word without a value raises Wrong.
+# Parsers of words; a word without a value raises Wrong.
 
 
 def held_to(holds: bool) -> None:
@@ -62,7 +62,7 @@ def read_index_name(word: bytes) -> bytes:
 
 
 def read_name(word: bytes) -> bytes:
-    """Parses the Name of an entity for TPM2_PolicySecret; for a hierarchy or a PCR it is the
+    """Parses the Name of an entity for TPM2_PolicySecret. The Name of a hierarchy or a PCR is its
     handle.
     """
     name = name_of(HANDLE_NAMES[word]) if word in HANDLE_NAMES else bytes_of(word)
@@ -71,7 +71,7 @@ def read_name(word: bytes) -> bytes:
 
 
 def name_word(name: bytes) -> str:
-    """Returns the word of a Name, such as OWNER; hex for others."""
+    """Returns the word of a hierarchy's Name, such as OWNER; other Names in hex."""
     hierarchies = {name_of(it): handle_word(it) for it in HIERARCHIES}
     return hierarchies.get(name) or hex_word(name)
 
@@ -97,24 +97,24 @@ def read_code(word: bytes) -> int:
 
 
 def code_word(code: int) -> str:
-    """Returns the name of a command, or its number in hex if it is not served."""
+    """Returns the name of a command, or its number in hex if the device does not support it."""
     return CC(code).name if code in NUMBERED else hex(code)
 
 
 def read_localities(word: bytes) -> int:
-    """Parses the localities, written as numbers, and not as the bits of a `do` line."""
+    """Parses localities, written as their numbers and not as the set of bits in a `do` line."""
     allowed = set(word.split(b","))
     held_to(allowed <= LOCALITIES)
     return sum(1 << int(it) for it in allowed)
 
 
 def localities_word(bits: int) -> str:
-    """Returns the localities, each as a number."""
+    """Returns the numbers of the localities, separated by commas."""
     return ",".join(str(it) for it in range(8) if bits >> it & 1)
 
 
 def read_operation(word: bytes) -> int:
-    """Reads a comparison."""
+    """Parses the operation of TPM2_PolicyNV."""
     name = word.decode("latin-1")
     held_to(name in OPERATIONS)
     return OPERATIONS.index(name)
@@ -122,7 +122,7 @@ def read_operation(word: bytes) -> int:
 
 @dataclass(frozen=True)
 class Word:
-    """A word after an assertion's name: what it is, how it is parsed, and how it is written."""
+    """A word after an assertion's name: its meaning, how it is parsed, and how it is written."""
 
     name: str
     read: Callable[[bytes], Any]
@@ -145,7 +145,7 @@ OPERAND = Word("an operand of at most 32 bytes in hex", read_buffer)
 OFFSET = Word("an offset up to 65535", lambda word: number_up_to(2**16 - 1, word), str)
 OPERATION = Word("a comparison", read_operation, lambda it: str(OPERATIONS[it]))
 
-# The assertions by their commands, each with the words after its name.
+# The words after the name of each assertion, by its command.
 FORMS: dict[CC, tuple[Word, ...]] = {
     CC.PolicyPCR: (SELECTION, DIGEST),
     CC.PolicyAuthValue: (),
@@ -158,7 +158,7 @@ FORMS: dict[CC, tuple[Word, ...]] = {
     CC.PolicyNV: (INDEX_NAME, OPERAND, OFFSET, OPERATION),
 }
 
-# The values themselves, which may replace a selection and a digest.
+# PCR values, which may replace a selection and a digest.
 BY_VALUES = {CC.PolicyPCR: (PCR_VALUES,)}
 
 
@@ -169,7 +169,7 @@ def form_of(code: CC, count: int) -> tuple[Word, ...]:
 
 @dataclass(frozen=True)
 class Said:
-    """An assertion, with a value for each of its words. It requires this at a use:
+    """An assertion, with a value for each of its words. When the session is used, it requires:
 
     - PolicyPCR: the PCRs of the selection, given as its encoding, have this digest; or the PCRs
       have these values.
@@ -181,7 +181,7 @@ class Said:
     - PolicyNV: the operation holds for the data of the index with the Name, from the offset on,
       and the operand.
 
-    PolicyOR, which is not written like this, holds the digests of its branches.
+    PolicyOR, which is not written in this form, contains the digests of its branches.
     """
 
     code: CC
@@ -194,8 +194,8 @@ class Said:
         return " ".join([str(self.code.name), *(word.written(it) for word, it in pairs)])
 
     def by(self, algorithm: int) -> Said:
-        """Returns the assertion for a session of this hash, with PCR values replaced by a
-        digest.
+        """Returns the assertion for a session with this hash algorithm, with PCR values replaced by
+        their digest.
         """
         match self.code, *self.values:
             case CC.PolicyPCR, PcrValues() as found:
@@ -223,9 +223,7 @@ class Said:
 
     @property
     def parameters(self) -> bytes:
-        """Returns the parameters of its command for a session; PCR values must have been
-        replaced.
-        """
+        """Returns the parameters of the assertion's command; PCR values must have been replaced."""
         match self.code, *self.values:
             case CC.PolicyPCR, selection, values_digest:
                 return sized(values_digest) + bytes(selection)
@@ -237,7 +235,7 @@ class Said:
 
     @property
     def name(self) -> bytes:
-        """Returns the Name of the entity or index that it is about, if there is one."""
+        """Returns the Name of the entity or index that the assertion is about, if there is one."""
         is_about = self.code in (CC.PolicySecret, CC.PolicyNV)
         return bytes(self.values[0]) if is_about else b""
 
@@ -248,7 +246,9 @@ def said_of(
     names: Sequence[bytes],
     pcr_digest: Callable[[list[values.Bank], bytes], bytes],
 ) -> Said:
-    """Returns what a command asserts, given its Names, and for TPM2_PolicyPCR `pcr_digest`."""
+    """Returns the assertion that a command makes, given the Names of its handles. `pcr_digest`
+    returns the digest for TPM2_PolicyPCR.
+    """
     given = values.read_all(code.parameters, parameters)
     match code:
         case CC.PolicyPCR:
@@ -265,7 +265,7 @@ def said_of(
 
 
 def read_word(word: Word, given: bytes) -> Any:
-    """Reads a word of an assertion; raises Unsaid if it is not of its kind."""
+    """Parses a word of an assertion; raises Unsaid if it is not a word of this kind."""
     try:
         return word.read(given)
     except Wrong:
@@ -273,7 +273,7 @@ def read_word(word: Word, given: bytes) -> Any:
 
 
 def read_assertion(text: bytes) -> Said:
-    """Parses a line, which has one form for each assertion; raises Unsaid for other lines."""
+    """Parses the line of an assertion; raises Unsaid for other lines."""
     name, *given = text.split(b" ")
     code = CC.__members__.get(name.decode("latin-1"))
     if code not in FORMS:

@@ -1,4 +1,4 @@
-"""Records of a device, read in one way for explaining, auditing and comparing."""
+"""Reads the records of a device, for explaining, auditing and comparing."""
 
 from tpmsim.records.opened import goes_on, is_cycled, is_state_text, Opened, opened
 from tpmsim.records.reader import Bad, BadHead, Begin, Command, Comment, COMPLETED, Cut, Power

@@ -1,4 +1,4 @@
-"""The random bytes of a command in a log that does not record them, as far as the response shows
+"""The random bytes of a command in a log that does not record them, as far as its response shows
 them: the bytes that the command requested, and the nonces of its sessions. So logs of other
 devices, which contain only commands and responses, can be replayed.
 """
@@ -6,12 +6,12 @@ devices, which contain only commands and responses, can be replayed.
 from tpmsim.model.state import SECRET_BYTES
 from tpmsim.standard import CC, Fields, frames, HEADER_BYTES, NUMBERED, Short
 
-# The number of bytes drawn before the nonces, which no response shows.
+# The number of bytes that are drawn before the nonces, and that no response shows.
 HIDDEN = {CC.Clear: 3 * SECRET_BYTES}
 
 
 def drawn_of(buffer: bytes, response: bytes, size: int) -> bytes:
-    """Returns `size` random bytes; those that nothing shows are zeros."""
+    """Returns `size` random bytes; bytes that the response does not show are zeros."""
     try:
         shown = shown_in(NUMBERED.get(int.from_bytes(buffer[6:10], "big")), Fields(response))
     except Short:

@@ -17,31 +17,31 @@ MARK = re.compile(rb"# ([0-9a-f]{52}) ([0-9a-f]{16})")
 STATE = b"2"
 MARK_LINE_BYTES = 72
 
-# The size of an entry's lines without its mark and without the two digits for each byte drawn or
-# sent.
+# The size of an entry's lines without its mark, and without the digits of its random bytes and of
+# its command.
 LINES_BYTES = 36
 
-# The sizes of an entry's lines for the time, the locality and the random bytes (the last without
-# the two digits for each random byte).
+# The sizes of an entry's lines for the time, the locality and the random bytes (without the two
+# digits for each random byte).
 WAIT_BYTES, LOC_BYTES, ENTROPY_BYTES = 16, 6, 9
 
 
 def sum_from(total: int, data: bytes) -> int:
-    """Continues a sum over more bytes."""
+    """Continues a checksum over more bytes."""
     for byte in data:
         total = (total ^ byte) * PRIME & SUM_BITS
     return total
 
 
 def sum_of(data: bytes) -> int:
-    """Returns the sum of bytes."""
+    """Returns the checksum of bytes."""
     return sum_from(OFFSET_BASIS, data)
 
 
 @dataclass(frozen=True)
 class HeadMark:
-    """The host's clock, and the size and the checksum of the image or the state text; `said` is the
-    mark's own checksum.
+    """A head's mark: the host's clock, and the size and the checksum of the image or the state
+    text; `said` is the mark's own checksum.
     """
 
     is_state: bool
@@ -53,7 +53,7 @@ class HeadMark:
 
     @classmethod
     def read(cls, line: bytes) -> HeadMark | None:
-        """Reads a line, or returns None if it is not such a mark."""
+        """Parses a line; returns None if it is not the mark of a head."""
         found = HEAD.fullmatch(line)
         if found is None:
             return None
@@ -64,14 +64,14 @@ class HeadMark:
         return cls(kind == STATE, *numbers, text, int.from_bytes(said, "big"))
 
     def is_of(self, content: bytes) -> bool:
-        """Returns whether the mark belongs to this content, undamaged."""
+        """Returns whether the mark is undamaged and belongs to this content."""
         own = sum_of(self.text) == self.said
         return own and len(content) == self.size and sum_of(content) == self.content
 
 
 @dataclass(frozen=True)
 class Mark:
-    """What an entry says about its command, and the checksum of the response."""
+    """An entry's mark: what it says about its command, and the checksum of the response."""
 
     elapsed: int
     locality: int
@@ -85,7 +85,7 @@ class Mark:
 
     @classmethod
     def read(cls, line: bytes) -> Mark | None:
-        """Reads a line, or returns None if it is not such a mark."""
+        """Parses a line; returns None if it is not the mark of an entry."""
         found = MARK.fullmatch(line)
         if found is None:
             return None
@@ -108,7 +108,9 @@ class Mark:
         return {end - 1 for end in accumulate(lines)}
 
     def is_of(self, buffer: bytes, locality: int, elapsed: int, drawn: bytes) -> bool:
-        """Returns whether the mark belongs to this command and its circumstances."""
+        """Returns whether the mark belongs to a command with this buffer, locality, time and random
+        bytes.
+        """
         told = self.locality, self.elapsed, self.drawn, self.size
         if told != (locality, elapsed, len(drawn), len(buffer)):
             return False

@@ -1,5 +1,5 @@
-"""The device at the start of a log: that of an image, just powered on, or that of a state text,
-which continues where it stopped.
+"""The device at the start of a log: the device of an image, just powered on, or the device of a
+state text, which continues where it stopped.
 """
 
 from __future__ import annotations
@@ -13,7 +13,7 @@ from tpmsim.model.machine import Model
 
 @dataclass
 class Opened:
-    """A device, with what the completing layer remembers about it."""
+    """A device, and what the completing layer remembers about it."""
 
     device: Model
     layer: Completion
@@ -21,7 +21,7 @@ class Opened:
 
 
 def is_state_text(text: bytes) -> bool:
-    """Returns whether the text begins as a state text does."""
+    """Returns whether the text begins like a state text."""
     return text.startswith(state_text.MAGIC)
 
 
@@ -36,7 +36,9 @@ def opened(text: bytes, start: int = 0) -> Opened:
 
 
 def goes_on(device: Model, text: bytes) -> bool:
-    """Whether a text is of this device. A later clock is allowed, and is then taken over."""
+    """Whether a text is of this device. Its clock may be later; the device then continues from that
+    clock.
+    """
     if not is_state_text(text):
         return image.goes_on(device, text)
     found, _ = state_text.open_state(text)

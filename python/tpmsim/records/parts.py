@@ -1,5 +1,4 @@
-"""Splits a text into the logs that it contains; each starts with a head, except perhaps the
-first.
+"""Splits a text into the logs that it contains. Each begins with a head, except perhaps the first.
 """
 
 import re
@@ -8,12 +7,12 @@ from typing import Iterator
 
 from tpmsim.records.marks import HEAD, Mark, MARK
 
-# The start that Python's devices and pytest report. It is followed by a magic, or by as many digits
-# as the shortest image and state text have, since a word in a comment may happen to be hex.
+# The head of a log that Python's devices and pytest write. It must contain a magic, or as many
+# digits as the shortest image and state text, since a word in a comment may happen to be hex.
 REPORTED = re.compile(rb"^# (image|state) (?=54504d|[0-9a-f]{84})", re.MULTILINE)
 
-# The head of a journal, or such a start. If a crash cut off a journal, no newline separates it from
-# the head of the next one.
+# The head of a journal, or of a log that Python wrote. If a crash cut off a journal, no newline
+# separates it from the head of the next one.
 HEADS = re.compile(HEAD.pattern + rb"(?=\n)|" + REPORTED.pattern, re.MULTILINE)
 LINES_OF_HEAD, LINES_OF_ENTRY = 2, 5
 BEGUN = re.compile(rb"#( ([0-9a-f]+( [0-9a-f]*)?)?)?")
@@ -23,7 +22,9 @@ LINE_OF_MARK = re.compile(rb"^" + MARK.pattern + rb"\n", re.MULTILINE)
 
 @dataclass(frozen=True)
 class Part:
-    """A log: its text, the number of its first line, and the bytes that a crash left after it."""
+    """A log: its text, the number of its first line, and the incomplete bytes that a crash left
+    after it.
+    """
 
     text: bytes
     line: int
@@ -41,7 +42,7 @@ class Part:
 
 
 def parts_of(text: bytes) -> Iterator[Part]:
-    """Yields the parts of a text, each of which begins with a journal's head."""
+    """Yields the parts of a text, which begin at the heads in it."""
     starts = [it.start() for it in HEADS.finditer(text)]
     at, line = 0, 1
     for end in [*(it for it in starts if it), len(text)]:
@@ -51,7 +52,9 @@ def parts_of(text: bytes) -> Iterator[Part]:
 
 
 def whole_of(part: Part) -> Part:
-    """Returns the part without the incomplete record at its end: less than an entry, and zeros."""
+    """Returns the part without the incomplete record at its end, which may be cut off or consist of
+    zeros.
+    """
     if not part.is_journal:
         return part
     front = part.text.rstrip(b"\0")
@@ -65,8 +68,8 @@ def whole_of(part: Part) -> Part:
 
 
 def is_cut(entry: bytes) -> bool:
-    """Whether the bytes, which may start with the line of a mark, are shorter than an entry, with
-    lines that end where those of the entry do.
+    """Whether these bytes are the incomplete entry of the mark in their first line: they are
+    shorter than the entry, and their lines end where its lines do.
     """
     mark = Mark.read(entry.partition(b"\n")[0])
     ends = {it.start() for it in LINE_END.finditer(entry)}

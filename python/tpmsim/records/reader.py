@@ -1,4 +1,4 @@
-"""Reads a log, step by step. A log is a script, written by hand or by a device in Python; a
+"""Reads a log, step by step. A log is a script, which a person or a device in Python wrote; a
 journal; a log of `tpmsim serve`; the output of `tpmsim script`; or several of these in sequence.
 """
 
@@ -15,15 +15,15 @@ from tpmsim.records.marks import HeadMark, Mark, OFFSET_BASIS, sum_from
 from tpmsim.records.opened import is_state_text
 from tpmsim.records.parts import Part, parts_of, REPORTED
 
-# A response in a comment: a trace, perhaps after the time of day; a code; or the bytes.
+# A response in a comment: a trace, perhaps after the time of day; a response code; or the bytes.
 TRACE = r"\S+ L\d \+\d+ \S+ [0-9a-f]{8}"
 RESPONSE = re.compile(r"(?:8001|8002|00c4)[0-9a-f]{16,}")
 GIVEN = re.compile(r"# (\d\d:\d\d:\d\d\.\d{3} )?" rf"({TRACE}|[0-9a-f]{{8}}|{RESPONSE.pattern})")
 
-# What `tpmsim script` prints instead of a trace for a command with the completing layer.
+# The word that `tpmsim script` prints instead of a trace for a command with the completing layer.
 COMPLETED = "completed"
 
-# If one of these lines comes before any response, responses are read after their commands.
+# If the first command comes before the first response, each response follows its command.
 COMMANDS = b"cmd", b"do "
 
 DAMAGED_HEAD = "the head is damaged: its sums are others"
@@ -75,7 +75,7 @@ class Command:
 
 @dataclass(frozen=True)
 class Comment:
-    """The words of a comment; none for an empty line."""
+    """The words of a comment; an empty line has none."""
 
     line: int
     words: str
@@ -91,7 +91,7 @@ class Cut:
 
 @dataclass(frozen=True)
 class Bad:
-    """A line that is not a line of a script; nothing after it is read."""
+    """A line that is not a line of a script; reading stops there."""
 
     line: int
 
@@ -105,7 +105,7 @@ Step = Begin | Power | Command | Comment | Cut | Bad
 
 
 def steps_of(text: bytes) -> Iterator[Step]:
-    """Yields the steps of scripts, journals and logs; a bad line is the last step."""
+    """Yields the steps of scripts, journals and logs; the first bad line is the last step."""
     for part in parts_of(text):
         for step in Reading(part).whole_steps():
             yield step
@@ -123,15 +123,15 @@ class Reading:
         self.line, self.lines = part.line - 1, text.removesuffix(b"\n").split(b"\n") if text else []
         self.words, self.sum = Words(), OFFSET_BASIS
         self.said, self.is_completed = list[str](), False
-        self.after: list[str] | None = None  # takes the answers after a command
+        self.after: list[str] | None = None  # collects the responses after a command
         self.mark: Mark | None = None
         self.damage = ""
         self.tells_random = any(it.startswith(b"entropy ") for it in self.lines)
         self.is_before = answers_come_first(self.lines)
 
     def whole_steps(self) -> Iterator[Step]:
-        """Yields each step. A command comes after its responses were read, and before the comments
-        among them.
+        """Yields each step. A command is yielded after its responses have been read, and before the
+        comments between them.
         """
         waiting = list[Step]()
         for step in self.steps():
@@ -142,7 +142,7 @@ class Reading:
         yield from map(self.followed, waiting)
 
     def followed(self, step: Step) -> Step:
-        """Takes a command's random bytes from its response, if the log does not record them."""
+        """Adds a command's random bytes from its response, if the log does not record them."""
         if not isinstance(step, Command) or self.tells_random:
             return step
         for it in step.said:
@@ -215,7 +215,7 @@ class Reading:
             self.after.append(given[2])
 
     def command(self, text: bytes, buffer: bytes) -> Command:
-        """Returns a command with its circumstances, and with its mark's damage."""
+        """Returns a command with its settings, and with the damage of its mark."""
         words, mark = self.words, self.mark
         given = buffer, words.locality, words.elapsed
         found = Command(self.line, text, *given, words.random, self.is_completed, self.said)
@@ -231,8 +231,8 @@ class Reading:
 
 
 def answers_come_first(lines: list[bytes]) -> bool:
-    """Whether responses come before their commands, as `tpmsim script` prints them: this holds if a
-    response comes before any command.
+    """Whether responses come before their commands, as `tpmsim script` prints them. This is so if a
+    response comes before the first command.
     """
     for line in lines:
         if line.startswith(COMMANDS):
@@ -251,7 +251,7 @@ def hex_of(text: bytes) -> bytes | None:
 
 
 def damage_of(mark: HeadMark, content: bytes) -> str:
-    """Returns what is wrong with the head of a journal; empty if nothing is."""
+    """Returns what is wrong with the head of a journal, or an empty text."""
     if not mark.is_of(content):
         return DAMAGED_HEAD
     if mark.is_state != is_state_text(content):

@@ -1,4 +1,4 @@
-"""Layered scripts: they can name values from responses, and the HMACs of their entries are
+"""Layered scripts, which can name values from responses, and in which the HMACs of entries are
 computed.
 """
 

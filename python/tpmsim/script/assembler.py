@@ -1,4 +1,4 @@
-"""Commands in words, with entries whose HMAC is computed here."""
+"""Assembles commands in words, and computes the HMACs of their entries."""
 
 from typing import Sequence
 
@@ -9,25 +9,26 @@ from tpmsim.standard import first_byte, frames, HEADER_BYTES, is_policy, lines, 
 from tpmsim.standard import RS_PW, SESSIONS, TRANSIENT, trimmed
 from tpmsim.standard.values import read_all
 
-# What may follow the session in an entry: its entity's authorization value, and words for its
+# What may follow the session in an entry: the authorization value of its entity, and words for its
 # attributes.
 PIN, DECRYPTS, ENCRYPTS, ENDS = "pin=", "decrypt", "encrypt", "end"
 WORDS = DECRYPTS, ENCRYPTS, ENDS
 
-# The parts of an entry that includes its HMAC: `s`, a session, a nonce, attributes and the HMAC.
+# The number of parts of an entry that includes its HMAC: `s`, a session, a nonce, attributes and
+# the HMAC.
 GIVEN_PARTS = 5
 
-# What a policy demands of its session's entry after each of these commands.
+# What the session's policy demands in the entry after each of these commands.
 DEMANDS = {CC.PolicyAuthValue: policy.AUTH_VALUE, CC.PolicyPassword: policy.PASSWORD}
 
 
 def in_bytes(text: str) -> bytes:
-    """Returns the bytes of a text as they were read."""
+    """Returns the bytes from which a text was read."""
     return text.encode("utf-8", "surrogateescape")
 
 
 def value_of(word: Token) -> bytes:
-    """Returns an authorization value, without trailing zeros, from its hex or from `-`."""
+    """Returns an authorization value, written in hex or as `-`, without trailing zeros."""
     try:
         return trimmed(lines.buffer_of(in_bytes(word.text)))
     except lines.Wrong:
@@ -44,8 +45,8 @@ def is_computed(token: Token) -> bool:
 
 
 def spelled(tokens: Sequence[Token]) -> Prepared:
-    """Returns the command for some words; a computed entry has no HMAC yet. Raises Bad for other
-    words.
+    """Returns the command that words encode; a computed entry has no HMAC yet. Raises Bad if they
+    encode no command.
     """
     given = [f"s:{it.text.split(':')[1]}:-:01:-" if is_computed(it) else it.text for it in tokens]
     try:
@@ -63,7 +64,7 @@ def spelled(tokens: Sequence[Token]) -> Prepared:
 
 def bad_line(fault: lines.Fault, given: Sequence[str], tokens: Sequence[Token]) -> Bad:
     """Returns the error for a fault of docs/LINES.md, with the expected form of the line. The
-    fault's own column counts in `given`.
+    column of the fault refers to `given`.
     """
     name, *columns = str(fault).split()
     form = tokens[0].text
@@ -79,7 +80,7 @@ def bad_line(fault: lines.Fault, given: Sequence[str], tokens: Sequence[Token]) 
 
 
 class Assembler:
-    """Computes entries from what it learns from the device's responses."""
+    """Computes entries from what it has learned from the device's responses."""
 
     def __init__(self, knowledge: Knowledge) -> None:
         self.knowledge = knowledge
@@ -99,7 +100,7 @@ class Assembler:
         return self.knowledge.prepare(asked.code, asked.handles, asked.parameters, *means)
 
     def means(self, asked: Prepared, place: int, token: Token) -> bytes | Use:
-        """Returns what authorizes by one entry: a password, or the use of a session."""
+        """Returns what authorizes in one entry: a password, or the use of a session."""
         entry = asked.entries[place - 1]
         if entry.handle == RS_PW:
             return entry.hmac
@@ -139,8 +140,8 @@ class Assembler:
         return attributes | (DECRYPT if word == DECRYPTS else ENCRYPT)
 
     def learn(self, prepared: Prepared, response: bytes) -> Response:
-        """Returns a success, decrypted, and learns from it; raises WrongResponse if the device did
-        not send it.
+        """Decrypts a successful response, learns from it, and returns it; raises WrongResponse if
+        the device did not send it.
         """
         request = self.knowledge.plain_request(prepared)
         pairs = zip(prepared.uses, prepared.entries)
@@ -153,8 +154,8 @@ class Assembler:
         return answer
 
     def learn_unchecked(self, prepared: Prepared, response: bytes) -> tuple[int | None, bytes]:
-        """Returns a success and learns from it, if the script gave an entry's HMAC; what such
-        entries encrypt stays encrypted.
+        """Returns a successful response unchecked, and learns from it, because the script contains
+        an entry's HMAC. What such sessions encrypt stays encrypted.
         """
         fields = Fields(response[HEADER_BYTES:])
         handle = fields.number(4) if prepared.code.answers_handle else None
@@ -194,7 +195,7 @@ class Assembler:
         self.demands.pop(session.handle, None)
 
     def refused(self) -> None:
-        """Forgets the pins of a refused command."""
+        """Forgets the authorization values that a refused command contained."""
         self.knowledge.auth_values = self.values_before
 
     def power_cycle(self) -> None:

@@ -16,7 +16,7 @@ from tpmsim.standard import CC, lines, Short
 from tpmsim.standard.lines import handle_of, handle_word, WORDS, Wrong
 
 WANTED = "do, cmd, loc, wait, entropy, power, let or auth"
-# The one field that is not part of a response: the bytes of the command, for a `cmd` line.
+# The one field that is not part of a response: the bytes of the last command, for a `cmd` line.
 COMMAND = "command"
 
 LET_WANTED = 'NAME = COMMAND.FIELD, or NAME = "TEXT"'
@@ -30,7 +30,7 @@ class BadScript(TpmsimError):
 
 
 class Layer:
-    """Plays lines on a device. For a script's own device the nonces are the same in each run."""
+    """Plays lines on a device. On a script's own device the nonces are the same in each run."""
 
     def __init__(self, device: Transport, traces: bool = False) -> None:
         self.device, self.traces, self.nonces = device, traces, 0
@@ -40,7 +40,7 @@ class Layer:
         self.buffers: dict[CC, bytes] = {}
 
     def nonce(self, size: int) -> bytes:
-        """Returns a nonce; the script's own device gets the same ones in each run."""
+        """Returns a nonce. For the script's own device, the nonces are the same in each run."""
         if not isinstance(self.device, OwnDevice):
             return secrets.token_bytes(size)
         self.nonces += 1
@@ -118,7 +118,7 @@ class Layer:
         return self.told(executed, line)
 
     def sent(self, buffer: bytes) -> Executed:
-        """Sends a command, and returns what happened."""
+        """Sends a command, and returns its event."""
         self.device.execute(buffer)
         event = self.device.events[-1]
         assert isinstance(event, Executed)

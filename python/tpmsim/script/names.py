@@ -8,12 +8,12 @@ from tpmsim.faults import TpmsimError
 NAME = re.compile(r"[A-Za-z_][A-Za-z0-9_]*")
 REFERENCE = re.compile(rf"\$(?:\{{({NAME.pattern})\}}|({NAME.pattern}))?")
 
-# Reserved: each `$nonce` becomes a new nonce.
+# The reserved name: each `$nonce` becomes a new nonce.
 NONCE, NONCE_BYTES = "nonce", 16
 
 
 class Bad(TpmsimError):
-    """The fault of a line, as text, and the column where it starts, counted from 1."""
+    """The error of a line, as text, and the column where it starts, counted from 1."""
 
     def __init__(self, column: int, words: str) -> None:
         super().__init__(words)
@@ -48,7 +48,8 @@ class Names:
         return self.nonce(NONCE_BYTES).hex() if name == NONCE else self.values.get(name)
 
     def put(self, token: Token) -> Token:
-        """Returns a word with its names replaced by their values; raises Bad for an unknown name."""
+        """Returns a word with its names replaced by their values; raises Bad for an unknown name.
+        """
 
         def value(found: re.Match[str]) -> str:
             column = token.column + found.start()

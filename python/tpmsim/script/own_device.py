@@ -13,7 +13,7 @@ class OwnDevice(Device):
     said: bytes | None = None
 
     def drawn(self) -> bytes:
-        """Returns the random bytes that the script gives, or else those of the seed."""
+        """Returns the random bytes of the last `entropy` line, or else bytes made from the seed."""
         return super().drawn() if self.said is None else self.said
 
 
@@ -28,5 +28,5 @@ class OwnModelDevice(OwnDevice, ModelDevice):
 
 
 def own_device() -> OwnDevice:
-    """Returns a fresh device, in the library if there is one."""
+    """Returns a fresh device: the library's if the library is found, or else the model's."""
     return OwnLibraryDevice() if is_there() else OwnModelDevice()

@@ -1,5 +1,5 @@
-"""Parts of the TPM 2.0 Library that both the TPM and its caller need: numbers, structures, lines,
-computations.
+"""Parts of the TPM 2.0 Library that both the TPM and its caller need: numbers, structures, lines
+and computations.
 """
 
 from tpmsim.standard.commands import CC, Fact, Handle, HandleKind, Kind, NUMBERED, Parameter

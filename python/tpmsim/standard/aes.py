@@ -1,4 +1,5 @@
-"""AES-128 by the book (FIPS 197), and its cipher feedback mode with whole blocks (SP 800-38A, 6.3).
+"""AES-128 as its standard describes it (FIPS 197), and its cipher feedback mode with whole blocks
+(SP 800-38A, 6.3).
 """
 
 import operator
@@ -7,7 +8,7 @@ from typing import Callable
 BLOCK = 16
 ROUNDS = 10
 
-# The cipher of one block; key and block are 16 bytes long.
+# A cipher for one block. Key and block are 16 bytes long.
 BlockCipher = Callable[[bytes, bytes], bytes]
 
 
@@ -24,7 +25,9 @@ def times(a: int, b: int) -> int:
 
 
 def inverses() -> dict[int, int]:
-    """Returns the inverse of each byte except 0. All are powers of 3, and the 255th power is 1."""
+    """Returns the inverse of each byte except 0. Each such byte is a power of 3, and the 255th
+    power is 1.
+    """
     powers = [1]
     while len(powers) < 255:
         powers.append(times(powers[-1], 3))
@@ -32,7 +35,7 @@ def inverses() -> dict[int, int]:
 
 
 def substitute(inverse: int) -> int:
-    """Applies the affine map to a byte's inverse; the inverse of byte 0 is 0 here."""
+    """Applies the affine map to a byte's inverse; 0 counts as the inverse of byte 0."""
     turned = [inverse << n | inverse >> (8 - n) for n in range(5)]
     return (turned[0] ^ turned[1] ^ turned[2] ^ turned[3] ^ turned[4] ^ 0x63) & 0xFF
 
@@ -41,7 +44,7 @@ INVERSES = inverses()
 S_BOX = bytes(substitute(INVERSES.get(byte, 0)) for byte in range(256))
 
 
-# The position from which each byte of a block comes when its rows are shifted.
+# For each byte of a block, its position before ShiftRows.
 SHIFTED = operator.itemgetter(*((at + 4 * (at % 4)) % BLOCK for at in range(BLOCK)))
 
 
@@ -64,7 +67,8 @@ def round_keys(key: bytes) -> list[bytes]:
 
 
 def shift_rows(state: bytes) -> bytes:
-    """Byte r + 4c is row r, column c; row r rotates by r."""
+    """Returns the state after ShiftRows. Byte r + 4c is in row r and column c; row r rotates by r.
+    """
     return bytes(SHIFTED(state))
 
 
@@ -91,7 +95,8 @@ def encrypt_block(key: bytes, block: bytes) -> bytes:
 def cfb_encrypt(
     key: bytes, iv: bytes, text: bytes, block_cipher: BlockCipher = encrypt_block
 ) -> bytes:
-    """XORs each block of the text with the cipher of the previous encrypted block."""
+    """Encrypts a text in CFB mode: XORs each block of the text with the encrypted previous result.
+    """
     done, before = b"", iv
     for at in range(0, len(text), BLOCK):
         before = xor(text[at : at + BLOCK], block_cipher(key, before))

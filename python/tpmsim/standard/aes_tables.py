@@ -14,13 +14,13 @@ def turned(word: int) -> int:
 
 
 def column_of(byte: int) -> int:
-    """Returns the bytes that a byte in row 0 adds to its column in a round."""
+    """Returns the bytes that a byte in row 0 contributes to its column in a round."""
     substituted = aes.S_BOX[byte]
     doubled, tripled = aes.times(substituted, 2), aes.times(substituted, 3)
     return int.from_bytes(bytes((doubled, substituted, substituted, tripled)), "big")
 
 
-# The bytes that a byte adds to its column in a round, by its row.
+# The bytes that a byte contributes to its column in a round, by its row.
 ROWS = [[column_of(byte) for byte in range(256)]]
 for _ in range(3):
     ROWS.append([turned(it) for it in ROWS[-1]])
@@ -32,7 +32,7 @@ def key_words(key: bytes) -> tuple[int, ...]:
 
 
 def encrypt_block(key: bytes, block: bytes) -> bytes:
-    """Encrypts a block with AES-128, by tables."""
+    """Encrypts a block with AES-128, using the tables."""
     words, r0, r1, r2, r3 = key_words(key), *ROWS
     a, b, c, d = (it ^ word for it, word in zip(struct.unpack(">4I", block), words))
     for at in range(4, 4 * aes.ROUNDS, 4):

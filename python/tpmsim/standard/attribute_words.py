@@ -9,13 +9,13 @@ JOIN = "|"
 
 
 def plain(name: str) -> str:
-    """Returns a word as it is compared: in lower case, without `_`."""
+    """Returns the form of a word that is compared: in lower case, without `_`."""
     return name.lower().replace("_", "")
 
 
 def bits_of(kind: Iterable[enum.IntEnum], words: str, also: dict[str, int] | None = None) -> int:
-    """Returns the attributes that the words name, joined by `|`. The words are the names in
-    `kind`, and those of `also`. Raises BadValue for any other word.
+    """Returns the attributes that the words, joined by `|`, name. The words are the names in `kind`
+    and those of `also`. Raises BadValue for any other word.
     """
     known = {**{plain(it.name): int(it) for it in kind}, **(also or {})}
     found = 0

@@ -1,6 +1,6 @@
 """The implemented commands, each as one entry of the enumeration below, in the words of the TPM 2.0
 Library, Part 3. Everything else about a command follows from its entry: its number, its format, its
-line, what a policy can name, what TPM2_GetCapability returns, and the method that executes it.
+line, how a policy names it, what TPM2_GetCapability returns, and the method that executes it.
 """
 
 from __future__ import annotations
@@ -74,7 +74,7 @@ READS_NV, KEEPS_SAVED = Fact.READS_NV, Fact.KEEPS_SAVED
 
 @dataclass(frozen=True)
 class Handle:
-    """A handle of a command. If it needs authorization, its name follows an `@`."""
+    """A handle of a command. An `@` before its name says that it needs authorization."""
 
     name: str
     kind: HandleKind
@@ -105,9 +105,9 @@ KINDS = {it.value for it in Kind}
 
 class CC(enum.IntEnum):
     """TPM_CC (Part 2, section 6.5.2): each command by its name in the standard without `TPM2_`. An
-    entry contains its number; its handles, the authorized ones first, and its parameters; the
-    handle and the parameters of a successful response; and its other facts. Names are those of Part
-    3.
+    entry contains the command's number; its handles, the authorized ones first, and its parameters;
+    the handle and the parameters of a successful response; and its other facts. Names are those of
+    Part 3.
     """
 
     handles: tuple[Handle, ...]
@@ -146,7 +146,7 @@ class CC(enum.IntEnum):
     )
     PCR_Reset = 0x13D, "@pcrHandle:PCR"
 
-    # In the standard tpmKey is TPMI_DH_OBJECT+. No key of this device can decrypt a salt.
+    # In the standard, tpmKey is a TPMI_DH_OBJECT+. No key of this device can decrypt a salt.
     StartAuthSession = (
         0x176,
         "tpmKey:NULL bind:ENTITY+ nonceCaller:Buffer encryptedSalt:Buffer sessionType:u8 "
@@ -238,7 +238,7 @@ class CC(enum.IntEnum):
         "@lockHandle:LOCKOUT newMaxTries:u32 newRecoveryTime:u32 lockoutRecovery:u32",
     )
 
-    # What follows from an entry.
+    # Facts that follow from an entry.
 
     def has(self, fact: Fact) -> bool:
         """Returns whether a fact holds for the command."""

@@ -8,7 +8,7 @@ from typing import Iterable, Iterator
 from tpmsim.faults import BadValue
 from tpmsim.standard.reading import Fields
 
-# PCRs of banks: for each bank its hash algorithm and the numbers of the PCRs.
+# PCRs by bank: for each bank its hash algorithm and the numbers of the PCRs.
 Banks = Iterable[tuple[int, Iterable[int]]]
 
 NO_SESSIONS, SESSIONS, BAD_TAG_ANSWER = 0x8001, 0x8002, 0x00C4
@@ -49,8 +49,8 @@ CODES = {
     )
 }
 
-# The number that each kind of place adds to a code, in addition to 0x100 times its index (section
-# 6.6.2).
+# The number that is added to a code for each kind of place, in addition to 0x100 times the place's
+# index (section 6.6.2).
 PLACES = {"h": 0, "p": 0x040, "s": 0x800}
 
 
@@ -60,7 +60,7 @@ def number(value: int, size: int) -> bytes:
 
 
 def sized(data: bytes) -> bytes:
-    """Returns a buffer with its size in front, two bytes long."""
+    """Returns a buffer, preceded by its size in two bytes."""
     return number(len(data), 2) + data
 
 
@@ -90,7 +90,7 @@ HEADER_BYTES, COMMAND_BYTES, MOST_ENTRIES = HEADER.size, 4096, 3
 
 @dataclass
 class Entry:
-    """An entry of an authorization area. `demand` is what a policy demands of it at the use."""
+    """An entry of an authorization area. `demand` is what the session's policy demands in it."""
 
     handle: int
     nonce: bytes
@@ -100,7 +100,7 @@ class Entry:
 
 
 def command(code: int, body: bytes, tag: int = NO_SESSIONS, size: int | None = None) -> bytes:
-    """Returns a command; commandSize is correct unless another size is given."""
+    """Returns a command. Its commandSize is correct, unless `size` is passed."""
     return HEADER.pack(tag, HEADER_BYTES + len(body) if size is None else size, code) + body
 
 
@@ -117,20 +117,22 @@ def read_entry(fields: Fields) -> Entry:
 
 
 def entries_of(area: bytes) -> Iterator[Entry]:
-    """Yields the entries of an area without its size; raises Short if they do not fill it."""
+    """Yields the entries of an area without its size; raises Short if the last entry is cut off."""
     fields = Fields(area)
     while fields.data:
         yield read_entry(fields)
 
 
 def area(*entries: bytes, size: int | None = None) -> bytes:
-    """Returns an authorization area; authorizationSize is correct unless another size is given."""
+    """Returns an authorization area. Its authorizationSize is correct, unless `size` is passed."""
     text = b"".join(entries)
     return number(len(text) if size is None else size, 4) + text
 
 
 def buffer_of(code: int, handles: Iterable[int], entries: list[Entry], parameters: bytes) -> bytes:
-    """Returns a command with handles and entries; it has sessions if it has an entry."""
+    """Returns a command with handles and entries. Without entries, its tag says that it has no
+    sessions.
+    """
     text = b"".join(number(it, 4) for it in handles)
     if not entries:
         return command(code, text + parameters)
@@ -141,8 +143,8 @@ def buffer_of(code: int, handles: Iterable[int], entries: list[Entry], parameter
 def on_handles(
     code: int, handles: Iterable[int], parameters: bytes = b"", entries: list[bytes] | None = None
 ) -> bytes:
-    """Returns a command with handles, and with these entries or the empty password for the
-    first.
+    """Returns a command with handles and with these entries, by default the empty password for the
+    first handle.
     """
     text = b"".join(number(it, 4) for it in handles)
     text += area(*([entry()] if entries is None else entries))
@@ -157,7 +159,9 @@ def on_handle(
 
 
 def symmetric(aes: bool = False, xor: int | None = None) -> bytes:
-    """Returns a session's symmetric definition: AES-128 in CFB mode, XOR with a hash, or none."""
+    """Returns a session's symmetric definition: AES-128 in CFB mode, XOR with a hash algorithm, or
+    none.
+    """
     if xor is not None:
         return number(XOR, 2) + number(xor, 2)
     if not aes:
@@ -195,7 +199,7 @@ def digests(*values: tuple[int, bytes]) -> bytes:
 
 
 def sized_list(*values: bytes, count: int | None = None) -> bytes:
-    """Returns a list of sized buffers; its count is correct unless another count is given."""
+    """Returns a list of sized buffers. Its count is correct, unless `count` is passed."""
     return number(len(values) if count is None else count, 4) + b"".join(map(sized, values))
 
 
@@ -246,7 +250,9 @@ def sensitive_create(user_auth: bytes = b"", data: bytes = b"") -> bytes:
 
 
 def scheme(algorithm: int) -> bytes:
-    """Returns the HMAC scheme of a KEYEDHASH: a hash algorithm, or NULL if its user chooses one."""
+    """Returns the HMAC scheme of a KEYEDHASH: a hash algorithm, or NULL if the caller of TPM2_HMAC
+    chooses one.
+    """
     if algorithm == ALG_NULL:
         return number(ALG_NULL, 2)
     return number(ALG_HMAC, 2) + number(algorithm, 2)
@@ -269,8 +275,8 @@ def public_area(
 
 
 def creation(sensitive: bytes, public: bytes, outside_info: bytes = b"", pcrs: Banks = ()) -> bytes:
-    """Returns parameters of TPM2_CreatePrimary and TPM2_Create; two of them come with their
-    sizes.
+    """Returns the parameters of TPM2_CreatePrimary and TPM2_Create. `sensitive` and `public`
+    include their sizes.
     """
     return sensitive + public + sized(outside_info) + selection(*pcrs)
 
@@ -289,13 +295,15 @@ NULL_TICKET = ticket(ST_AUTH_SECRET, RH_NULL, b"")
 
 
 def refusal(code: int) -> bytes:
-    """Returns a refusal, which is ten bytes long: the tag, the size and the code."""
+    """Returns the response of a refused command, which has only a header."""
     tag = BAD_TAG_ANSWER if code == CODES["BAD_TAG"] else NO_SESSIONS
     return HEADER.pack(tag, HEADER_BYTES, code)
 
 
 def success(answer: bytes, entries: list[bytes] | None = None, handle: bytes = b"") -> bytes:
-    """Returns a success: a handle, if any, the parameters, and, with sessions, their entries."""
+    """Returns a successful response: a handle, if any, the parameters, and, with sessions, their
+    entries.
+    """
     if entries is None:
         tag, body = NO_SESSIONS, handle + answer
     else:
@@ -311,7 +319,9 @@ def entry_answer(
 
 
 def spelled_code(code: int) -> tuple[str, str]:
-    """Returns the name of a code and its place, such as HASH and p1; each is empty if unknown."""
+    """Returns the name of a response code and its place, such as HASH and p1; each is empty if
+    unknown.
+    """
     place = ""
     if code & 0x080 and code >> 8:
         kind = "p" if code & PLACES["p"] else "s" if code & PLACES["s"] else "h"
@@ -323,7 +333,9 @@ def spelled_code(code: int) -> tuple[str, str]:
 
 @functools.cache
 def code_of(name: str) -> int:
-    """Returns the number of a code such as HASH/p1: the number of HASH plus that of the place."""
+    """Returns the number of a response code such as HASH/p1: the number of HASH plus that of the
+    place.
+    """
     code, slash, place = name.partition("/")
     added = PLACES[place[0]] + 0x100 * int(place[1:]) if slash else 0
     return CODES[code] + added

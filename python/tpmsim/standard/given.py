@@ -1,5 +1,5 @@
-"""Parameters as a caller gives them: as Python values, or as words. This is the one encoder of
-parameters. A value that does not fit raises BadValue, a ValueError that names the field.
+"""Parameters as a caller passes them: as Python values, or as words. All parameters are encoded
+here. A value that does not fit raises BadValue, a ValueError that names the field.
 """
 
 from typing import Any
@@ -35,11 +35,11 @@ NUMBER_WORDS: dict[str, dict[str, int]] = {
     "code": {name: code for code, name in NAMES.items()},
 }
 
-# The kinds whose words are those of docs/LINES.md. The words of a buffer would be hex, which is
-# easily mistaken for text.
+# The kinds of parameters whose words are those of docs/LINES.md. The words of a buffer would be
+# hex, which is easily mistaken for text.
 IN_LINES = (Kind.SELECTION, Kind.DIGESTS, Kind.CIPHER, Kind.HASH)
 
-# What a parameter takes, by its kind.
+# What a parameter accepts, by its kind.
 WANTED = {
     Kind.U8: "an integer from 0 to 255",
     Kind.U16: "an integer from 0 to 65535",
@@ -61,7 +61,7 @@ MISFITS = (AttributeError, KeyError, OverflowError, TypeError, ValueError, Wrong
 
 
 def meant(parameter: Parameter, value: Any) -> Any:
-    """Returns the value of a word; any other value as it is."""
+    """Returns the value that a word means; returns any other value unchanged."""
     if not isinstance(value, str):
         return value
     if parameter.name in NUMBER_WORDS:
@@ -74,7 +74,7 @@ def meant(parameter: Parameter, value: Any) -> Any:
 
 
 def write(parameter: Parameter, value: Any) -> bytes:
-    """Returns the encoding of a parameter, or raises BadValue."""
+    """Returns the encoding of a parameter; raises BadValue for a wrong value."""
     try:
         return VALUES[parameter.kind].write(meant(parameter, value))
     except BadValue:
@@ -87,13 +87,17 @@ def write(parameter: Parameter, value: Any) -> bytes:
 
 
 def write_in_order(code: CC, *values: Any) -> bytes:
-    """Returns the parameters of a command, from one value for each, in the order of Part 3."""
+    """Returns the encoded parameters of a command, given one value for each, in the order of Part
+    3.
+    """
     pairs = zip(code.parameters, values, strict=True)
     return b"".join(write(it, value) for it, value in pairs)
 
 
 def write_all(code: CC, values: dict[str, Any]) -> bytes:
-    """Takes each parameter by its name in Part 3; raises TypeError for a missing or unknown one."""
+    """Returns the encoding of parameters, by their names in Part 3; raises TypeError for a missing
+    or unknown one.
+    """
     names = [it.name for it in code.parameters]
     if set(values) != set(names):
         raise TypeError(f"{code.name} takes {', '.join(names) or 'no parameters'}")
@@ -101,8 +105,8 @@ def write_all(code: CC, values: dict[str, Any]) -> bytes:
 
 
 def handle(name: str, value: int | str) -> int:
-    """Returns a handle, which may be given as `OWNER`, `NULL`, `LOCKOUT`, `ENDORSEMENT`,
-    `PLATFORM` or eight digits in hex.
+    """Returns a handle. It may be passed as `OWNER`, `NULL`, `LOCKOUT`, `ENDORSEMENT`, `PLATFORM`
+    or eight digits in hex.
     """
     try:
         found = handle_of(value.encode()) if isinstance(value, str) else value
@@ -117,17 +121,17 @@ CIPHERS = {"aes": frames.AES, "xor": frames.XOR, "null": frames.ALG_NULL}
 
 
 def algorithm(value: int | str) -> int:
-    """Returns a hash algorithm, which may be given as `sha1`, `sha256` or `null`."""
+    """Returns a hash algorithm, which may be passed as `sha1`, `sha256` or `null`."""
     return number_of("algorithm", HASHES, value)
 
 
 def cipher(value: int | str) -> int:
-    """Returns the cipher of a session, which may be given as `aes`, `xor` or `null`."""
+    """Returns the cipher of a session, which may be passed as `aes`, `xor` or `null`."""
     return number_of("cipher", CIPHERS, value)
 
 
 def number_of(name: str, words: dict[str, int], value: int | str) -> int:
-    """Returns a number, which may be given as one of the words."""
+    """Returns a number, which may be passed as one of the words."""
     if isinstance(value, int):
         return value
     if value not in words:

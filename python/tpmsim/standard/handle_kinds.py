@@ -26,7 +26,8 @@ def is_pcr(handle: int) -> bool:
     return handle in PCRS
 
 
-# For these kinds the handle's number identifies the entity, whether the entity exists or not.
+# For the following kinds the handle's number identifies the entity, even if the entity does not
+# exist.
 
 
 def is_object(handle: int) -> bool:
@@ -56,8 +57,8 @@ def is_entity(handle: int) -> bool:
 
 @dataclass(frozen=True)
 class HandleForm:
-    """The condition on a handle of a kind, the kind's name in docs/LINES.md, and its name in
-    text.
+    """The condition that a handle of a kind satisfies, the kind's name in docs/LINES.md, and its
+    name in text.
     """
 
     holds: Callable[[int], bool]

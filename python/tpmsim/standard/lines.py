@@ -1,6 +1,6 @@
 """Commands in words, and traces of events (docs/LINES.md).
 
-A line is bytes, since a wrong line may be any bytes.
+A line is of type bytes, since a wrong line may contain any bytes.
 """
 
 from __future__ import annotations
@@ -37,7 +37,7 @@ class Fault(TpmsimError):
 
 
 class Wrong(TpmsimError):
-    """A wrong token; its one argument is BAD_FIELD or RANGE."""
+    """A wrong token; its only argument is BAD_FIELD or RANGE."""
 
 
 class NoWords(TpmsimError):
@@ -70,7 +70,7 @@ def of_form(form: re.Pattern[bytes], token: bytes) -> re.Match[bytes]:
 
 
 def number_up_to(most: int, token: bytes) -> int:
-    """Reads a number, in decimal or in hex; a larger one raises Wrong."""
+    """Parses a number in decimal or in hex; raises Wrong if it is larger than `most`."""
     in_hex, in_decimal = of_form(NUMBER, token).groups()
     digits = (in_hex or in_decimal).lstrip(b"0") or b"0"
     if len(digits) > MOST_DIGITS:
@@ -82,7 +82,7 @@ def number_up_to(most: int, token: bytes) -> int:
 
 
 def bytes_of(token: bytes) -> bytes:
-    """Reads hex, or `-` for no bytes."""
+    """Parses hex; `-` stands for no bytes."""
     if token == NOTHING:
         return b""
     return bytes.fromhex(of_form(HEX, token)[0].decode("ascii"))
@@ -113,7 +113,7 @@ def value_in(words: dict[bytes, T], token: bytes) -> T:
 
 
 def word_in(words: dict[bytes, Any], value: bytes | int, other: str | None = None) -> str:
-    """Returns the word for a value, or `other` if there is none."""
+    """Returns the word for a value, or `other` if no word has this value."""
     for word, meant in words.items():
         if meant == value:
             return word.decode("ascii")
@@ -134,7 +134,9 @@ CIPHERS = {
 
 @dataclass(frozen=True)
 class Words:
-    """The words of a kind: its name in docs/table, and conversions between tokens and values."""
+    """The words of a kind of parameter: its name in docs/table, and conversions between tokens and
+    values.
+    """
 
     kind: Kind
     name: str
@@ -151,9 +153,7 @@ class Words:
         return self.values.write(self.parsed(token))
 
     def word(self, fields: Fields) -> str:
-        """Returns the token for the value at the front of fields; raises NoWords if there is
-        none.
-        """
+        """Returns the token for the next value of the fields; raises NoWords if there is none."""
         try:
             return self.shown(self.values.read(fields))
         except KeyError:
@@ -161,14 +161,13 @@ class Words:
 
 
 def integer(kind: Kind, size: int, shown: str = "{}") -> Words:
-    """Returns the words of integers of this size, in bytes."""
+    """Returns the words of integers with this size, in bytes."""
     most = 2 ** (8 * size) - 1
     return Words(kind, f"u{8 * size}", lambda token: number_up_to(most, token), shown.format)
 
 
 def buffer_of(token: bytes) -> bytes:
-    """Returns a buffer, cut to 65,535 bytes; a longer one makes the command too long in any
-    case.
+    """Returns a buffer, cut to 65,535 bytes. A longer one would make the command too long anyway.
     """
     return bytes_of(token)[:0xFFFF]
 
@@ -176,7 +175,9 @@ def buffer_of(token: bytes) -> bytes:
 def listed(
     kind: Kind, parsed: Callable[[bytes], Any], shown: Callable[..., str], is_empty: bool = True
 ) -> Words:
-    """Returns the words for values separated by JOIN, or NOTHING if the list may be empty."""
+    """Returns the words of lists. Their values are separated by JOIN; an empty list, if allowed, is
+    NOTHING.
+    """
 
     def all_parsed(token: bytes) -> list[Any]:
         return [] if is_empty and token == NOTHING else [parsed(it) for it in token.split(JOIN)]
@@ -188,7 +189,7 @@ def listed(
 
 
 def hash_and_rest(piece: bytes) -> tuple[int, bytes]:
-    """Returns the hash algorithm of a piece, and the rest after its colon."""
+    """Splits a piece at its colon; returns the hash algorithm and the rest."""
     name, _, rest = piece.partition(b":")
     return value_in(HASHES, name), rest
 
@@ -244,7 +245,7 @@ WORDS: dict[Kind, Words] = {
 
 
 def form_of(code: CC) -> str:
-    """Returns the form of a command's line, as in its section of docs/table."""
+    """Returns the form of a command's line, as in the command's section of docs/table."""
     marks = ["@" * it.is_authorized + HANDLES[it.kind].mark for it in code.handles]
     return " ".join([code.name, *marks, *(it.name for it in words_of_parameters(code))])
 
@@ -263,12 +264,12 @@ PASSWORD_PREFIX, SESSION_PREFIX = b"pw:", b"s:"
 
 
 def is_entry(token: bytes) -> bool:
-    """Returns whether a token begins as an entry does."""
+    """Returns whether a token begins like an entry."""
     return token.startswith((PASSWORD_PREFIX, SESSION_PREFIX))
 
 
 def entry_of(token: bytes) -> Entry:
-    """Reads an entry: a password, or the fields of a session's entry."""
+    """Parses an entry: a password, or the fields of a session's entry."""
     if token.startswith(PASSWORD_PREFIX):
         password = buffer_of(token.removeprefix(PASSWORD_PREFIX))
         return Entry(RS_PW, b"", CONTINUE_SESSION, password)
@@ -283,8 +284,8 @@ def entry_of(token: bytes) -> Entry:
 
 
 def entry_word(entry: Entry) -> str:
-    """Returns the word for an entry: a password, if the entry has the form of one, or the fields of
-    a session's entry.
+    """Returns the word for an entry: a password, if it has the format of one, or the fields of a
+    session's entry.
     """
     hmac = hex_word(entry.hmac)
     if (entry.handle, entry.nonce, entry.attributes) == (RS_PW, b"", CONTINUE_SESSION):
@@ -294,7 +295,7 @@ def entry_word(entry: Entry) -> str:
 
 
 class Tokens:
-    """The tokens of a line, taken from the front. Reading ends at the first fault."""
+    """The tokens of a line, parsed in order. Parsing ends at the first fault."""
 
     def __init__(self, line: bytes) -> None:
         self.left, self.column = line.split(b" "), 1
@@ -312,7 +313,7 @@ class Tokens:
         return value
 
     def end(self) -> None:
-        """Raises Fault if a token is left over."""
+        """Raises Fault if there are more tokens."""
         if self.left:
             raise Fault(BAD_FIELD, self.column)
 
@@ -342,7 +343,7 @@ def assemble(line: bytes) -> bytes:
 
 
 def line_of(buffer: bytes) -> str | None:
-    """Returns the line for a buffer, or None if no line assembles to the buffer."""
+    """Returns the line that encodes a buffer, or None if there is none."""
     try:
         line = " ".join(words_of(Fields(buffer)))
         return line if assemble(line.encode("ascii")) == buffer else None
@@ -351,7 +352,7 @@ def line_of(buffer: bytes) -> str | None:
 
 
 def words_of(fields: Fields) -> list[str]:
-    """Returns the tokens of a buffer; raises NoWords if it has none."""
+    """Returns the tokens of a buffer; raises NoWords if no tokens encode it."""
     tag = fields.number(2)
     fields.take(4)
     code = NUMBERED.get(fields.number(4))
@@ -367,8 +368,7 @@ def words_of(fields: Fields) -> list[str]:
 
 def traced(outcome: Outcome, locality: int, elapsed: int) -> str:
     """Returns the trace of a command's event: the name, the locality, the elapsed milliseconds, the
-    check and the response code. If a command is refused before its code is known, the name is
-    missing.
+    check and the response code. If a command is refused before its code is known, the name is `?`.
     """
     code = NUMBERED.get(outcome.row.code)
     name = code.name if code else "?"

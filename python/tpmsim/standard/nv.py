@@ -58,7 +58,7 @@ READS = Attribute.PPREAD | Attribute.OWNERREAD | Attribute.AUTHREAD | Attribute.
 
 
 def of_type(kind: int) -> int:
-    """Returns the attributes that only say the type."""
+    """Returns attributes that contain only the type."""
     return kind << TYPE_SHIFT
 
 
@@ -88,12 +88,14 @@ class Public:
 
     @property
     def is_free(self) -> bool:
-        """Whether failed authorizations do not count as tries."""
+        """Whether failed authorizations do not count as failed tries."""
         return self.has(Attribute.NO_DA)
 
     @property
     def kind(self) -> int:
-        """The number of its type; in a requested area `Type` may not define this number."""
+        """The number of the index's type. A requested area may contain a number that `Type` does
+        not define.
+        """
         return self.attributes >> TYPE_SHIFT & TYPE_MASK
 
     @property
@@ -103,13 +105,13 @@ class Public:
 
     @property
     def words(self) -> str:
-        """Its attributes in words, such as `ownerwrite|ownerread|nt=counter`."""
+        """The attributes in words, such as `ownerwrite|ownerread|nt=counter`."""
         types = [word for word, bits in TYPE_WORDS.items() if bits and bits == of_type(self.kind)]
         return "|".join([attribute_words.words_of(Attribute, self.attributes), *types])
 
     @property
     def text(self) -> bytes:
-        """Its encoding. Raises BadValue if a field does not fit."""
+        """The encoding of the area. Raises BadValue if a field does not fit."""
         head = self.index, self.name_algorithm, self.attributes
         return frames.nv_public_area(*head, self.auth_policy, self.data_size)
 
@@ -131,5 +133,5 @@ class Public:
         return public
 
     def but(self, added: int = 0, cleared: int = 0) -> Public:
-        """Returns the area with some attributes added and others cleared."""
+        """Returns the area with some attributes set and others cleared."""
         return replace(self, attributes=self.attributes & ~cleared | added)

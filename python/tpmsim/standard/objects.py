@@ -45,7 +45,7 @@ class Sensitive:
 
     @property
     def text(self) -> bytes:
-        """Its encoding. Raises BadValue if a field does not fit."""
+        """The encoding of the structure. Raises BadValue if a field does not fit."""
         user_auth = frames.sized_field("user_auth", self.user_auth)
         return user_auth + frames.sized_field("data", self.data)
 
@@ -67,17 +67,17 @@ class Public:
 
     @property
     def is_free(self) -> bool:
-        """Whether failed authorizations do not count as tries."""
+        """Whether failed authorizations do not count as failed tries."""
         return self.has(Attribute.NO_DA)
 
     @property
     def words(self) -> str:
-        """Its attributes in words, such as `fixedtpm|userwithauth`."""
+        """The attributes in words, such as `fixedtpm|userwithauth`."""
         return attribute_words.words_of(Attribute, self.attributes)
 
     @property
     def text(self) -> bytes:
-        """Its encoding. Raises BadValue if a field does not fit."""
+        """The encoding of the area. Raises BadValue if a field does not fit."""
         is_keyed_hash = self.kind == KEYEDHASH
         details = frames.scheme(self.scheme) if is_keyed_hash else frames.symmetric(aes=True)
         head = self.kind, self.name_algorithm, self.attributes

@@ -1,4 +1,4 @@
-"""Reads bytes from the front."""
+"""Reads fields from bytes, in order."""
 
 from tpmsim.faults import TpmsimError
 
@@ -8,7 +8,7 @@ class Short(TpmsimError):
 
 
 class Fields:
-    """Bytes that are taken from the front."""
+    """Bytes from which fields are read, in order."""
 
     def __init__(self, data: bytes) -> None:
         self.data = data
@@ -29,5 +29,5 @@ class Fields:
         return int.from_bytes(data[:size], "big")
 
     def sized(self) -> bytes:
-        """Returns the next buffer, whose size comes first."""
+        """Returns the next buffer, which is preceded by its size."""
         return self.take(self.number(2))

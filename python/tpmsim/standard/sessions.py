@@ -1,6 +1,4 @@
-"""Computations for a session that the TPM and its caller share, over whole texts (TPM 2.0 Library,
-Part 1).
-"""
+"""Computations for sessions, which the TPM and its caller share (TPM 2.0 Library, Part 1)."""
 
 import functools
 import hashlib
@@ -61,7 +59,7 @@ def kdfa(algorithm: int, key: bytes, label: bytes, newer: bytes, older: bytes, s
 
 
 def session_key(algorithm: int, auth_value: bytes, nonce_tpm: bytes, nonce_caller: bytes) -> bytes:
-    """Returns a bound session's key, from its entity's authorization value at the start
+    """Returns a bound session's key, made from its entity's authorization value at the start
     (19.6.8).
     """
     size = digest_bytes(algorithm)
@@ -88,8 +86,8 @@ def entry_hmac(
     attributes: int,
 ) -> bytes:
     """Returns the hmac of an entry (19.6.5), computed from its cpHash or rpHash. If a command's
-    first entry authorizes, `others` are the nonces of the other sessions that decrypt and encrypt,
-    in this order.
+    first entry authorizes, `others` are the nonces of the other sessions that decrypt, followed by
+    those of the sessions that encrypt.
     """
     text = parameters + newer + older + b"".join(others) + number(attributes, 1)
     return mac(algorithm, key, text)
@@ -114,7 +112,7 @@ def encrypted(
     return by_aes(both[: aes.BLOCK], both[aes.BLOCK :], data, block_cipher)
 
 
-# The inverse of `encrypted`, with the same arguments.
+# Decrypts what `encrypted` encrypts; takes the same arguments.
 decrypted = functools.partial(encrypted, by_aes=aes.cfb_decrypt)
 
 
@@ -128,8 +126,8 @@ def first_encrypted(
     block_cipher: aes.BlockCipher = encrypt_block,
     change: Callable[..., bytes] = encrypted,
 ) -> bytes:
-    """Returns the parameters with the bytes of their first sized buffer encrypted, but not its
-    size.
+    """Encrypts the contents of the first sized buffer in the parameters, but not its size; returns
+    the parameters.
     """
     given = cipher, algorithm, key, newer, older
     return on_first_buffer(lambda data: change(*given, data, block_cipher), parameters)
@@ -139,8 +137,8 @@ first_decrypted = functools.partial(first_encrypted, change=decrypted)
 
 
 def on_first_buffer(change: Callable[[bytes], bytes], parameters: bytes) -> bytes:
-    """Returns the parameters with the bytes of their first sized buffer changed, but not its
-    size.
+    """Changes the contents of the first sized buffer in the parameters, but not its size; returns
+    the parameters.
     """
     size = int.from_bytes(parameters[:2], "big")
     return parameters[:2] + change(parameters[2 : 2 + size]) + parameters[2 + size :]

@@ -1,4 +1,4 @@
-"""The Python values of parameters, by kind: a number, bytes, or a structure below."""
+"""The Python values of parameters, by kind: a number, bytes, or one of the structures below."""
 
 from __future__ import annotations
 
@@ -51,14 +51,16 @@ class Time:
 @dataclass(frozen=True)
 class Capability:
     """The response of TPM2_GetCapability: the capability, and its elements as sent. The properties
-    below read the elements; one that is for another capability raises ValueError.
+    below read the elements; a property that belongs to another capability raises ValueError.
     """
 
     capability: int
     data: bytes
 
     def read(self, capability: int, read: Callable[[Fields], Item]) -> list[Item]:
-        """Returns the elements, which must be those of this capability."""
+        """Returns the elements. Raises ValueError for another capability, or if bytes are left
+        over.
+        """
         if self.capability != capability:
             raise ValueError(f"these are elements of capability {self.capability}")
         fields = Fields(self.data)
@@ -74,7 +76,7 @@ class Capability:
 
     @property
     def handles(self) -> list[int]:
-        """The handles in use."""
+        """The handles that are in use."""
         return self.read(1, lambda fields: fields.number(4))
 
     @property
@@ -93,7 +95,7 @@ class Capability:
         return dict(self.read(6, lambda fields: (fields.number(4), fields.number(4))))
 
 
-# What may be passed as the contents of a buffer, in addition to a structure.
+# Types that a buffer accepts, in addition to a structure.
 BYTES = bytes, bytearray, memoryview
 Item = TypeVar("Item")
 
@@ -101,7 +103,7 @@ Item = TypeVar("Item")
 class HasText(Protocol):
     @property
     def text(self) -> bytes:
-        """The encoding."""
+        """The encoding of the structure."""
         ...
 
 
@@ -116,12 +118,12 @@ def numbers(size: int) -> Values:
 
 
 def write_buffer(value: bytes | bytearray | memoryview | HasText) -> bytes:
-    """Returns a sized buffer: of bytes, or of a structure's encoding."""
+    """Returns a sized buffer of bytes or of a structure's encoding."""
     return sized(bytes(value) if isinstance(value, BYTES) else value.text)
 
 
 def read_list(read: Callable[[Fields], Any]) -> Callable[[Fields], list[Any]]:
-    """Reads a list, which starts with its count."""
+    """Returns a function that reads a list, which starts with its count."""
     return lambda fields: [read(fields) for _ in range(fields.number(4))]
 
 
@@ -133,7 +135,8 @@ def read_bank(fields: Fields) -> Bank:
 
 
 def read_digest(fields: Fields) -> Digest:
-    """Other TPMs also return SHA-384 and SHA-512 digests."""
+    """Reads a digest with its hash algorithm. Other TPMs also return SHA-384 and SHA-512 digests.
+    """
     algorithm = fields.number(2)
     size = {0x000C: 48, 0x000D: 64}.get(algorithm) or digest_bytes(algorithm)
     return Digest(algorithm, fields.take(size))
@@ -154,7 +157,7 @@ def read_time(fields: Fields) -> Time:
 
 
 def answered_alone(value: Any) -> bytes:
-    """Raises TypeError: no command has such a parameter."""
+    """Raises TypeError, since no command has such a parameter."""
     raise TypeError("it is answered alone")
 
 
@@ -186,8 +189,8 @@ VALUES: dict[Kind, Values] = {
 
 
 def read_all(parameters: tuple[Parameter, ...], text: bytes) -> dict[str, Any]:
-    """Returns parameters by name; raises ValueError if bytes are left over, Short if some are
-    missing.
+    """Returns parameters by name; raises ValueError if there are too many bytes, Short if there are
+    too few.
     """
     fields = Fields(text)
     found = {it.name: VALUES[it.kind].read(fields) for it in parameters}
