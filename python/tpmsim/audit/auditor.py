@@ -1,5 +1,5 @@
-"""Audits a log event by event, both with the model of the device in Python and with the history
-alone.
+"""Audits a device's log event by event: with the model of the device in Python, and also from the
+history of accepted commands alone.
 """
 
 from dataclasses import dataclass
@@ -84,7 +84,7 @@ class Auditor:
         self.log.end()
 
     def begin(self, step: records.Begin, is_begun: bool) -> None:
-        """Reads a head: the one at the start, or a later one of the same device. A power cycle
+        """Reads a journal's head: the first one, or a later one of the same device. A power cycle
         always precedes a head with an image, and may precede a head with a state text.
         """
         if step.damage:
@@ -133,7 +133,8 @@ class Auditor:
             raise Disagreement(f"{where}: {fault}") from None
 
     def compare(self, seen: Seen, printed: list[str], step: records.Command | None) -> None:
-        """Compares an event with the output, and with the response that the script itself records.
+        """Compares a replayed event with the log's output, and with the response that the script
+        itself records.
         """
         try:
             has_answer = step is None or step.mark is not None or bool(step.said)
@@ -179,8 +180,8 @@ class Auditor:
         self.entities.place(seen, placed)
 
     def note(self, seen: Seen) -> None:
-        """Judges an event's entries by the history before it; then adds to the history what the
-        event shows.
+        """Checks the authorization entries of an event against the history before it; then adds the
+        event to the history.
         """
         if seen.is_power_cycle:
             self.watch.past.power(seen.line)

@@ -1,5 +1,6 @@
-"""How a policy session got the digest of a policy that it does not satisfy: by a hash collision
-(Meaning and BreaksHash of tpm_policy_meaning), or because a wrong TPM2_PolicyOR was accepted.
+"""Finds how a policy session got the digest of a policy that it does not satisfy: by a hash
+collision (Meaning and BreaksHash of tpm_policy_meaning), or because a wrong TPM2_PolicyOR was
+accepted.
 """
 
 from typing import Iterator, Sequence
@@ -28,7 +29,7 @@ def wrong_or(algorithm: int, policy: Policy, told: Told) -> str | None:
 
 
 def session_texts(algorithm: int, told: Told) -> Iterator[tuple[bytes, int]]:
-    """Yields the texts that a session hashed, each with the line of its assertion."""
+    """Yields each text that a policy session hashed, with the log line of the assertion."""
     for it in told:
         for text in texts_after(algorithm, it.before, it.said.update(algorithm)):
             yield text, it.line
@@ -55,7 +56,9 @@ def hash_of_zeros(algorithm: int, policy: Policy, told: Told) -> str | None:
 
 
 def branch_lists(algorithm: int, policy: Policy) -> Iterator[tuple[int, list[bytes]]]:
-    """Yields the digests of the branches of each PolicyOR, with the line of its `either`."""
+    """Yields the digests of the branches of each PolicyOR, with the line of its `either` in the
+    policy.
+    """
     if policy.branches:
         yield policy.line, [policy_digest(algorithm, it) for it in policy.branches]
     for branch in policy.branches:
@@ -63,8 +66,8 @@ def branch_lists(algorithm: int, policy: Policy) -> Iterator[tuple[int, list[byt
 
 
 def astride(algorithm: int, policy: Policy, told: Told) -> str | None:
-    """Describes a digest of the session that is no branch's digest, but the end of one followed by
-    the beginning of the next.
+    """Describes a digest of the session that is not the digest of a branch, but consists of the end
+    of one branch's digest and the beginning of the next one's.
     """
     had = [(zeros(algorithm), "the start"), *((it.digest, f"line {it.line}") for it in told)]
     for line, digests in branch_lists(algorithm, policy):

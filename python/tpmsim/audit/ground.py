@@ -1,4 +1,4 @@
-"""The ground on which an entry was accepted, found from the history without the device's response.
+"""Finds from the history, without the device's response, why an authorization entry was accepted.
 """
 
 from __future__ import annotations
@@ -69,8 +69,8 @@ class Use:
 
     @property
     def takes_value(self) -> bool:
-        """Whether the authorization value of the authorized entity is the password, or is in the
-        key of the hmac.
+        """Whether the entry uses the authorization value of the entity, as the password or in the
+        HMAC's key.
         """
         if self.handle is None:
             return False
@@ -128,7 +128,8 @@ class Grounds:
         return [Finding(False, none), shown]
 
     def pcr_words(self, use: Use) -> list[str]:
-        """Returns the values of the PCRs in the session's policy, when the session is used."""
+        """Returns the values that the PCRs in the session's policy have when the session is used.
+        """
         begun = self.sessions.live.get(use.entry.handle)
         return [self.pcrs.words(*it) for it in begun.pcrs] if begun else []
 

@@ -1,5 +1,5 @@
 """Finds the line of the log that last wrote each PCR, set each authorization value or incremented
-each counter, and the lines that sent an earlier command again.
+each counter, and the lines that repeat an earlier command.
 """
 
 from __future__ import annotations
@@ -29,8 +29,8 @@ BANKS = SHA1, SHA256
 
 class PcrLines:
     """The line that last wrote each PCR value, and the last line that wrote any PCR or was a
-    TPM2_Clear. A value that no line wrote is part of the state at the start of the log, if there is
-    one.
+    TPM2_Clear. A value that no line wrote comes from the state at the start of the log, if the log
+    starts with one.
     """
 
     def __init__(self, history: History, text: str) -> None:
@@ -41,7 +41,7 @@ class PcrLines:
 
     @property
     def change(self) -> str:
-        """Returns, as text, what wrote a PCR last."""
+        """Returns a text that names the last change of a PCR."""
         if not self.last_change:
             return "something before the log wrote a PCR"
         return f"line {self.last_change} {self.last_words}"
@@ -140,7 +140,9 @@ def handles_set(event: Accepted) -> list[int]:
 
 @dataclass
 class Counted:
-    """A counter: its first and last values, each with its line, and how it ended, if it did end."""
+    """An NV counter: its first and last values, each with its line, and how it ceased to exist, if
+    it did.
+    """
 
     handle: int
     since: str

@@ -27,7 +27,8 @@ def both(given: str, wanted: str) -> str:
 
 
 def section(title: str, told: Iterable[str], none: str) -> Iterator[str]:
-    """Yields a part of a report: the title and the lines, or the line `none` if there are no lines.
+    """Yields a section of a report: the title and the lines, or the line `none` if there are no
+    lines.
     """
     rows = list(told)
     yield title if rows else none
@@ -49,7 +50,9 @@ class Log:
         return len(self.lines) - self.at
 
     def check(self, printed: list[str], has_answer: bool) -> None:
-        """Compares the next lines with the expected ones; raises Disagreement if they differ."""
+        """Compares the next lines of the output with the expected lines; raises Disagreement if
+        they differ.
+        """
         for wanted in printed:
             if not self.left:
                 raise Disagreement("the log is cut: the output of this line is missing")
@@ -61,7 +64,7 @@ class Log:
                 raise Disagreement(both(given, wanted))
 
     def end(self) -> None:
-        """Raises Disagreement if any line is left after the end of the script."""
+        """Raises Disagreement if the output has more lines after the end of the script."""
         if self.left:
             lines = "a line" if self.left == 1 else f"{self.left} lines"
             raise Disagreement(f"the log has {lines} more than the output of the script")

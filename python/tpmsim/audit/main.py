@@ -45,7 +45,7 @@ AGREES = (
 
 @dataclass
 class Asked:
-    """The names of the files with the script, its output, if any, an image and policies."""
+    """The names of the input files: the script, its output if there is one, images and policies."""
 
     names: list[str] = field(default_factory=list)
     images: list[str] = field(default_factory=list)
@@ -99,7 +99,9 @@ def auditor_of(asked: Asked, script: bytes, log: Log) -> Auditor:
 
 
 def tell(rows: Iterable[str]) -> None:
-    """Prints rows. The reader of the output may close it before the last row."""
+    """Prints rows. Stops without an error if the reader of the output closes it before the last
+    row.
+    """
     try:
         print(*rows, sep="\n", flush=True)
     except BrokenPipeError:

@@ -1,4 +1,4 @@
-"""Entries that encrypt with an authorization value although the caller did not have to know it.
+"""Finds entries that encrypt with an authorization value that the caller did not have to know.
 Anyone who has the ciphertext can test guesses of the value without the device. These guesses do not
 count as failed tries (docs/table/lockout.md).
 """

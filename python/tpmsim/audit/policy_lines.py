@@ -25,8 +25,8 @@ from tpmsim.standard.lines import handle_word
 
 @dataclass(frozen=True)
 class Told:
-    """The assertions of a session in the log, and the digest that the session had before the log,
-    if any.
+    """The assertions that the log shows for a session, and the digest that the session already had
+    when the log began, if any.
     """
 
     asserted: Sequence[Asserted]
@@ -45,8 +45,8 @@ class Step:
 
 @dataclass(frozen=True)
 class Before:
-    """The `either` of a line whose branch was chosen before the log began. The log does not show
-    which.
+    """An `either` of the policy, with its line, whose branch was chosen before the log began. The
+    log does not show which branch that was.
     """
 
     line: int
@@ -58,8 +58,8 @@ class Before:
 
 @dataclass(frozen=True)
 class Choice:
-    """The branch that the session chose at the `either` of a line: its number, counted from 1, the
-    number of branches, and the TPM2_PolicyOR.
+    """The branch that the session chose at an `either` of the policy: the line of the `either`, the
+    branch's number, counted from 1, the number of branches, and the TPM2_PolicyOR.
     """
 
     line: int
@@ -78,8 +78,8 @@ Taken = Step | Before | Choice
 
 
 def steps_of(algorithm: int, of: Policy, told: Told) -> list[Taken]:
-    """Returns the steps by which assertions satisfy a policy, in order; raises NotMet if they do
-    not.
+    """Returns, in order, the steps by which a session's assertions satisfy a policy; raises NotMet
+    if the policy is not satisfied.
     """
     steps, left = list[Taken](), of.assertions
     while left:
@@ -272,8 +272,8 @@ class Judged:
 
 
 def held(steps: list[Taken], use: Use, grounds: Grounds) -> Judgement:
-    """Judges the steps at a use. Returns the first condition that does not hold, and everything
-    found.
+    """Checks a policy's steps when the session is used. Returns the first condition that does not
+    hold, and all findings.
     """
     found = [
         finding(it, use, grounds) if isinstance(it, Step) else Finding(True, it.words)

@@ -1,4 +1,6 @@
-"""The assertions of each session, in the terms of tpm_policy_meaning (Asserted), and its uses."""
+"""Lists the assertions of each session, in the terms of tpm_policy_meaning (Asserted), and the uses
+of the session.
+"""
 
 from dataclasses import dataclass, field
 from typing import Iterator
@@ -119,7 +121,9 @@ class SessionLines:
         begun.tell(seen.line, f"{said}: {made.policy.digest.hex()}")
 
     def use_for(self, line: int, session: int, code: CC, handle: int) -> None:
-        """Notes that a policy session authorizes a use, before it is added to the history."""
+        """Notes that a policy session authorizes the use of an entity, before the use is added to
+        the history.
+        """
         digest = self.history.sessions.live[session].policy.digest.hex()
         words = f"authorizes {command_words(code)} of {handle_word(handle)} by {digest}"
         self.live[session].tell(line, words)

@@ -60,7 +60,7 @@ def history_of(device: Model) -> History:
 
 
 def add_state(history: History, device: Model) -> None:
-    """Adds the PCRs and the sessions, which a power cycle would not keep."""
+    """Adds the PCRs and the sessions, which do not survive a power cycle, to the history."""
     history.pcrs.values = {bank: list(values) for bank, values in device.banks.items()}
     history.pcrs.updates = device.update_counter
     for handle, it in device.sessions.items():
@@ -71,8 +71,9 @@ def add_state(history: History, device: Model) -> None:
 
 
 def of_log(script: bytes, given: bytes | None) -> Start:
-    """Returns the device of the given text, or of the text at the start of the log, or a new one.
-    Raises Fault if a text is invalid, or if the two texts are of different devices.
+    """Returns the device that a log starts with: the one of the text that was passed, the one of
+    the text at the start of the log, or else a new one. Raises Fault if a text is invalid, or if
+    the two texts are of different devices.
     """
     begun = first_of(script)
     if begun is None:
@@ -95,8 +96,8 @@ def first_of(script: bytes) -> records.Begin | None:
 
 
 def has_answers(script: bytes) -> bool:
-    """Whether a log records the response to its first command, as a journal does. A log with a head
-    and no command also counts.
+    """Whether a log records the response to its first command, as a journal does. So does a log
+    with a head and no command.
     """
     commands = (it for it in records.steps_of(script) if isinstance(it, records.Command))
     first = next(commands, None)

@@ -62,8 +62,8 @@ class Guesses:
         self.stretch = Stretch(1, lockout.max_tries, lockout.recovery_time)
 
     def refuse(self, seen: Seen, grounds: Grounds) -> None:
-        """Notes a refused command. Raises Disagreement if there was one guess too many, or if the
-        code does not say correctly whether the command is a guess.
+        """Notes a refused command. Raises Disagreement if there were more failed guesses than
+        possible, or if the response code is wrong about whether the command is a guess.
         """
         self.stretch.elapsed += seen.elapsed
         name, _, place = (seen.outcome.refused or "").partition("/s")
@@ -82,8 +82,8 @@ class Guesses:
                 raise Disagreement(words)
 
     def touched(self, use: Use) -> str | None:
-        """Returns which protection counts a failed try: that of the value in its key or password,
-        or that of the value to which its session is bound.
+        """Returns which protection counts a failed attempt: that of the value in the HMAC's key or
+        the password, or that of the value to which the session is bound.
         """
         own = use.view.protection if use.takes_value else None
         return own or self.sessions.protection(use.entry.handle)
@@ -109,14 +109,12 @@ class Guesses:
         return section(title, self.told, "Failed guesses: none.")
 
 
-# The response code for a guess that the device does not check.
+# The response code for a guess during lockout, which the device does not check.
 LOCKED = "LOCKOUT"
 
 
 class Uses:
-    """The numbers of uses that have a ground, of refused uses, and of entries that authorize
-    nothing.
-    """
+    """Counts the justified uses, the refused uses, and the entries that authorize nothing."""
 
     def __init__(
         self,
@@ -132,7 +130,8 @@ class Uses:
         self.allowed = self.refused = self.others = 0
 
     def accept(self, seen: Seen) -> None:
-        """Raises Disagreement unless each entry of an accepted command has a ground."""
+        """Raises Disagreement unless each entry of an accepted command is justified by the history.
+        """
         if self.grounds.plain_parameters(seen.command) != seen.accepted.parameters:
             raise Disagreement("its parameters are others once they are decrypted")
         for use in self.grounds.uses(seen):
@@ -151,8 +150,8 @@ class Uses:
                 self.policies.note(use)
 
     def tell(self, use: Use, findings: list[Finding]) -> None:
-        """Reports a use with its ground. For a policy session these are its conditions; for other
-        entries, the value that the caller proved to know.
+        """Reports a use and why it was accepted. For a policy session the reasons are its
+        conditions; for other entries, the value that the caller proved to know.
         """
         used, told = self.entities.of(use.authorized).used, self.words(use)
         if use.live and use.is_policy:
@@ -168,7 +167,7 @@ class Uses:
         return f"    line {use.seen.line}: {command_words(use.code)} {title}"
 
     def refuse(self, seen: Seen) -> None:
-        """Raises Disagreement if an entry is refused although every entry has a ground."""
+        """Raises Disagreement if an entry is refused although the history justifies every entry."""
         if not seen.is_refused_entry:
             return
         lacking = self.lacking(seen)
@@ -184,7 +183,9 @@ class Uses:
         return [f"        {it}" for it in self.grounds.pcr_words(use)]
 
     def lacking(self, seen: Seen) -> tuple[Use, str] | None:
-        """Returns the first entry without a ground, and what it lacks; None if all have one."""
+        """Returns the first entry that the history does not justify, and what it lacks; None if
+        there is none.
+        """
         for use in self.grounds.uses(seen):
             if seen.outcome.refused == LOCKED and self.guesses.touched(use):
                 return use, "what it would be a guess at is locked"
@@ -194,9 +195,7 @@ class Uses:
         return None
 
     def reason(self, seen: Seen) -> str:
-        """Returns why the device refuses the command, as the second part of a sentence about the
-        log.
-        """
+        """Returns why the device refuses the command, as the end of a sentence about the log."""
         if seen.is_refused_entry:
             lacking = self.lacking(seen)
             return f": of entry {lacking[0].place}, {lacking[1]}" if lacking else ""

@@ -1,4 +1,4 @@
-"""Observes the events of a device in order, and which entity each handle named."""
+"""Follows the events of a device in order, and records which entity each handle named."""
 
 from dataclasses import dataclass, field
 from functools import cached_property
@@ -17,7 +17,7 @@ from tpmsim.standard.objects import Attribute
 
 Public = nv.Public | objects.Public
 
-# The other code with which the device can refuse entries that authorize nothing.
+# Besides the codes of entries, the device can refuse entries that authorize nothing with this code.
 OF_PARAMETERS = "INSUFFICIENT/p1"
 
 
@@ -116,7 +116,7 @@ class Watch(Watched):
     """
 
     def __init__(self, device: Model) -> None:
-        # Refusals for an entry are judged by the history instead.
+        # Refusals that an entry caused are judged by the history instead.
         super().__init__(device, lambda scene: not is_of_entry(scene.check, scene.refused))
         self.seen: Seen | None = None
         setattr(device, "tell", self.told)
@@ -185,7 +185,7 @@ def is_again(public: Public, had: Public) -> bool:
 
 @dataclass
 class Entity:
-    """An entity for as long as one handle names it, with its uses, one per line."""
+    """An entity while one handle names it, with its uses, one per line."""
 
     handle: int
     title: str
@@ -221,7 +221,7 @@ class Entities:
         return self.now.get(handle) or self.keep(Entity(handle, handle_words(handle)))
 
     def place(self, seen: Seen, placed: ObjectPlaced) -> None:
-        """Notes the object of a context."""
+        """Notes the object that was loaded from a saved context."""
         self.begin(placed.handle, seen.line, f"of line {seen.line} (ContextLoad)")
 
     def note(self, seen: Seen) -> None:

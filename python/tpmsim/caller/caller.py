@@ -98,12 +98,12 @@ class Caller(Calls, PreparedCommands):
         return use
 
     def tell_step(self, use: Use, step: Step) -> None:
-        """Sends the command of one assertion, or tries its branches."""
+        """Sends the command of one assertion. For an `either`, tries its branches."""
         session = use.session
         if step.branches:
             self.tell_branch(use, step)
         elif step.code in (CC.PolicySecret, CC.PolicyNV):
-            # An entity whose Name was not learned has its handle as its Name.
+            # A Name that this caller has not learned is a handle, which is its own Name.
             known = [handle for handle, name in self.names.items() if name == step.name]
             those = [*(known or [int.from_bytes(step.name, "big")])[:1], session.handle]
             if step.code == CC.PolicyNV:

@@ -66,7 +66,7 @@ class Commands(Knowledge):
         uses: Sequence[Means] = (),
         **arguments: Any,
     ) -> Prepared:
-        """Prepares any command. The command and its parameters have their names in Part 3. Raises
+        """Prepares any command. The command and its parameters are named as in Part 3. Raises
         TypeError if a handle or a parameter is missing, BadValue if one has a wrong value, and
         KeyError if there is no such command.
         """

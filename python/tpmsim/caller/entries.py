@@ -55,7 +55,9 @@ class Use:
 
 @dataclass(frozen=True)
 class Made:
-    """The areas that TPM2_Create returned, for TPM2_Load, and the requested authorization value."""
+    """The areas that TPM2_Create returned, which TPM2_Load needs, and the requested authorization
+    value.
+    """
 
     private: bytes
     public: Public
@@ -112,8 +114,8 @@ def wrong(prepared: Prepared, place: int = 1) -> Prepared:
 
 @dataclass(frozen=True)
 class Response:
-    """The successful response to a command. Its decrypted parameters have their names in Part 3, as
-    in `response["randomBytes"]`; docs/table describes each one. A wrong name raises KeyError, which
+    """The successful response to a command. Its decrypted parameters are named as in Part 3, as in
+    `response["randomBytes"]`; docs/table describes each one. A wrong name raises KeyError, which
     lists the right names. The response class of each command, such as GetRandomResponse, also has
     them as attributes: `response.randomBytes`.
     """
@@ -135,8 +137,9 @@ class Response:
 
 class Refused(TpmsimError):
     """A command that the device refuses. `number` is the response code; `name` its name, empty if
-    it is unknown here; `place` its place, such as p1, h2 or s1, or empty; and `check` the check
-    that refused the command, such as G9 or A1, if a trace reports it.
+    it is unknown here; `place` the parameter, handle or session that it names, such as p1, h2 or
+    s1, or empty; and `check` the check that refused the command, such as G9 or A1, if a trace
+    reports it.
     """
 
     def __init__(self, prepared: Prepared, number: int, check: str | None = None) -> None:

@@ -1,9 +1,9 @@
 """What a caller of a device knows and computes: commands that sessions authorize, and the contents
 of their responses.
 
-It learns nonces only from responses. It knows the authorization values that it set, and the Names
-of objects from the public areas in responses. It stops if a response's hmac differs from the hmac
-that it computes itself.
+The caller learns nonces only from responses. It knows the authorization values that it set, and
+learns the Names of objects from the public areas in responses. It stops if a response's hmac
+differs from the hmac that it computes itself.
 """
 
 import contextlib
@@ -240,7 +240,7 @@ class Knowledge:
     def note_answer(
         self, prepared: Prepared, request: bytes, handle: int | None, parameters: bytes
     ) -> None:
-        """Learns everything else from the command and its response. Both are decrypted."""
+        """Learns all other changes from the command and its response. Both are decrypted."""
         code, fields = prepared.code, Fields(request)
         if code == CC.NV_ReadPublic:
             self.note_public(nv.Public.read(Fields(parameters).sized()))
@@ -270,7 +270,7 @@ class Knowledge:
     def check_answer(
         self, prepared: Prepared, place: int, parameters: bytes, fields: Fields
     ) -> None:
-        """Reads the part of a response that answers one entry, and checks it."""
+        """Reads and checks the part of a response that belongs to one entry."""
         use, entry = prepared.uses[place - 1], prepared.entries[place - 1]
         nonce_tpm, attributes, hmac = fields.sized(), fields.number(1), fields.sized()
         if isinstance(use, bytes):

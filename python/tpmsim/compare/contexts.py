@@ -26,7 +26,7 @@ class Kept:
 
 
 class Contexts:
-    """The contexts of the other TPM, by the matching contexts of this device."""
+    """Maps contexts of this device to the matching contexts of the other TPM."""
 
     def __init__(self, translation: Translation) -> None:
         self.translation, self.kept = translation, dict[bytes, Kept]()
@@ -62,12 +62,12 @@ class Contexts:
             self.loaded(int.from_bytes(here[10:14], "big"), there, self.kept.get(asked.parameters))
 
     def lose(self, buffer: bytes, here: bytes, line: int) -> None:
-        """Notes an object or a session that a line loaded on this device only."""
+        """Notes an object or a session that a line of the script loaded on this device only."""
         if loads_context(buffer):
             self.translation.lost[int.from_bytes(here[10:14], "big")] = line
 
     def power_cycle(self) -> None:
-        """Forgets the contexts of sessions. Those of objects may still be loaded."""
+        """Forgets the contexts of sessions. Contexts of objects may still be loaded."""
         self.kept = {text: it for text, it in self.kept.items() if not names_session(text)}
 
     def loaded(self, handle: int, there: bytes, kept: Kept | None) -> None:

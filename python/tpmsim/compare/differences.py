@@ -1,4 +1,6 @@
-"""The differences between two responses, which fields are random, and the known causes."""
+"""Finds the differences between two responses, with a list of the random fields and of the known
+causes.
+"""
 
 import json
 import pathlib
@@ -94,7 +96,8 @@ def between(here: dict[str, Any], there: dict[str, Any]) -> Iterator[tuple[str, 
 
 @dataclass(frozen=True)
 class Cause:
-    """A known cause of differences: their pattern, the section of rev. 01.38, and our decision."""
+    """A known cause of differences: their pattern, the section of rev. 01.38, and what tpmsim does.
+    """
 
     words: str
     form: str

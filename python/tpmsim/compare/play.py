@@ -19,8 +19,8 @@ from tpmsim.standard import SHA256, TRANSIENT
 from tpmsim.standard.command_names import command_name
 from tpmsim.standard.values import read_all
 
-# Changes that no handle identifies, by the command that makes them. A later difference may follow
-# from them.
+# For each command that changes something without a handle, what it changes. A later difference may
+# follow from it.
 GUESSES = "guesses"
 ALL = "all"
 CHANGES = {
@@ -246,8 +246,8 @@ class Comparison:
         return [*touched, ALL]
 
     def lose(self, asked: Command | None, event: Executed, line: int) -> None:
-        """Notes what happened only on this device: which entities exist only here, because a
-        command returned or made them, and which sessions ended.
+        """Notes what a command did only on this device: which entities it returned or made, and
+        which sessions it ended.
         """
         if any(event.response[6:10]):
             return

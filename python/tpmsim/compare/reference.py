@@ -1,4 +1,6 @@
-"""Plays the unchanged script on this device, and finds what its caller knew at each command."""
+"""Plays the unchanged script on this device, and finds out what the script's caller knew at each
+command.
+"""
 
 from dataclasses import dataclass, field
 from typing import Any
@@ -103,7 +105,7 @@ class Reference:
 
     def open_empty(self, step: records.Begin) -> bool:
         """Continues with the device of a head, if that device was just powered on and contains
-        nothing that a new device lacks. Returns whether it does.
+        nothing that a new device lacks. Returns whether it continues with it.
         """
         begun = opened(step.content, step.start)
         found = begun.device

@@ -27,7 +27,7 @@ class NotComparable(TpmsimError):
 
 
 class Translation:
-    """What is known about the other TPM: its entities and values, by those in the script."""
+    """The entities and values of the other TPM that correspond to those in the script."""
 
     def __init__(self, here: Reference) -> None:
         self.here, self.known = here, Knowledge()

@@ -77,8 +77,8 @@ class Device(Transport):
 
     @property
     def trace(self) -> list[str]:
-        """The events so far as lines of a script. Unless the device started as a script's device,
-        the first line is a comment with its first image or state text.
+        """The events so far as lines of a script. Unless the device started as every script's
+        device does, the first line is a comment with its first image or state text.
         """
         word = "state" if self.begun.startswith(state_text.MAGIC) else "image"
         begun = [f"# {word} {self.begun.hex()}"] if self.begun else []

@@ -28,7 +28,7 @@ def before(scene: Scene) -> list[Reason]:
 
 
 def garbage(scene: Scene) -> Iterator[Reason]:
-    """Notes a parameter that does not decrypt to a text, but would do so if the caller had
+    """Reports a first parameter that does not decrypt to a text, but would do so if the caller had
     encrypted it in another way.
     """
     if ingredients.decrypting_use(scene) is None or scene.plain is None:
@@ -78,7 +78,7 @@ def nonces(scene: Scene) -> Iterator[Reason]:
 
 
 def unwritten(scene: Scene) -> Iterator[Reason]:
-    """Notes that the Name of an unwritten index goes into a policy."""
+    """Reports that the Name of an unwritten index goes into a policy."""
     if scene.code not in (CC.PolicyNV, CC.PolicySecret):
         return
     handle = scene.command.handles[1 if scene.code == CC.PolicyNV else 0]
@@ -92,7 +92,7 @@ def unwritten(scene: Scene) -> Iterator[Reason]:
 
 
 def offline_guesses(scene: Scene) -> Iterator[Reason]:
-    """Notes encryption with a value that the caller did not have to know."""
+    """Reports encryption with a value that the caller did not have to know."""
     for place, entry, _ in scene.command.places:
         use = ingredients.use_of(scene, place)
         if use is None or not unshown.encrypts(entry.attributes):
@@ -107,8 +107,8 @@ def offline_guesses(scene: Scene) -> Iterator[Reason]:
 
 
 def after(scene: Scene) -> Iterator[Reason]:
-    """Returns notes after the effect: that the random bytes are zeros, once, and that a nonceTPM
-    repeats.
+    """Yields notes after the command took effect: that the random bytes are zeros, which is said
+    once, and that a nonceTPM repeats.
     """
     if scene.code in DRAWS and not any(scene.random) and "random" not in scene.past.told_once:
         scene.past.told_once.add("random")

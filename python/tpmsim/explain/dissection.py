@@ -24,8 +24,8 @@ class Cut(TpmsimError):
 
 @dataclass
 class Field:
-    """A field. Its first `front` bytes are a size, and it is inside `depth` structures. If it is a
-    structure (`is_group`), its fields follow it.
+    """A field of a command or response. Its first `front` bytes are a size, and it is inside
+    `depth` structures. If it is a structure (`is_group`), its fields follow it.
     """
 
     name: str
@@ -65,7 +65,7 @@ class Walk:
         return int.from_bytes(data, "big")
 
     def peek(self) -> int:
-        """Returns the size that precedes a buffer, at most 65,535."""
+        """Returns the two-byte size field of the next buffer without consuming it."""
         return int.from_bytes(self.data[self.at : min(self.at + 2, self.end)], "big")
 
     def buffer(self, name: str, meaning: Callable[[bytes], str] | None = None) -> bytes:
@@ -124,7 +124,7 @@ def said_bytes(data: bytes) -> str:
 STARTS = {0: "CLEAR", 1: "STATE"}
 TICKETS = {frames.ST_CREATION: "of a creation", frames.ST_AUTH_SECRET: "of an assertion"}
 
-# Reads a parameter with a name.
+# A function that reads the next parameter, under the name that is passed.
 Reader = Callable[[Walk, str], object]
 
 
@@ -133,7 +133,9 @@ def number(size: int, meaning: Callable[[int], str] = str) -> Reader:
 
 
 def named(size: int, names: dict[int, str], other: str) -> Reader:
-    """Returns a reader of a number that has a name; without a name, it means `other`."""
+    """Returns a reader of a number that has a name in `names`. The meaning of any other number is
+    `other`.
+    """
     return number(size, lambda it: names.get(it, other))
 
 
@@ -267,7 +269,7 @@ OF_KIND: dict[Kind, Reader] = {
     Kind.CAPABILITY: capability,
 }
 
-# Parameters whose name says more than their kind.
+# Readers for parameters whose name says more than their type.
 NAMED: dict[str, Reader] = {
     "startupType": named(2, STARTS, "not a type of startup"),
     "shutdownType": named(2, STARTS, "not a type of shutdown"),

@@ -17,7 +17,7 @@ from tpmsim.standard import CC, digest, Fields, frames, handle_kinds, HIERARCHIE
 from tpmsim.standard import values
 from tpmsim.standard.values import Bank
 
-# The values of all PCRs.
+# The values of all PCRs, by bank.
 Banks = dict[int, list[bytes]]
 
 
