@@ -6,7 +6,7 @@ class TpmsimError(Exception):
 
 
 class BadValue(TpmsimError, ValueError):
-    """A value that a field cannot hold. `field` is the name of the field; a parameter has its name
+    """A value that a field cannot hold. `field` is the name of the field; a parameter is named as
     in Part 3. `value` is the rejected value.
     """
 

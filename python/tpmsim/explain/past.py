@@ -1,4 +1,6 @@
-"""The events before a command: when each value was set, and which assertions policies contain."""
+"""The events before a command: when each authorization value was set, and which assertions the
+policy of each session contains.
+"""
 
 from __future__ import annotations
 
@@ -77,7 +79,7 @@ def step_of(line: int, command: Command, plain: bytes, model: Model, names: list
 
 
 def said_words(code: CC, handles: list[int], plain: bytes) -> str:
-    """Returns an assertion as a `do` line contains it, without the session and the entries."""
+    """Returns an assertion as the words of a `do` line, without the session and the entries."""
     fields = Fields(plain)
     words = [handle_words(it) for it in handles if not is_policy(it)]
     said = " ".join([code.name, *words, *lines.parameter_words(code, fields)])
@@ -142,7 +144,9 @@ class Moved:
 
 
 class Past:
-    """The earlier values of each handle, the oldest first."""
+    """What a log shows before a command, such as the earlier authorization values of each handle,
+    the oldest first.
+    """
 
     def __init__(self, model: Model) -> None:
         self.model = model

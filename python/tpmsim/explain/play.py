@@ -154,7 +154,9 @@ def reason_of(scene: Scene) -> Reason:
 
 
 class Watched:
-    """An observed device. A refusal is explained if `explains` returns true for its scene."""
+    """A device whose events are observed. A refusal is explained if `explains` returns true for its
+    scene.
+    """
 
     def __init__(
         self, model: Model, explains: Callable[[Scene], bool] = lambda scene: True
@@ -370,9 +372,9 @@ class Play(Watched):
             self.comments.append("")
 
     def begin(self, step: records.Begin) -> Event | None:
-        """Continues with the device of a head. If the log's device so far is the same one, it
-        continues: after a power cycle if the head contains an image, or a state text after a power
-        cycle.
+        """Continues with the device of a head. If it is the device that is already observed, that
+        device continues: it is power-cycled if the head contains an image, or a state text from
+        after a power cycle.
         """
         is_first = self.event is None
         if step.damage:

@@ -42,7 +42,9 @@ def policy_lacks(use: Use) -> str:
 
 
 def difference(use: Use, wanted: bytes, found: Reason) -> str:
-    """Returns the difference as text, and adds facts, as far as the log shows it."""
+    """Returns, as text, how the session's digest differs from the expected digest, as far as the
+    log shows it, and adds facts to `found`.
+    """
     if use.begun is None:
         return "Its session began before the log, which may lack some of its assertions."
     steps = use.begun.told
@@ -127,8 +129,8 @@ def when_words(use: Use, own: Step, its: Step) -> str:
 
 
 def moved(use: Use, step: Step, then: Banks, found: Reason) -> str:
-    """Returns which of the selected PCRs had different values then, and adds the commands that
-    wrote them.
+    """Returns which of the selected PCRs had different values in the state `then`, and adds the
+    commands that wrote these PCRs to `found`.
     """
     past, said = use.scene.past, []
     now = past.told_banks.get(step.line, use.scene.model.banks)

@@ -54,7 +54,7 @@ def without_reference(algorithm: int, update: Update, old: bytes) -> bytes | Non
 
 
 def old_before_or(algorithm: int, update: Update, old: bytes) -> bytes | None:
-    """Makes a PolicyOR hash the digest before it."""
+    """Includes the previous digest in the hash of a PolicyOR."""
     return (
         digest(algorithm, old + number(update.code, 4) + update.about) if update.forgets else None
     )
@@ -65,7 +65,7 @@ def or_without_zeros(algorithm: int, update: Update, old: bytes) -> bytes | None
 
 
 def unhashed_arguments(algorithm: int, update: Update, old: bytes) -> bytes | None:
-    """Uses PolicyNV's operand, offset and operation, and not their hash."""
+    """Uses PolicyNV's operand, offset and operation themselves, instead of their hash."""
     if not update.apart:
         return None
     name = update.about[digest_bytes(algorithm) :]
@@ -158,7 +158,9 @@ def of_texts(use: Use, place: int, step: Step) -> Iterator[Turned]:
 
 
 def of_pcr_digests(use: Use, place: int, step: Step) -> Iterator[Turned]:
-    """Yields assertions in which the other hash algorithm hashes the PCR values, or none does."""
+    """Yields assertions in which the PCR values are hashed with the other hash algorithm, or are
+    not hashed at all.
+    """
     algorithm, selected, past = use.session.algorithm, step.selected or [], use.scene.past
     states = [past.told_banks.get(step.line, use.scene.model.banks)]
     states += [banks for _, banks in reversed(past.pcr_states)]

@@ -20,7 +20,8 @@ from tpmsim.explain.policy_values import Turned
 from tpmsim.explain.slip import Told
 from tpmsim.standard import digest_bytes
 
-# The largest number of links that are computed in each search, with one mistake and with two.
+# The largest number of links of a digest chain that a search computes, with one mistake and with
+# two.
 MOST_LINKS, MOST_PAIRED = 50_000, 200_000
 
 # The number of possibly missing assertions that are tried together with another mistake.

@@ -80,8 +80,8 @@ def pcr_step(step: Step, selected: Sequence[Any], algorithm: int, banks: Banks) 
 
 
 def of_pcrs(use: Use, place: int, step: Step) -> Iterator[Turned]:
-    """Yields an assertion about different values of the PCRs, the latest first; different banks; a
-    different PCR.
+    """Yields an assertion with different values of its PCRs, the latest first; with different
+    banks; and with a different PCR.
     """
     algorithm, selected, past = use.session.algorithm, step.selected or [], use.scene.past
     now = past.told_banks.get(step.line, use.scene.model.banks)

@@ -59,7 +59,7 @@ class Reason:
 
     @property
     def link(self) -> str:
-        """The location of the sentence in docs/table."""
+        """The location of the check's sentence in docs/table."""
         return RULES[self.rule][1]
 
     @property
@@ -207,7 +207,8 @@ class Look:
         return handle_words(self.handles[place])
 
     def since(self, handle: int, words: str) -> str:
-        """Returns the words and the line that made a handle's entity; empty if the line is unknown.
+        """Returns the given words, followed by the line that made a handle's entity; empty if the
+        line is unknown.
         """
         line = self.past.begun.get(handle, 0)
         return f"{words} {line}" if line else ""

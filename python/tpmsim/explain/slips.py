@@ -25,7 +25,7 @@ MOST_ALONE, MOST_PAIRS = 10_000, 100_000
 # a session that are tried at all, in addition to its first one.
 PAIRED, MOST_NONCES = 3, 100
 
-# The least size of a cut HMAC; the beginnings of too many HMACs would equal a shorter one.
+# The least size of a truncated HMAC. A shorter one would equal the beginning of too many HMACs.
 LEAST_CUT = 4
 
 
@@ -48,8 +48,8 @@ class Found:
 
 
 def found(use: Use) -> Found:
-    """Returns the mistakes that make the HMAC that was sent. Sending a whole command again is also
-    a mistake.
+    """Returns the mistakes that make the HMAC that was sent. A whole command that was sent again
+    also counts as a mistake.
     """
     if not use.entry.hmac:
         words = "the HMAC was left out, which is right only where the key is empty"
@@ -172,7 +172,9 @@ def old_nonces(use: Use) -> Iterator[Slip]:
 
 
 def other_attributes(use: Use) -> Iterator[Slip]:
-    """Yields all other attributes. The words say which attributes the previous entry had."""
+    """Yields every other value of the entry's attributes. The words say which attributes the
+    session's previous entry had.
+    """
     last = use.begun.last_attributes if use.begun else None
     own = use.entry.attributes
     sent = f"sent were {attribute_words(own)}"
@@ -186,8 +188,9 @@ def other_attributes(use: Use) -> Iterator[Slip]:
 
 
 def others(use: Use) -> Iterator[Slip]:
-    """Yields the nonces of the sessions that decrypt and encrypt, in the first entry; and other
-    sessions.
+    """Yields mistakes with other sessions: the nonceTPM of the session that decrypts or encrypts,
+    in an entry that does not need it; the key or the nonceTPM of another session; and the HMAC of
+    another entry.
     """
     model, right = use.scene.model, use.right().others
     for attribute, what in ((DECRYPT, "decrypts"), (ENCRYPT, "encrypts")):

@@ -80,7 +80,7 @@ class Commands(Held):
             # Sessions of all types, in the order of their slots.
             by_place = sorted((it & PLACE_BITS, it) for it in self.sessions)
             return [handle for at, handle in by_place if at >= wanted & PLACE_BITS]
-        # This kind requests saved sessions. The device never saves a session.
+        # Handles of this kind are those of saved sessions. The device never saves a session.
         if kind == POLICY_SESSION:
             return []
         if kind not in held:

@@ -128,9 +128,9 @@ def names_session(context: bytes) -> bool:
 
 
 class Completion:
-    """What the layer remembers about a device: the number of its start, by which it recognizes its
-    contexts; the sequence of the last context; and for each saved session the sequence of its
-    context.
+    """What the layer remembers about a device: the number of the layer's start, by which it
+    recognizes its own contexts; the sequence of the last context; and for each saved session the
+    sequence of its context.
     """
 
     def __init__(self, start: int = 0) -> None:
@@ -169,7 +169,7 @@ class Completion:
         place = handle & PLACE_BITS
         return self.sessions[place] if place < SESSIONS else 0
 
-    # Answers of the layer.
+    # Responses of the layer.
 
     def reply(self, device: Model, buffer: bytes, own: Outcome, place: Place) -> Completed:
         stands, asked = Completed(own, own), asked_of(buffer)
@@ -217,8 +217,8 @@ class Completion:
     def listed(
         self, device: Model, wanted: list[int], own: Outcome
     ) -> list[tuple[int, bytes]] | None:
-        """Returns the elements of a list that the layer makes, each with its number in requests;
-        None for other lists.
+        """Returns the elements of a list that the layer makes, each with the number that selects it
+        in a request; None for other lists.
         """
         if own.refused:
             return self.unserved(wanted[0]) if own.refused == "VALUE/p1" else None

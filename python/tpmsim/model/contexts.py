@@ -109,7 +109,7 @@ def sealed(device: Model, start: int, sequence: int, kept: Object) -> bytes:
     return head.text + sized(sized(right) + cipher)
 
 
-# Reading. The faults are in the order in which they are found.
+# Reading a context. The faults are in the order in which they are found.
 
 
 def opened(device: Model, start: int, context: bytes) -> Object:

@@ -138,8 +138,8 @@ def indices_text(device: Model) -> bytes:
     return text
 
 
-# Reading. In the body, a failed `check` is a fault, and so is a refusal by a parser of command
-# parameters.
+# Reading an image. In the body, a failed `check` is a fault, and so is a refusal by a parser of
+# command parameters.
 
 
 def check(holds: bool) -> None:

@@ -119,7 +119,7 @@ class Model(
         is_starved: bool = False,
     ) -> Outcome:
         """Executes a command after the elapsed time. If allocation fails for the command, only the
-        time changes the device.
+        elapsed time changes the device.
         """
         self.tick(elapsed)
         if is_starved:
@@ -370,8 +370,8 @@ class Model(
             return frames.entry_answer()
         session = self.sessions[entry.handle]
         hmac = b""
-        # An empty hmac, which is accepted if its key is empty, is answered by an empty hmac; a
-        # password is too.
+        # An empty hmac is accepted if its key is empty. The response to it, and the response to a
+        # password, have an empty hmac.
         if entry.hmac and entry.demand != policy.PASSWORD:
             answered = sessions.response_hash(session.algorithm, command.code, parameters)
             given = session.algorithm, self.key(entry, handle), answered, session.nonce_tpm

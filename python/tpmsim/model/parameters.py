@@ -63,7 +63,7 @@ class Parameters:
         return self.take(size)
 
     def structure(self, read: Callable[[Parameters], T]) -> T:
-        """Returns what `read` parses from a sized buffer; it has to use the whole buffer."""
+        """Returns what `read` parses from a sized buffer; `read` has to use the whole buffer."""
         fields = Parameters(self.take(self.number(2)), self.place, "SIZE")
         value = read(fields)
         if fields.fields.data:
@@ -148,8 +148,8 @@ Row = Callable[[Any, Request], Answer]
 
 
 def takes(*readers: Reader) -> Callable[[Act], Row]:
-    """Makes a row from a function and a parser for each parameter. Refuses bytes after the last
-    one.
+    """Makes a row from a function and a parser for each parameter. The row refuses bytes after the
+    last parameter.
     """
 
     def row_of(act: Act) -> Row:

@@ -129,8 +129,8 @@ def layer_text(layer: Layer) -> bytes:
     return b"".join(number(it, 8) for it in (layer.start, layer.count, *layer.sessions))
 
 
-# Reading. Bytes that are not a state text are refused with the same faults as bytes that are not an
-# image, found in the same order.
+# Reading a state text. Bytes that are not a state text are refused with the same faults as bytes
+# that are not an image, found in the same order.
 
 
 def open_state(

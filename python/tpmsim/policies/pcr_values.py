@@ -31,7 +31,7 @@ class PcrValues:
 
     @property
     def word(self) -> str:
-        """The values as the word of a policy's text."""
+        """The PCRs and their values, as one word of a policy's text."""
         banks = [f"{HASH_WORDS[it]}:{','.join(map(pair_word, pairs))}" for it, pairs in self.banks]
         return JOIN.decode("ascii").join(banks)
 

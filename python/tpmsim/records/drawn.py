@@ -1,5 +1,5 @@
 """The random bytes of a command in a log that does not record them, as far as its response shows
-them: the bytes that the command requested, and the nonces of its sessions. So logs of other
+them: the bytes that the command requested, and the nonces of its sessions. Therefore logs of other
 devices, which contain only commands and responses, can be replayed.
 """
 

@@ -68,8 +68,8 @@ def whole_of(part: Part) -> Part:
 
 
 def is_cut(entry: bytes) -> bool:
-    """Whether these bytes are the incomplete entry of the mark in their first line: they are
-    shorter than the entry, and their lines end where its lines do.
+    """Whether these bytes are the incomplete entry whose mark is in their first line: they are
+    shorter than that entry, and their lines end where its lines end.
     """
     mark = Mark.read(entry.partition(b"\n")[0])
     ends = {it.start() for it in LINE_END.finditer(entry)}

@@ -155,7 +155,7 @@ class Assembler:
 
     def learn_unchecked(self, prepared: Prepared, response: bytes) -> tuple[int | None, bytes]:
         """Returns a successful response unchecked, and learns from it, because the script contains
-        an entry's HMAC. What such sessions encrypt stays encrypted.
+        an entry's HMAC. Parameters that such sessions encrypt stay encrypted.
         """
         fields = Fields(response[HEADER_BYTES:])
         handle = fields.number(4) if prepared.code.answers_handle else None

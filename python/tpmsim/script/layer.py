@@ -161,7 +161,7 @@ class Layer:
     # Names and values.
 
     def auth(self, rest: str, column: int) -> str:
-        """`auth HANDLE VALUE`: sets the authorization value with which later lines compute."""
+        """`auth HANDLE VALUE`: sets the authorization value of a handle, which later lines use."""
         tokens = [self.names.put(it) for it in tokens_of(rest, column)]
         if len(tokens) != 2:
             raise Bad(column, "auth takes a handle and its value")

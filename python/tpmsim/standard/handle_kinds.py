@@ -26,8 +26,8 @@ def is_pcr(handle: int) -> bool:
     return handle in PCRS
 
 
-# For the following kinds the handle's number identifies the entity, even if the entity does not
-# exist.
+# For the following kinds, the number of the handle alone shows the type of the entity, even if
+# there is no such entity.
 
 
 def is_object(handle: int) -> bool:
