@@ -32,7 +32,7 @@ RESPONSES: dict[CC, type[Response]]
 
 NEXT_EMPTY = r"^(class .*: \.\.\.\n)\n(?=class .*: \.\.\.$)"
 
-# The Python types that a parameter of a command accepts.
+# The Python types that a parameter of a command accepts, by the parameter's kind.
 TAKEN = {
     Kind.CODE: "int | str",
     Kind.HANDLE: "Handle",
@@ -45,7 +45,7 @@ TAKEN = {
 }
 TAKEN_BY_NAME = {"property": "int", **dict.fromkeys(NUMBER_WORDS, "int | str")}
 
-# The value of a response's parameter.
+# The Python type of a response's parameter, by the parameter's kind.
 ANSWERED = {
     Kind.BUFFER: "bytes",
     Kind.BUFFERS: "list[bytes]",
@@ -65,7 +65,9 @@ def taken(parameter: Parameter) -> str:
 
 
 def answered(parameter: Parameter) -> str:
-    """Returns the type of a response's parameter that is read as an item."""
+    """Returns the type of a response's parameter when it is read as an item, as in
+    `response["name"]`.
+    """
     return ANSWERED.get(parameter.kind, "int")
 
 

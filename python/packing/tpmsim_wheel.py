@@ -22,7 +22,7 @@ SOURCES = pathlib.Path(__file__).resolve().parents[1]
 DISTRIBUTION = SOURCES.parent / "dist"
 LIBRARY, KEPT_LIBRARY, PROGRAM = "libtpmsim.so.0", "libtpmsim-kept.so.0", "tpmsim"
 
-# The page that shows explained logs, and its path in the package.
+# The HTML page that shows explained logs, and the page's path in the package.
 PAGE, PAGE_PLACE = DISTRIBUTION / "tpmsim.html", "tpmsim/explain/tpmsim.html"
 
 # The version of glibc that the program and the library need.
@@ -58,7 +58,7 @@ def stem() -> str:
 
 
 def sources() -> list[pathlib.Path]:
-    """The modules of the package and its data, sorted by name."""
+    """Returns the paths of the package's modules and data, sorted by name."""
     found = set(SOURCES.glob(f"{project()['name']}/**/*.py"))
     for package, patterns in told()["tool"]["tpmsim"]["package-data"].items():
         for pattern in patterns:
@@ -67,7 +67,7 @@ def sources() -> list[pathlib.Path]:
 
 
 def package() -> list[Entry]:
-    """All files of the package: its sources, and the page, if the repository is there."""
+    """Returns all files of the package: its sources and, in a clone of the repository, the page."""
     files = [Entry(it.relative_to(SOURCES).as_posix(), it.read_bytes()) for it in sources()]
     return [*files, Entry(PAGE_PLACE, PAGE.read_bytes())] if PAGE.is_file() else files
 
@@ -91,17 +91,17 @@ def entry_points() -> str:
 
 
 def shipped(machine: str) -> pathlib.Path:
-    """The folder of the files that are shipped for a machine."""
+    """Returns the folder of the files that are shipped for a machine."""
     return DISTRIBUTION / machine if machine == "aarch64" else DISTRIBUTION
 
 
 def tag(machine: str | None) -> str:
-    """The tag of a wheel, which says for which Python and machine it is."""
+    """Returns the tag of a wheel, which says for which Python and machine it is."""
     return f"py3-none-manylinux_{GLIBC[0]}_{GLIBC[1]}_{machine}" if machine else "py3-none-any"
 
 
 def described(machine: str | None) -> list[Entry]:
-    """The files that describe a wheel, except its RECORD."""
+    """Returns the files that describe a wheel, except its RECORD."""
     wheel = (
         f"Wheel-Version: 1.0\nGenerator: tpmsim\nRoot-Is-Purelib: {str(not machine).lower()}\n"
         f"Tag: {tag(machine)}\n"
@@ -150,8 +150,8 @@ def write_zip(path: pathlib.Path, entries: list[Entry]) -> None:
 
 def write_wheel(folder: str, machine: str | None) -> pathlib.Path:
     """Writes the wheel for a machine or, if `machine` is None, the wheel for every machine, which
-    has no library. Returns its path; raises OSError if it cannot be written, or if dist/ lacks
-    something.
+    has no library. Returns its path; raises OSError if it cannot be written, or if dist/ lacks a
+    file.
     """
     path = pathlib.Path(folder, f"{stem()}-{tag(machine)}.whl")
     write_zip(path, [*contents(machine), *described(machine)])

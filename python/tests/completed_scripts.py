@@ -16,8 +16,8 @@ OF_FAMILY_1 = bytes.fromhex("00c10000000c00000099") + b"\0\1"
 KINDS, OTHERS = (0x80, 0x80, 0x80, 0x80, 0x02, 0x03), (0x81, 0x01, 0x00, 0x40)
 PASSWORD, TAG = frames.area(frames.entry()), frames.SESSIONS
 
-# The parameters of TPM2_TestParms: for a KEYEDHASH, a SYMCIPHER, RSA, and some that the device does
-# not support.
+# The parameters of TPM2_TestParms: for a KEYEDHASH, a SYMCIPHER, RSA, and some parameters that the
+# device does not support.
 PARAMETERS = tuple(
     bytes.fromhex(it)
     for it in (

@@ -14,8 +14,8 @@ def lines_with(words):
     return [at for at, it in enumerate(lines, 1) if it.startswith(words)]
 
 
-# The line at which the disk stays locked, and the earlier line that measured an unexpected text
-# into PCR 7.
+# The line of the example at which the disk stays locked, and the earlier line that measured an
+# unexpected text into PCR 7.
 LOCKED, MOVED = lines_with("do Unseal")[-1], lines_with("do PCR_Event 00000007")[-1]
 
 

@@ -22,7 +22,9 @@ class Help(unittest.TestCase):
         self.assertIn("SCRIPT [OUTPUT] [--image START] [--policy FILE]..", output.getvalue())
 
     def test_refusals_that_are_no_entrys(self):
-        """The audit says why TPM2_PolicyNV got 126 in the words of tpmsim.explain."""
+        """In the words of tpmsim.explain, the audit says why TPM2_PolicyNV was refused with the
+        response code 126.
+        """
         script = """do Startup 0
 do NV_DefineSpace OWNER pw:- - 01000001000b0002000200000008
 do NV_Write OWNER 01000001 pw:- 0000000000000002 0

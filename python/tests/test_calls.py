@@ -207,7 +207,9 @@ class Faults(unittest.TestCase):
         self.assertTrue(issubclass(BadValue, ValueError))
 
     def test_other_structures(self):
-        """The public area of another TPM's key remains bytes."""
+        """The public area of another TPM's key is returned as bytes, and reading it as a structure
+        fails.
+        """
         rsa = bytes.fromhex("0001 000b 00030072 0000 0006 0080 0043 0010 0800 00000000 0000")
         text = sized(rsa) + sized(b"") + sized(b"")
         response = calls.RESPONSES[CC.ReadPublic](CC.ReadPublic, None, text)

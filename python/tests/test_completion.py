@@ -26,7 +26,7 @@ from tpmsim.standard.objects import Attribute
 
 SEEDS, COMMANDS, START = 12, 500, 7
 
-# What the layer may report that it did, with N for each number.
+# The actions that the layer may report, with N for each number.
 DEEDS = {
     "context N of object N, which stays loaded",
     "context N of session N, which stays in its slot",

@@ -68,7 +68,9 @@ def key_of(public):
 
 
 def fault_of(context, device=None, start=START):
-    """Returns the response code for a wrong context, or `opens`."""
+    """Returns the response code with which a wrong context is refused, or `opens` if it is not
+    refused.
+    """
     try:
         contexts.opened(device or device_of(), start, context)
     except contexts.Fault as fault:
@@ -380,8 +382,8 @@ class OfLayer(unittest.TestCase):
         self.assertEqual(self.load_code(kept[0]), HANDLE_P1)
 
     def test_lengths(self):
-        """The largest context is that of an HMAC key. The listed size is two bytes larger, since a
-        SYMCIPHER has a larger public area, but a shorter key.
+        """The largest context is that of an HMAC key. The property for the largest context is two
+        bytes larger, since a SYMCIPHER has a larger public area, but a shorter key.
         """
         public = hmac_key(auth_policy=bytes(32))
         largest = self.tpm.create_primary(public, data=b"d" * 128, user_auth=b"v" * 32)

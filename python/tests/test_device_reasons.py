@@ -57,7 +57,9 @@ class Reasons(unittest.TestCase):
 
     @unittest.skipUnless(library.is_there(), "there is no library")
     def test_kept(self):
-        """A refusal is explained also after a power cycle, and with the completing layer."""
+        """A refusal of a device in a folder is also explained after a power cycle, and with the
+        completing layer.
+        """
         self.assert_explained(KeptDevice(self.folder / "kept"))
         with KeptDevice(self.folder / "other", completes=True) as device:
             Caller(device).start_up()

@@ -52,7 +52,7 @@ class Told(TwentyTests):
         self.assertIn("# GetRandom L3 +7 ok 00000000", self.tpm.device.trace)
 
     def test_seed(self):
-        """A device with a seed draws the same bytes in each run."""
+        """A device with a seed draws the same random bytes in each run."""
         answers = set()
         for _ in range(2):
             with self.device() as device:
@@ -69,7 +69,9 @@ class Told(TwentyTests):
 
 
 class Shipped(unittest.TestCase):
-    """The files in a clone of the repository are found by the machine's name."""
+    """The files that a clone of the repository contains for each machine are found by the machine's
+    name.
+    """
 
     def test_machines(self):
         for machine, folder in (("x86_64", "dist"), ("aarch64", "aarch64")):

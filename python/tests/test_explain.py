@@ -1,4 +1,4 @@
-"""Tests explanations: their sentences, their numbers, and that every refusal is explained."""
+"""Tests explanations: their sentences and numbers, and that no refusal lacks an explanation."""
 
 import contextlib
 import io

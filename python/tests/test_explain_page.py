@@ -12,7 +12,8 @@ from tpmsim.explain import page
 from tpmsim.explain.play import Play
 from tpmsim.explain.text import Counts
 
-# A hostile text anywhere in a log: in its name, in comments, in words, and in bytes that are text.
+# A hostile text, which occurs everywhere in a log: in its name, in comments, in words, and in bytes
+# that are text.
 HOSTILE = "</script><script>alert(1)</script><!--<img src=x onerror=alert(2)>&amp;@FACTS@"
 LOG = f"""# {HOSTILE}
 do Startup 0

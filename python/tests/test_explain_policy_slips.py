@@ -110,7 +110,7 @@ class Case:
 
 
 def link(place, make):
-    """Returns a change that computes one digest of the chain by `make`, from the case and the
+    """Returns a change that computes one digest of the chain with `make`, from the case and the
     previous digest.
     """
 
@@ -264,7 +264,9 @@ class PolicySlips(unittest.TestCase):
                     self.assertEqual(found.slips, [name])
 
     def test_two(self):
-        """Makes pairs of mistakes at different links, neither of which undoes the other."""
+        """Makes pairs of mistakes at different links of the chain, neither of which undoes the
+        other.
+        """
         named = 0
         for at, (first, second) in enumerate(pairs_of(ROWS)):
             case = Case(f"two {at} {first[0]}, {second[0]}")
@@ -333,8 +335,8 @@ class PolicySlips(unittest.TestCase):
         self.assertIn('"in none of them", in PolicySecret', found.words)
 
     def test_or(self):
-        """A PolicyOR has a mistake: its branches in another order, the digest before them, or no
-        zeros.
+        """Two mistakes in a PolicyOR are found: its branches are in another order, or the zeros
+        before them are left out.
         """
         branches = b"\1" * 32, bytes(32), b"\3" * 32
         text = number(CC.PolicyOR, 4)

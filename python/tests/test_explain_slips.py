@@ -220,7 +220,9 @@ class Slips(unittest.TestCase):
             self.bends(case, "old Name", hashed={"names": [old, old]})
 
     def test_old_name_and_lapsed_binding(self):
-        """The caller does not know of the first write to the index."""
+        """The caller does not know that the index was written, which changed its Name and ended the
+        session's binding.
+        """
         for case in self.cases("both", bound=True, entity="index"):
             old = case.tpm.name(case.handle)
             case.tpm.send(case.use())

@@ -40,7 +40,8 @@ def valued(turn):
 
 
 def keyed(**changes):
-    """Returns a change of the session key, made from the case."""
+    """Returns a change that computes the session key from changed parts, each made from the case.
+    """
 
     def turn(case, it):
         it.session_key = case.kdf(**{name: made(case) for name, made in changes.items()})
@@ -333,8 +334,8 @@ def together(first, second):
 
 
 def pairs_of(count):
-    """Yields random pairs of mistakes with their choices. The two mistakes concern different
-    ingredients, or both concern the last one.
+    """Yields random pairs of different mistakes, with their choices. The mistake in the ingredient
+    that is computed earlier comes first.
     """
     pairs = list(itertools.combinations(ROWS, 2))
     for pair in random.Random("pairs").sample(pairs, count):

@@ -117,7 +117,9 @@ class Explained(unittest.TestCase):
         self.assertIn("told by", " ".join(map(str, events[-1].reason.facts)))
 
     def test_another_device(self):
-        """Of another device, only the state in its head is known. Its power is on."""
+        """If a later head is of another device, only the state in that head is known, and that
+        device's power is already on.
+        """
         text = Journal().play(START).text + gone_on(CODE, READ).text
         play = Play()
         events = list(play.events(text))

@@ -1,4 +1,4 @@
-// The page: a script, its chosen step, and the device after it.
+// The page: a script, the chosen step, and the device after that step.
 
 import { areSame, hexNumber, hexOf } from "./bytes.js";
 import { faultName } from "./coloured.js";
@@ -112,7 +112,8 @@ export class Page {
   }
 
   /**
-   * Before another script replaces the present one: stores the present one if it is the user's own.
+   * Called before another script replaces the present script: stores the present script if it is the
+   * user's own.
    */
   keepFormer() {
     if (this.isOwn) this.former = this.editor.text;
@@ -217,8 +218,8 @@ export class Page {
   }
 
   /**
-   * Called after the user chose a step: removes a message about the step before, and puts the
-   * chosen step into the link.
+   * Called after the user chose a step: removes a message about the previous step, and
+   * puts the chosen step into the link.
    */
   stepped() {
     if (this.isPassing) this.sayCount();

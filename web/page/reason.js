@@ -111,7 +111,8 @@ function failedCondition(buffer, meaning, before) {
 const WRITTEN = 1 << 29;
 
 /**
- * Returns the first condition that does not hold: conditions 5 and 6 are checked before 8.
+ * Returns the number of the first policy condition that does not hold: conditions 5 and 6 are
+ * checked before condition 8.
  * @param {import("./state.js").Session} session
  * @param {import("./state.js").Index | undefined} index
  */

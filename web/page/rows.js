@@ -1,5 +1,5 @@
 // The visible rows of the editor: each line in colours, and next to it its number and its result.
-// Unchanged rows stay, so an edit makes few elements.
+// Unchanged rows remain, so that an edit creates only a few elements.
 
 import { colouredLine } from "./coloured.js";
 import { byId, make } from "./dom.js";

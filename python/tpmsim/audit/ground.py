@@ -19,8 +19,8 @@ from tpmsim.standard.lines import handle_word
 
 @dataclass(frozen=True)
 class Use:
-    """An entry of a command, with the entity that it authorizes, if any, and with its session
-    according to the history.
+    """An authorization entry of a command: the entity that it authorizes, if any, and its session
+    as the history knows it.
     """
 
     seen: Seen

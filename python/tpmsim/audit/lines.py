@@ -102,8 +102,8 @@ def written_by(event: Accepted) -> list[tuple[int, int]]:
 
 
 class ValueLines:
-    """The line that set the authorization value of each handle. A value that no line set is from
-    the start of the log.
+    """The line that set the authorization value of each handle. A value that no line set was
+    already set when the log began.
     """
 
     def __init__(self, text: str) -> None:

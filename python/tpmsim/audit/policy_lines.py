@@ -110,8 +110,8 @@ def steps_before(of: Policy) -> Iterator[Taken]:
 
 
 def step_at(algorithm: int, written: Written, told: Told) -> tuple[Told, Asserted]:
-    """Returns the assertions of the session before its last one, and the last one. Raises NotMet
-    unless the last one is the written assertion.
+    """Splits a session's assertions: returns those before the last one, and the last one. Raises
+    NotMet unless the last one is the written assertion.
     """
     head = f"policy line {written.line}, {written.said.words}"
     if not told.asserted:

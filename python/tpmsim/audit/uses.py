@@ -27,8 +27,8 @@ COUNTED, NOT_COUNTED = "AUTH_FAIL", "BAD_AUTH"
 
 @dataclass
 class Stretch:
-    """The events between two resets of failedTries, their duration in milliseconds, and the lines
-    of the failed guesses.
+    """The time between two resets of failedTries: its events, its duration in milliseconds, and the
+    lines of the failed guesses.
     """
 
     first: int

@@ -9,7 +9,9 @@ from tpmsim.standard import Fields
 
 @dataclass(frozen=True)
 class Saved:
-    """A saved context: the line that saved it, its head, and what it is bound to."""
+    """A saved context: the line that saved it, its head (the fields before the contextBlob), and
+    the values to which it is bound.
+    """
 
     line: int
     head: Head
@@ -48,8 +50,8 @@ class Contexts:
         return f"Line {saved.line} saved it; since then {ended}."
 
     def words_of_similar(self, context: bytes) -> str:
-        """Returns the line that saved a context with the same head but with different bytes after
-        it.
+        """Returns the line that saved a context with the same head, but with different bytes after
+        the head.
         """
         head = context[:HEAD_BYTES]
         lines = [it.line for text, it in self.saved.items() if text.startswith(head)]

@@ -206,7 +206,9 @@ def key_words(use: Use) -> str:
 
 @dataclass(frozen=True)
 class Otherwise:
-    """A mistake in a caller's encryption, and the parameters that the caller then meant."""
+    """A mistake that a caller may have made in its encryption, and the parameters that the caller
+    then meant to send.
+    """
 
     name: str
     words: str
