@@ -17,7 +17,8 @@ from tpmsim.standard.objects import Attribute
 
 Public = nv.Public | objects.Public
 
-# Besides the codes of entries, the device can refuse entries that authorize nothing with this code.
+# The checks of entries also refuse, with this code, a first parameter that is cut off and cannot be
+# decrypted. No entry causes this refusal.
 OF_PARAMETERS = "INSUFFICIENT/p1"
 
 

@@ -1,6 +1,6 @@
-"""Commands by their names in Part 3, and a response class for each. Both are made from the table of
-commands, `tpmsim.standard.commands`. The types of each command are in calls.pyi, which
-packing/call_types.py writes from the same table.
+"""The commands, which are called by their names in Part 3, and a response class for each command.
+Both are made from the table of commands, `tpmsim.standard.commands`. The types of each command are
+in calls.pyi, which packing/call_types.py writes from the same table.
 """
 
 from typing import Any, Callable, Sequence
@@ -56,7 +56,7 @@ class Commands(Knowledge):
     """Prepares any command by its name."""
 
     def by(self, uses: Sequence[Means], handle: int) -> Sequence[Means]:
-        """Returns the uses; if there are none, the known authorization value of the handle."""
+        """Returns the uses or, if there are none, the known authorization value of the handle."""
         return uses or [self.auth_value(handle)]
 
     def command(

@@ -42,8 +42,8 @@ class Session:
 
 @dataclass
 class Use:
-    """The use of a session in an entry. An hmac whose key is empty may be left out; with
-    `shows_empty_key`, it is sent. `demand` is what the session's policy demands.
+    """The use of a session in an entry. An hmac whose key is empty may be left out; it is sent if
+    `shows_empty_key` is set. `demand` is what the session's policy demands.
     """
 
     session: Session

@@ -24,19 +24,19 @@ class PreparedCommands(Commands):
     def asked(
         self, code: CC, those: Sequence[int], uses: Sequence[Means], *values: Any
     ) -> Prepared:
-        """Prepares a command with a value for each parameter. Without uses, the handle's known
-        authorization value authorizes it, as a password.
+        """Prepares a command with a value for each parameter. Without `uses`, the handle's known
+        authorization value authorizes the command, as a password.
         """
         return self.bare(code, those, self.by(uses, those[0]) if code.authorized else uses, *values)
 
     # PCRs, hierarchies and sessions.
 
     def reset(self, *uses: Means, pcr: int = 16) -> Prepared:
-        """TPM2_PCR_Reset; without uses it has no entry."""
+        """TPM2_PCR_Reset. Without `uses`, the command has no entries."""
         return self.bare(CC.PCR_Reset, [pcr], uses)
 
     def event(self, data: bytes, *uses: Means, pcr: int = 16) -> Prepared:
-        """TPM2_PCR_Event; without uses it has no entry."""
+        """TPM2_PCR_Event. Without `uses`, the command has no entries."""
         return self.bare(CC.PCR_Event, [pcr], uses, data)
 
     def random(self, count: int, *uses: Means) -> Prepared:
@@ -44,7 +44,7 @@ class PreparedCommands(Commands):
         return self.asked(CC.GetRandom, [], uses, count)
 
     def change_auth(self, hierarchy: int, new: bytes, *uses: Means) -> Prepared:
-        """TPM2_HierarchyChangeAuth; without uses it has no entry."""
+        """TPM2_HierarchyChangeAuth. Without `uses`, the command has no entries."""
         return self.bare(CC.HierarchyChangeAuth, [hierarchy], uses, new)
 
     def flush(self, session: Session | int) -> Prepared:
@@ -91,7 +91,7 @@ class PreparedCommands(Commands):
         return self.asked(CC.PolicyCpHash, [session.handle], uses, cp_hash)
 
     def written_told(self, session: Session, is_written: int, *uses: Means) -> Prepared:
-        """TPM2_PolicyNvWritten; 1 if the index must be written, else 0."""
+        """TPM2_PolicyNvWritten; `is_written` is 1 if the index must be written, else 0."""
         return self.asked(CC.PolicyNvWritten, [session.handle], uses, is_written)
 
     def branches(self, session: Session, *digests: bytes, count: int | None = None) -> Prepared:
@@ -106,7 +106,7 @@ class PreparedCommands(Commands):
         given: bytes = b"",
         uses: Sequence[Means] = (),
     ) -> Prepared:
-        """TPM2_PolicyPCR; `given` is the expected digest of the PCR values, or empty."""
+        """TPM2_PolicyPCR; `given` is the expected digest of the PCR values, or empty bytes."""
         return self.asked(CC.PolicyPCR, [session.handle], uses, given, banks)
 
     def secret(
@@ -119,7 +119,7 @@ class PreparedCommands(Commands):
         policy_ref: bytes = b"",
         expiration: int = 0,
     ) -> Prepared:
-        """TPM2_PolicySecret; without uses, the empty password authorizes it."""
+        """TPM2_PolicySecret. Without `uses`, the empty password authorizes the command."""
         values = nonce_tpm, cp_hash, policy_ref, expiration
         return self.bare(CC.PolicySecret, [of, session.handle], uses or [b""], *values)
 
@@ -266,7 +266,7 @@ class PreparedCommands(Commands):
         return self.asked(CC.Shutdown, [], uses, kind)
 
     def self_test(self, full: int, *uses: Means) -> Prepared:
-        """TPM2_SelfTest; 1 requests a full test."""
+        """TPM2_SelfTest; `full` is 1 for a full test."""
         return self.asked(CC.SelfTest, [], uses, full)
 
     def clock(self) -> Prepared:
@@ -282,5 +282,5 @@ class PreparedCommands(Commands):
         return self.asked(CC.Clear, [asker], uses)
 
     def clear_control(self, asker: int, disables: int, *uses: Means) -> Prepared:
-        """TPM2_ClearControl; 1 disables TPM2_Clear, 0 enables it."""
+        """TPM2_ClearControl; `disables` is 1 to disable TPM2_Clear, and 0 to enable it."""
         return self.asked(CC.ClearControl, [asker], uses, disables)

@@ -93,7 +93,7 @@ class OtherDevice(Transport):
 
 
 class LocatedDevice(OtherDevice):
-    """A device that receives the locality of each command. The locality is 0 at first."""
+    """A device to which the locality of each command is sent. The locality is 0 at first."""
 
     at = 0
 

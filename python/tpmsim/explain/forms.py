@@ -1,5 +1,5 @@
 """Other forms of a value that a caller may have used instead of the value, as a table: the name of
-each form, its words, and the conversion of a value to it. An empty value is not a form.
+each form, its description, and the conversion of a value to it. An empty value is not a form.
 """
 
 import base64

@@ -1,5 +1,5 @@
-"""The events before a command: when each authorization value was set, and which assertions the
-policy of each session contains.
+"""What is known from the events before a command: when each authorization value was set, and which
+assertions the policy of each session contains.
 """
 
 from __future__ import annotations

@@ -14,8 +14,8 @@ from tpmsim.standard import CC, digest, digest_bytes, number, sized
 
 @dataclass(frozen=True)
 class Text:
-    """A row of the table: a name, words, and a function from the previous digest to the next, which
-    returns None if the row does not apply to this assertion.
+    """A row of the table: a name, a description, and a function from the previous digest to the
+    next, which returns None if the row does not apply to this assertion.
     """
 
     name: str

@@ -22,7 +22,7 @@ MOST_ORDERED = 5
 
 @dataclass(frozen=True)
 class Item:
-    """An assertion with its words, and its position if the session made it."""
+    """An assertion with its description, and its position if the session made it."""
 
     link: Link
     words: str

@@ -1,5 +1,5 @@
-"""A caller's mistake ("slip"): its name, its words, and how it changes the ingredients of a hash or
-an HMAC.
+"""A caller's mistake ("slip"): its name, its description, and how it changes the ingredients of a
+hash or an HMAC.
 """
 
 from __future__ import annotations
@@ -17,9 +17,10 @@ Changes = Mapping[str, Any]
 
 @dataclass(frozen=True)
 class Slip:
-    """The changes that a mistake makes to the ingredients. It has a name and words, or two of each
-    if one ingredient contains two mistakes. An unpaired mistake is not combined with others. `turn`
-    makes the changes to ingredients that another mistake has already changed, if that is possible.
+    """The changes that a mistake makes to the ingredients. It has a name and a description, or two
+    of each if one ingredient contains two mistakes. An unpaired mistake is not combined with
+    others. `turn` makes the changes to ingredients that another mistake has already changed, if
+    that is possible.
     """
 
     told: tuple[Told, ...] = ()

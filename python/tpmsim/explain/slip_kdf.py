@@ -1,5 +1,5 @@
-"""The common mistakes in KDFa, which makes a session key, as a table: a name, words, and how the
-parts change.
+"""The common mistakes in KDFa, which makes a session key, as a table: each has a name, a
+description, and a change of KDFa's parts.
 """
 
 from typing import Callable, Iterator, NamedTuple

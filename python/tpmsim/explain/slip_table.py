@@ -1,5 +1,5 @@
-"""The common mistakes in the parts of an HMAC, as a table: a name, words, and how the ingredients
-change.
+"""The common mistakes in the parts of an HMAC, as a table: each has a name, a description, and a
+change of the ingredients.
 """
 
 from typing import Callable, Iterator

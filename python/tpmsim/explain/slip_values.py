@@ -84,7 +84,7 @@ def told_forms(value: bytes) -> Iterator[tuple[tuple[Told, ...], bytes, bool]]:
 
 
 def worded(told: tuple[Told, ...], begin: str) -> tuple[Told, ...]:
-    """Returns the words for each form, after words that say where the value was used."""
+    """Returns the description of each form, after words that say where the value was used."""
     return tuple((name, f"{begin} {words}") for name, words in told)
 
 

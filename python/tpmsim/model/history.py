@@ -187,7 +187,8 @@ class Counters:
             self.largest = max(self.largest, value)
 
 
-# Sessions, with their policies. A binding is a Name, its authorization value, and its protection.
+# Sessions, with their policies. A binding consists of a Name, the entity's authorization value, and
+# its protection.
 Bound = tuple[bytes, bytes, str | None]
 
 

@@ -113,7 +113,7 @@ TEMPLATE = (
 def has_wrong_attributes(public: Public, parent: Object | None) -> bool:
     if public.has(Attribute.FIXED_TPM) and public.has(Attribute.ENCRYPTED_DUPLICATION):
         return True
-    # fixedTPM says that no ancestor can be duplicated, so it depends on the parent.
+    # fixedTPM claims that no ancestor can be duplicated, so it requires a parent that has it.
     if parent is not None and not parent.public.has(Attribute.FIXED_TPM):
         if public.has(Attribute.FIXED_TPM):
             return True

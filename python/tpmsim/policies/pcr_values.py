@@ -37,7 +37,7 @@ class PcrValues:
 
 
 def pair_word(pair: tuple[int, bytes]) -> str:
-    """Returns the word of a PCR with its value."""
+    """Returns the word that encodes a PCR and its value."""
     return f"{pair[0]}={hex_word(pair[1])}"
 
 

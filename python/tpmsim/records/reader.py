@@ -75,7 +75,7 @@ class Command:
 
 @dataclass(frozen=True)
 class Comment:
-    """The words of a comment; an empty line has none."""
+    """The words of a comment. An empty line has no words."""
 
     line: int
     words: str
@@ -185,7 +185,7 @@ class Reading:
             yield Begin(self.line - 1, content, self.sum, damage_of(mark, content))
 
     def step(self, text: bytes) -> Iterator[Step]:
-        """Yields the steps of one line."""
+        """Yields the steps that one line of the log makes."""
         if len(text) > LINE_BYTES:
             raise BadLine
         if text == b"power":

@@ -126,7 +126,7 @@ class Assembler:
 
     @staticmethod
     def with_word(attributes: int, word: str, code: CC, session: Session, token: Token) -> int:
-        """Returns an entry's attributes, changed as one word says."""
+        """Returns an entry's attributes after one word, such as `decrypt`, has changed them."""
         takes = {DECRYPTS: code.takes_sized, ENCRYPTS: code.answers_sized, ENDS: True}
         if word not in takes:
             raise Bad(token.column, f"an entry has pin=, {', '.join(WORDS)}, and not {word}")
