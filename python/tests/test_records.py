@@ -210,7 +210,9 @@ class Answers(unittest.TestCase):
 
 
 class Audits(unittest.TestCase):
-    """A journal is judged by its own head and checksums, with or without an output."""
+    """The audit judges a journal by the journal's own head and checksums, with or without an
+    output.
+    """
 
     def test_a_journal(self):
         journal = journal_with_index()

@@ -112,8 +112,8 @@ export class Page {
   }
 
   /**
-   * Called before another script replaces the present script: stores the present script if it is the
-   * user's own.
+   * Called before another script replaces the present script: stores the present script if it is
+   * the user's own.
    */
   keepFormer() {
     if (this.isOwn) this.former = this.editor.text;
@@ -218,8 +218,8 @@ export class Page {
   }
 
   /**
-   * Called after the user chose a step: removes a message about the previous step, and
-   * puts the chosen step into the link.
+   * Called after the user chose a step: removes a message about the previous step,
+   * and puts the chosen step into the link.
    */
   stepped() {
     if (this.isPassing) this.sayCount();

@@ -51,8 +51,8 @@ export class Tutorial {
   }
 
   /**
-   * Closes the lesson. Opening a file also closes the lesson, even if the file is the image that the
-   * task asks for.
+   * Closes the lesson. Opening a file also closes the lesson, even if the file is the image that
+   * the task asks for.
    */
   close() {
     if (!this.isOpen) return;

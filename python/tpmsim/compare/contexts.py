@@ -71,8 +71,8 @@ class Contexts:
         self.kept = {text: it for text, it in self.kept.items() if not names_session(text)}
 
     def loaded(self, handle: int, there: bytes, kept: Kept | None) -> None:
-        """Notes the handle that a reloaded object or session has on the other TPM, which may be
-        new.
+        """Notes the handle that a reloaded object or session has on the other TPM. It may be a new
+        handle.
         """
         other = int.from_bytes(there[10:14], "big")
         self.translation.handles[handle] = other

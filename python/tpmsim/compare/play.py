@@ -212,7 +212,7 @@ class Comparison:
         elif is_here:
             contexts.lose(event.buffer, event.response, self.line)
         elif is_there and loads_context(event.buffer):
-            # Removes what was loaded only on the other TPM.
+            # Removes what this command loaded only on the other TPM.
             self.flush(int.from_bytes(response[10:14], "big"))
 
     def differ(self, name: str, asked: Command | None, what: str, here: str, there: str) -> None:

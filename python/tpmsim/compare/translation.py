@@ -12,7 +12,8 @@ from tpmsim.standard import ALG_NULL, CC, CONTINUE_SESSION, DECRYPT, Entry, Fiel
 from tpmsim.standard import frames, is_policy, is_session, Kind, nv, RS_PW, sessions, Short
 from tpmsim.standard.values import read_all, VALUES
 
-# The least size of a replaced value. A shorter one could occur in a command by chance.
+# Only values of at least this size are replaced. A shorter value could occur in a command by
+# chance.
 LEAST_VALUE = 8
 
 TIED = "a Name of an object is in its policy"

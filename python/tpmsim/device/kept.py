@@ -67,13 +67,13 @@ def check(told: int, reason: str) -> None:
 
 
 class KeptDevice(LocatedDevice):
-    """The device in a folder. If the folder has none, a new one is made there. Several processes
-    may use it at once: each executes the commands that the others added, and then its own. With
-    `forces`, the name of each new or opened journal is synced to the disk. With `completes`, the
-    completing layer of the library is above the device. The last `keep` replaced journals, 0 to 99,
-    stay in the folder. With `cuts`, the rest of a journal from its first damage on is dropped;
-    otherwise a damaged journal is refused. A forked child may use its parent's device, and threads
-    take turns.
+    """The device that is kept in a folder. If the folder contains no device, a new one is made
+    there. Several processes may use it at once: each executes the commands that the others added,
+    and then its own. With `forces`, the name of each new or opened journal is synced to the disk.
+    With `completes`, the completing layer of the library is above the device. The last `keep`
+    replaced journals, 0 to 99, stay in the folder. With `cuts`, the rest of a journal from its
+    first damage on is dropped; otherwise a damaged journal is refused. A forked child may use its
+    parent's device, and threads take turns.
 
     If a call fails, the message of DeviceEnded is a sentence of docs/ATTACHED.md. If the journal
     begins with bytes that are not an image or a state text, the exception is BadImage or BadState.

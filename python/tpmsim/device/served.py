@@ -132,7 +132,7 @@ class ServedDevice(InStep, OtherDevice):
 
 class FileDevice(InStep, OtherDevice):
     """A file that takes a command and returns the response, like /dev/tpmrm0 and /dev/tpm0.
-    Commands to a TPM of this computer have their real effect.
+    Commands to a real TPM of this computer have real effects.
 
     >>> import tempfile
     >>> with tempfile.NamedTemporaryFile() as file, FileDevice(file.name) as device:

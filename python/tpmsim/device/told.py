@@ -143,7 +143,7 @@ class Device(Transport):
 
     @property
     def locality(self) -> int:
-        """The locality of the next commands, 0 to 4, at first 0; another number raises ValueError.
+        """The locality of the next commands, 0 to 4, initially 0; another number raises ValueError.
 
         >>> with Device() as device:
         ...     device.locality = 3

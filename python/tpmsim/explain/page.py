@@ -1,7 +1,7 @@
-"""A log as a page to view: the page of the device (docs/WEB.md), with the log and the findings
-about it. The page itself plays the log, so it contains the log's text, but no state and no fields.
-A log is data in the page, which its script shows only as text. So no log can close the element that
-contains it, or be parsed as markup.
+"""Shows a log as a page: the page of the device (docs/WEB.md), with the log and the findings about
+it. The page itself plays the log, so it contains the log's text, but no state and no fields. A log
+is data in the page, which its script shows only as text. Therefore no log can close the element
+that contains it, or be parsed as markup.
 """
 
 import html

@@ -58,7 +58,7 @@ class Search:
         return self.one_turned(self.items, self.alternatives)
 
     def one_turned(self, items: Items, those: Sequence[Turned]) -> list[Told]:
-        """Tries these changed assertions, one at a time."""
+        """Tries the changed assertions in `those`, one at a time."""
         self.tried += 1
         before = digests_before(self.zeros, items)
         places = {it.place: at for at, it in enumerate(items) if it.place is not None}

@@ -10,7 +10,7 @@ from tpmsim.standard import digest, number, sized
 from tpmsim.standard.sessions import mac
 
 
-# Other ways to combine the parts of an HMAC.
+# Wrong ways to combine the parts of an HMAC.
 
 
 def value_first(session_key: bytes, auth_value: bytes) -> bytes:

@@ -153,7 +153,7 @@ def start_up(indices: dict[int, Index]) -> None:
             index.data = b""
             index.public = index.public.but(cleared=Attribute.WRITTEN)
         index.public = index.public.but(cleared=Attribute.READLOCKED)
-        # A lock by WRITEDEFINE remains if the index is written.
+        # A write lock of an index with WRITEDEFINE remains, if the index is written.
         if not (index.public.has(Attribute.WRITEDEFINE) and index.public.has(Attribute.WRITTEN)):
             index.public = index.public.but(cleared=Attribute.WRITELOCKED)
 

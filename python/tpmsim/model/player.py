@@ -1,4 +1,6 @@
-"""Scripts: the lines that `tpmsim run --trace` prints for a script, and how it ends."""
+"""Plays scripts: makes the lines that `tpmsim run --trace` prints for a script, and says how the
+script ends.
+"""
 
 import re
 from typing import Iterable

@@ -1,5 +1,5 @@
-"""A policy session's state, and what it is compared with at a use (TPM 2.0 Library, Part 1,
-19.7).
+"""A policy session's state, and the values with which it is compared when the session is used (TPM
+2.0 Library, Part 1, 19.7).
 """
 
 from __future__ import annotations
