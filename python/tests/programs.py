@@ -1,4 +1,4 @@
-"""Programs that run at the same time as the tests."""
+"""Runs programs that the tests use while they run."""
 
 import atexit
 import contextlib

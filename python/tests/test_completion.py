@@ -131,7 +131,7 @@ class InPython(unittest.TestCase):
 
 
 class OldContexts(unittest.TestCase):
-    """Tests the explanations why a context that the log saved can no longer be loaded."""
+    """Tests the explanations of why a context that the log saved can no longer be loaded."""
 
     def setUp(self):
         self.device = self.enterContext(RecordedModel())

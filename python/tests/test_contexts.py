@@ -22,9 +22,9 @@ from tpmsim.standard import aes, CC, command, frames, mac, number, RH_LOCKOUT, R
 from tpmsim.standard import SHA256, sized, TRANSIENT
 from tpmsim.standard.objects import Attribute
 
-# Two HMAC keys, one without and one with stClear, of a device whose proofs consist of this byte;
-# and their contexts, which `hashlib`, `hmac` and `cryptography` computed. crates/tpm_context_tests
-# contains them too.
+# Two HMAC keys, one without and one with stClear, of a device whose proofs consist of the byte
+# PROOF_BYTE; and their contexts, which were computed with `hashlib`, `hmac` and `cryptography`. The
+# same contexts are in crates/tpm_context_tests.
 PROOF_BYTE, START, RESETS, RESTARTS = 7, 0x1122334455667788, 3, 5
 PUBLICS = "00100008000b0004044000000005000b0000", "00100008000b0004044400000005000b0000"
 SENSITIVE = "000f00080001610002736400044a656665"

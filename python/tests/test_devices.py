@@ -40,7 +40,7 @@ NEEDS_LIBRARY = unittest.skipUnless(tpmsim.device.library.is_there(), "there is 
 
 
 class Told(TwentyTests):
-    """Tests of devices that receive their locality, time and random bytes."""
+    """Tests of devices whose locality, time and random bytes are set by the caller."""
 
     def test_trace_is_a_script(self):
         self.tpm.device.locality = 3

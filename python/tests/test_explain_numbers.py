@@ -164,7 +164,9 @@ class Policies(unittest.TestCase):
         self.tpm.start_up()
 
     def reason(self, condition, prepared):
-        """Returns the reason for a refusal, which must be this condition of a policy."""
+        """Sends a command, which must be refused because this condition of a policy does not hold;
+        returns the reason for the refusal.
+        """
         self.assertRaises(Refused, self.tpm.send, prepared)
         found = explained(self.device).reason
         self.assertEqual(found.rule, f"condition/{condition}")

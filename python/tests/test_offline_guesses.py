@@ -1,5 +1,6 @@
-"""Tests the reports about guesses without the device. The explanation and the audit report a value
-that encrypts although the caller did not have to know it. They do not report ordinary encryption.
+"""Tests the reports about values that can be guessed without the device. The explanation and the
+audit report a value that is used to encrypt although the caller did not have to know it. They do
+not report ordinary encryption.
 """
 
 import pathlib
@@ -21,7 +22,7 @@ BOUND = "is bound to LOCKOUT, and encrypts an answer to a command that does not 
 
 
 def guessed(script):
-    """Returns the reports about guesses, with their lines."""
+    """Returns the reports about values that can be guessed, with their lines."""
     events = Play().events(script)
     return [
         (it.line, note.slips[0]) for it in events for note in it.notes if note.rule == "guesses"
@@ -48,7 +49,7 @@ def audited(script):
 
 
 class OfflineGuesses(unittest.TestCase):
-    """Reports a value that encrypts although the caller did not have to know it."""
+    """A value that is used to encrypt is reported if the caller did not have to know it."""
 
     def test_attack(self):
         slip = "guesses of a bound value need no try"

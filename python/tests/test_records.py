@@ -1,5 +1,5 @@
-"""Tests that records are read as they were written: heads with images, incomplete ends, and
-responses before and after their commands.
+"""Tests that records are read as they were written: with images in their heads, with incomplete
+ends, and with responses before or after the commands.
 """
 
 import contextlib

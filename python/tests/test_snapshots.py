@@ -162,7 +162,7 @@ def device_image():
 
 
 class Told(Snapshots):
-    """Tests of devices that receive their locality, time and random bytes."""
+    """Tests of devices whose locality, time and random bytes are set by the caller."""
 
     def test_what_was_told(self):
         """A snapshot restores the settings of the device. Its bytes alone contain no settings, and

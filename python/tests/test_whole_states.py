@@ -73,7 +73,8 @@ def judged(text, *policies):
 
 
 def loaded_twice():
-    """Returns a log in which an object is loaded, used by its policy, flushed, and loaded again."""
+    """Returns a log in which an object is loaded, used with its policy, flushed, and loaded again.
+    """
     device = ModelDevice(seed=b"reloads")
     tpm = Caller(device, random.Random(1).randbytes)
     tpm.start_up()
@@ -193,7 +194,9 @@ class Judged(unittest.TestCase):
         self.assertTrue(any(it.strip().startswith(words) for it in told))
 
     def test_a_refusal(self):
-        """A PCR is written after the state was saved, so the use does not satisfy the policy."""
+        """A PCR is written after the state was saved, so the session no longer satisfies its
+        policy.
+        """
         auditor, told = judged(gone_on(EXTEND, CODE, READ).text, POLICY)
         self.assertEqual(auditor.policies.faults(), [])
         words = "refused by PCR_CHANGED: line 7 wrote a PCR after its first TPM2_PolicyPCR, before the log"
