@@ -78,8 +78,8 @@ class Knowledge:
 
     @contextlib.contextmanager
     def breaking(self, **rules: Any) -> Iterator[None]:
-        """In a `with` block, prepares commands with these methods instead of the methods of the
-        class.
+        """Within a `with` block, prepares commands with these methods instead of the class's own
+        methods.
         """
         vars(self).update(rules)
         try:
@@ -122,7 +122,9 @@ class Knowledge:
         return session.key + (auth_value if is_in_key else b"")
 
     def encrypted(self, use: Use, handle: int | None, parameters: bytes) -> bytes:
-        """Encrypts the first parameter of a command for a session that decrypts it."""
+        """Encrypts the first parameter of a command for a session with which the device decrypts
+        it.
+        """
         session, key = use.session, use.session.key + self.auth_value(handle)
         given = session.cipher, session.algorithm, key, use.nonce or b"", session.nonce_tpm
         return sessions.first_encrypted(*given, parameters)

@@ -134,7 +134,7 @@ class ChildDevice(InStep, Device):
         self.whole(self.told_power)
 
     def told_power(self) -> None:
-        """Sends a power cycle, and reads the line that confirms it."""
+        """Sends the line of a power cycle, and reads the line that confirms it."""
         self.say("power")
         self.heard()
 

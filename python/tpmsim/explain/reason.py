@@ -81,10 +81,10 @@ class Reason:
 
 @dataclass
 class Scene:
-    """A command, and the model before it. `refused` is the response code, such as VALUE/p1, and
-    `elapsed` is in milliseconds. `known` is the command, if it passed the general checks, and
-    `plain` its decrypted parameters, if its entries were accepted. `tried` contains the values of
-    `--try`.
+    """A command, and the model of the device before that command. `refused` is the response code,
+    such as VALUE/p1, and `elapsed` is in milliseconds. `known` is the command, if it passed the
+    general checks, and `plain` its decrypted parameters, if its entries were accepted. `tried`
+    contains the values of `--try`.
     """
 
     model: Model

@@ -28,8 +28,9 @@ T = TypeVar("T")
 
 MAGIC, VERSION = b"TPMS", 2
 
-# The version in which the layer has two numbers for each object: that of its context, and that of
-# its flush. An object that was flushed, and whose context could still be loaded, is left out.
+# In version 1, the layer has two numbers for each object: one of its context, and one of its flush.
+# When such a text is read, an object that was flushed, and whose context could still be loaded, is
+# left out.
 VERSION_1 = 1
 VERSIONS = VERSION_1, VERSION
 
@@ -239,7 +240,7 @@ def read_layer(fields: Parameters, device: Model, version: int) -> Layer:
 
 
 def read_flushed(fields: Parameters, device: Model) -> None:
-    """Reads the layer's numbers of the objects, and removes those that were flushed."""
+    """Reads the layer's two numbers for each object, and removes the objects that were flushed."""
     for place in range(OBJECTS):
         _, flushed = fields.number(8), fields.number(8)
         if flushed:

@@ -28,5 +28,6 @@ class OwnModelDevice(OwnDevice, ModelDevice):
 
 
 def own_device() -> OwnDevice:
-    """Returns a fresh device: the library's if the library is found, or else the model's."""
+    """Returns a fresh device: one of the library if the library is found, or else one of the model.
+    """
     return OwnLibraryDevice() if is_there() else OwnModelDevice()
