@@ -67,8 +67,8 @@ class Folder:
         )
 
     def serve(self, run):
-        """Returns the responses to each connection, the run's error message, and a description of
-        its image.
+        """Returns the responses to each connection, the error message of the run, and a description
+        of the image that it left.
         """
         process, answers = self.began(run), []
         try:

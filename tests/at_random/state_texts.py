@@ -21,7 +21,8 @@ from tests.common.outputs import repeated
 
 EVENTS_OF_ONE = 1000
 
-# The probability that a state text is restored after an event. With a low one, an error can grow.
+# The probability that a state text is restored after an event. If it is low, small errors have time
+# to add up.
 CHANCES = 1, 0.2, 0.01
 
 
@@ -30,7 +31,7 @@ class Differs(Exception):
 
 
 class Devices:
-    """The three devices of one seed."""
+    """The three devices, which get the same random events from one seed."""
 
     def __init__(self, seed):
         self.writer, self.chance = Writer(seed), CHANCES[seed % len(CHANCES)]
@@ -53,8 +54,8 @@ class Devices:
             self.go_on()
 
     def tell(self, event, answers):
-        """Plays an event of the writer on the devices of the library. The Python device has already
-        executed it.
+        """Plays an event of the writer on both devices of the library. The Python device has
+        already executed it.
         """
         if isinstance(event, bytes):
             self.execute(event, next(answers).outcome.response)

@@ -2,9 +2,9 @@
 
     tools/python.sh tests/common/command_lists.py
 
-For each list the test prints its number of entries. A missing or extra entry has a line that begins
-with DIFFERS. Then the test makes one mistake in a document at a time, and the comparison has to
-find it.
+For each list the test prints its number of entries. It prints a line that begins with DIFFERS for
+each missing or extra entry. Then the test makes one mistake in a document at a time, and checks
+that the comparison finds it.
 """
 
 import re
@@ -41,7 +41,7 @@ def between(text: str, before: str, behind: str) -> str:
 
 @dataclass(frozen=True)
 class List:
-    """A list in a document: the entries that it needs, and those that it has. Their order counts
+    """A list in a document: the expected entries, and the entries that it has. Their order counts
     only if `in_order` is set.
     """
 
@@ -132,7 +132,8 @@ def counts(texts: Documents) -> List:
 
 
 def nv_access(texts: Documents) -> List:
-    """The page must name the attributes that each command requires of an index that authorizes it.
+    """The document's table must name the attributes that each command requires of an index that
+    authorizes it.
     """
     able = [it for it in CC if it.authorized and it.handles[0].kind in NV_KINDS]
     wanted = [(it.name, nv_access_of(it)) for it in able]

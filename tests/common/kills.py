@@ -63,7 +63,7 @@ class Client(Caller):
         return counter
 
     def more(self, number):
-        """Adds one to both indices."""
+        """Adds one to the values of both indices."""
         self.send(self.incrementing(COUNTER, by=RH_OWNER))
         self.send(self.writing(NUMBER, (number + 1).to_bytes(8, "big"), by=RH_OWNER))
 

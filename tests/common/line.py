@@ -71,7 +71,7 @@ def faults(text):
 
 
 def arguments(word):
-    """Returns the arguments of this word in all scripts, without duplicates."""
+    """Returns the arguments of all script lines that begin with `word`, without duplicates."""
     told = (
         line.partition(b" ") for it in places.scripts() for line in it.read_bytes().splitlines()
     )
@@ -79,8 +79,8 @@ def arguments(word):
 
 
 def check(turns, buffer):
-    """Returns whether the program finds the right line. If not, prints the program's ending and the
-    right one.
+    """Returns whether the program prints the right line for a buffer. If not, prints the program's
+    result and the expected one.
     """
     told, wanted = turns.run(word=buffer.hex().encode("ascii")), line_told(buffer)
     if told != wanted:
@@ -89,7 +89,7 @@ def check(turns, buffer):
 
 
 def some(buffers):
-    """Yields the first few buffers of each command, and one of every STEP others."""
+    """Yields the first few buffers of each command, and then one of every STEP."""
     seen = collections.Counter()
     for buffer in buffers:
         code = buffer[6:10]

@@ -61,7 +61,9 @@ class ScriptCaller(PreparedCommands):
         return any(isinstance(it, Use) for it in prepared.uses)
 
     def fails(self, words: str, *prepared: Prepared) -> None:
-        """Sends commands. If a session has an entry, the script first sets new random bytes."""
+        """Sends commands. If an entry of a command is for a session, the script first sets new
+        random bytes.
+        """
         buffers = [it.buffer() for it in prepared]
         self.script.command(words, *buffers, fresh=any(map(self.draws, prepared)))
 
@@ -77,8 +79,8 @@ class ScriptCaller(PreparedCommands):
         return self.received(prepared, self.script.command(words, prepared.buffer(), fresh=fresh))
 
     def does(self, what: str, prepared: Prepared) -> bytes:
-        """Sends a command that must be accepted. If a session has an entry, the script first sets
-        new random bytes. Returns the response's parameters.
+        """Sends a command that must be accepted. If one of its entries is for a session, the script
+        first sets new random bytes. Returns the response's parameters.
         """
         return self.accepted(what, prepared, self.draws(prepared))[1]
 
@@ -235,7 +237,7 @@ class ScriptCaller(PreparedCommands):
         public = self.read_index_public(what, index, *uses)
         assert public == wanted, f"{what}: {public.attributes:08x}"
 
-    # Commands for state that the device keeps without power.
+    # Commands that change the state that the device keeps without power.
 
     def start_up(self, what: str, kind: int = CLEAR) -> None:
         """Sends TPM2_Startup. With CLEAR, the platform's authorization value becomes empty."""

@@ -1,4 +1,4 @@
-"""A caller with the steps that many scripts need, and the values in these steps."""
+"""A caller with the steps that many scripts need, and the values that these steps use."""
 
 import contextlib
 import functools
@@ -62,8 +62,8 @@ def aes_key(
 
 
 class Steps(Teller):
-    """A caller whose methods send the commands of common steps. The outcome of a step is in its
-    description, or else follows from the method's name.
+    """A caller whose methods send the commands of common steps. The description of a step names its
+    outcome, unless the outcome follows from the method's name.
     """
 
     # Steps for commands that need an object.
@@ -149,14 +149,14 @@ class Steps(Teller):
         return in_plain(session, attributes)
 
     def encrypts_nothing(self, prepare: Callable[[], Prepared]) -> None:
-        """Sends a command with a session that could decrypt or encrypt, although the command has
-        nothing that can be encrypted.
+        """Sends a command with a session that could decrypt or encrypt, although neither the
+        command nor its response has a parameter that can be encrypted.
         """
         for attribute, words in ((DECRYPT, "decrypted"), (ENCRYPT, "encrypted")):
             bent = prepare().but_entry(1, attributes=CONTINUE_SESSION | attribute)
             self.refused(f"Nothing can be {words}: ATTRIBUTES/s1", bent)
 
-    # Steps for state that the device keeps without power.
+    # Steps for the state that the device keeps without power.
 
     def saves(self) -> None:
         self.does("TPM2_Shutdown(STATE)", self.shutting_down(STATE))
