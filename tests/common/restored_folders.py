@@ -22,8 +22,8 @@ FOLDER, KEPT, TEXT, NEVER = (
 WORDS = ["restore", str(FOLDER), str(TEXT)]
 AT_MOST_SECONDS = 30
 
-# The number of the completing layer's start in a state text: its offset from the end of the text,
-# and its size. Then the size of the digest at the end.
+# The number that identifies the start of the completing layer, in a state text: its offset from the
+# end of the text, and its size. Then the size of the digest at the end.
 START_AT, START_BYTES, DIGEST_BYTES = -176, 8, 32
 
 
@@ -44,9 +44,9 @@ def snapshot(program: str, folder: pathlib.Path) -> bytes:
 
 
 def is_other(found: bytes, wanted: bytes) -> bool:
-    """Returns whether two state texts are of different devices. The number of the completing
-    layer's start is new in each restored device. Therefore it is ignored, like the digest at the
-    end.
+    """Returns whether two state texts are of different devices. Each restored device has a new
+    number that identifies the start of the completing layer. Therefore this number is ignored, like
+    the digest at the end.
     """
     parts = (slice(START_AT), slice(START_AT + START_BYTES, -DIGEST_BYTES))
     return any(found[part] != wanted[part] for part in parts)

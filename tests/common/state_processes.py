@@ -1,5 +1,4 @@
-"""Runs several processes at once on one kept device, which is a device in a folder, and kills some
-of them:
+"""Runs several processes at once on one device that is kept in a folder, and kills some of them:
 
     python3 state_processes.py PROGRAM
 

@@ -1,5 +1,5 @@
-"""Hosts of all kinds use one device, which is kept in a folder, at the same time, while some of
-them are killed at random moments:
+"""Hosts of all kinds use one device that is kept in a folder, while some of them are killed at
+random moments:
 
     python3 all_at_once.py PROGRAM HOSTS SHIM SECONDS PROCESSES SEED [fills]
 

@@ -1,5 +1,5 @@
-"""A counter in a kept device, which is a device in a folder. This module computes the counter's
-possible values after commands of which some were answered and some failed.
+"""A counter in a device that is kept in a folder. This module computes the counter's possible
+values after commands of which some were answered and some failed.
 
 Operations are recorded as they happen: an operation with its answer, or several operations of which
 only the first few may have been done. They determine a set of possible states. An answer that is

@@ -1,13 +1,14 @@
-"""Makes each call of each host of a kept device fail, in turn:
+"""Runs each host of a device that is kept in a folder, and makes a different system call fail each
+time:
 
     python3 each_call.py PROGRAM HOSTS SHIM SHARE [WORD]
 
 HOSTS is the folder with the module and the programs. SHIM is the library of failing.c, which
-LD_PRELOAD has loaded into this process too. Only one in SHARE runs is made; with WORD, only those
-of hosts whose name contains it. In each run a host has to do some operations, and one system call
-has a fault of VARIANTS. Then another host opens the folder. The device must have executed the
-answered operations, and perhaps the unanswered one. Standard error describes what is wrong, and
-reports the number of runs.
+LD_PRELOAD has loaded into this process too. Only one in SHARE runs is made; with WORD, only runs of
+hosts whose name contains it. In each run a host has to do some operations, and one system call has
+a fault of VARIANTS. Then another host opens the folder. The device must have executed the answered
+operations, and perhaps the unanswered one. Standard error describes what is wrong, and reports the
+number of runs.
 """
 
 import collections
@@ -58,7 +59,7 @@ WELL, FAULT, KILLED = 0, 3, -signal.SIGKILL
 
 @dataclass(frozen=True)
 class Meeting:
-    """The number of the call that fails, and its fault."""
+    """The number of the call that must fail, and the fault that it must have."""
 
     number: int
     act: Act
@@ -174,7 +175,7 @@ class Child:
             word, text = "refuses", one_line(fault)
         except OSError as fault:
             word, text = "untold", one_line(fault)
-        except Exception as fault:  # whatever it is, it is reported
+        except Exception as fault:  # every exception is reported, whatever it is
             word, text = "strange", f"{type(fault).__name__}: {one_line(fault)}"
         finally:
             self.shim.goes_on(False)
@@ -263,7 +264,7 @@ class Trial:
 
 
 def seen(files: Files, folder: str) -> State:
-    """Returns the state of the device in a folder, according to a host without faults."""
+    """Returns the state of the device in a folder, as a host without faults reports it."""
     if not os.path.exists(f"{folder}/journal"):
         return NOTHING
     host = Python(files)
@@ -347,7 +348,9 @@ class Case:
         return met, told, "; ".join(told.strange)
 
     def check(self, room: pathlib.Path, shim: Shim, share: int) -> tuple[int, int]:
-        """Makes one in `share` runs. Returns the number of runs, and the number of wrong ones."""
+        """Makes only one in `share` of the runs. Returns the number of these runs, and the number
+        of wrong ones.
+        """
         runs, wrongs, untold = 0, 0, collections.Counter[str]()
         for turn, variant in enumerate(VARIANTS):
             for number in range(1 + turn % share, MOST_CALLS, share):

@@ -1,4 +1,4 @@
-"""Makes each call of a power cycle that keeps past journals fail in turn:
+"""Repeats a power cycle that keeps past journals, and makes a different call fail each time:
 
     python3 past_each.py PROGRAM HOSTS SHIM
 
@@ -22,7 +22,7 @@ VARIANTS = [(Act.FAILS, errno.EIO), (Act.DOES_AND_FAILS, errno.EIO), (Act.IS_KIL
 
 
 class KeepingPast(Python):
-    """Python as a host that keeps past journals."""
+    """The Python host with the option to keep past journals."""
 
     def begin(self, folder: str) -> None:
         with self.refusing():
@@ -39,7 +39,7 @@ def made(host: Host, folder: pathlib.Path) -> None:
 
 
 def past_in(folder: pathlib.Path, journal: bytes) -> list[str]:
-    """Returns what the past journals contain, from number 1 on."""
+    """Returns the content of each past journal, from number 1 on."""
     told = []
     for number in range(1, KEPT + 1):
         path = folder / f"journal.{number}"

@@ -15,8 +15,8 @@ from tests.common.damaged_images import main, RANDOM
 
 
 class Library:
-    """The library, which opens images and saves devices like a program that serves. All images use
-    the same holder.
+    """The library opens images and saves devices, like a program that serves clients. All images
+    use the same holder.
     """
 
     def __init__(self) -> None:

@@ -143,7 +143,9 @@ def check(player: str, played: list[Script]) -> None:
 
 
 class Stack:
-    """The maximum stack that each call uses. For an execution, also the command that uses it."""
+    """The maximum amount of stack that each call uses, and for an execution also the command that
+    uses it.
+    """
 
     def __init__(self, program: str, played: list[Script]) -> None:
         self.most: dict[str, tuple[int, str]] = {}

@@ -19,8 +19,8 @@ tpm = OrderTeller(__name__, __doc__, tries=True)
 
 
 def handles_in_order(code, handles):
-    """Sends commands in which a handle is truncated, of another kind, or of a missing entity. No
-    handle follows it.
+    """Sends commands in which a handle is truncated, of another kind, or of a missing entity. The
+    command ends after that handle.
     """
     for place, handle in enumerate(handles, 1):
         before = b"".join(number(it, 4) for it in handles[: place - 1])

@@ -14,7 +14,8 @@ tpm = Teller(__name__, __doc__, tries=True)
 
 
 def refused(words, prepared, *wrong):
-    """Sends a command that must be refused. The entries `wrong` get wrong HMACs."""
+    """Sends a command that must be refused. The entries with the numbers `wrong` get wrong HMACs.
+    """
     tpm.refused(words, wrong_in(prepared, *wrong) if wrong else prepared)
 
 
@@ -51,7 +52,7 @@ def symmetric(use):
 
 def by_right(words, text):
     """Sends TPM2_PolicySecret with the right password, while the policy session itself decrypts
-    nonceTPM. It must be refused.
+    nonceTPM. The command must be refused.
     """
     refused(words, secret(text, b"lockout", policy.decrypting))
 

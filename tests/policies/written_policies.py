@@ -37,7 +37,7 @@ def recovery(session, of=RH_ENDORSEMENT, ref=REF):
 
 
 def ends(session):
-    """Returns the assertions with which both branches end."""
+    """Returns the assertions that end both branches of the policy."""
     return tpm.branches(session, *WAYS), tpm.command_code(session, CC.Unseal)
 
 

@@ -28,7 +28,7 @@ def with_random(what, seed, prepared):
 
 
 class Start:
-    """A TPM2_StartAuthSession with certain random bytes. Its session can be started again, with the
+    """A TPM2_StartAuthSession with certain random bytes. It can start its session again, with the
     same buffer or with another nonce.
     """
 
