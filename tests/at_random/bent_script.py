@@ -118,7 +118,7 @@ def bent_image(random, text):
 
 
 def bent_lines(random, lines):
-    """Returns the lines, and the number of alterations. Some lines are altered, dropped, repeated,
+    """Returns altered lines, and the number of alterations. Lines are altered, dropped, repeated,
     or swapped with the next line.
     """
     lines, bent = list(lines), 0

@@ -283,7 +283,7 @@ class Writer(random.Random):
 
     def policy_cp_hash(self):
         """Returns a TPM2_PolicyCpHash, mostly with the cpHash of a command without parameters, or
-        with one that the session already has.
+        with the cpHash that the session already has.
         """
         (handle,), _ = self.told()
         held = self.device.sessions.get(handle)
@@ -315,7 +315,7 @@ class Writer(random.Random):
         return [handle], frames.sized_list(*branches)
 
     def load(self):
-        """Returns a TPM2_Load of a previously created object, mostly below its parent."""
+        """Returns a TPM2_Load of a previously created object, mostly with the right parent."""
         parent = self.object(lambda it: it.public.is_parent)
         name = self.device.name(parent)
         fitting = [it for it in self.made if it[0] == name or self.happens(0.02)]

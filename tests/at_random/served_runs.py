@@ -1,5 +1,5 @@
-"""Serves runs that are described by lines of streams.py with `tpmsim serve`, and compares the
-responses with the expected ones.
+"""Plays runs with `tpmsim serve`, and compares the responses with the expected ones. Lines of
+streams.py describe the runs.
 """
 
 import pathlib

@@ -1,5 +1,5 @@
-"""Plays the same random events on three devices. The first is a device of the library, which always
-continues. The second one, also of the library, and the third one, which is the Python device, are
+"""Plays the same random events on three devices. The first one, a device of the library, is never
+restored. The second one, also of the library, and the third one, which is the Python device, are
 often restored from the first one's state text:
 
     state_texts.py EVENTS [SEED]
@@ -88,7 +88,7 @@ class Devices:
             raise Differs("the state texts differ")
 
     def go_on(self):
-        """Restores the other two devices from the state text of the device that always continues.
+        """Restores the other two devices from the state text of the device that is never restored.
         """
         text = self.whole.state()
         self.restored.close()

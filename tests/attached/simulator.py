@@ -93,7 +93,7 @@ def keeps(*words: object) -> None:
 
 
 def refused(*words: str) -> str:
-    """Returns the status and the output of a simulator that does not start."""
+    """Runs a simulator that must not start. Returns its status and its error message."""
     done = subprocess.run([PROGRAM, "--port", "0", *words], capture_output=True, text=True)
     return f"{done.returncode} {done.stderr.strip()}"
 

@@ -34,15 +34,15 @@ def documents() -> Documents:
 
 
 def between(text: str, before: str, behind: str) -> str:
-    """Returns the text between two given texts, or an empty text if either is missing."""
+    """Returns the text between `before` and `behind`, or an empty text if either is missing."""
     _, found, rest = text.partition(before)
     return rest.partition(behind)[0] if found else ""
 
 
 @dataclass(frozen=True)
 class List:
-    """A list in a document: the expected entries, and the entries that it has. Their order counts
-    only if `in_order` is set.
+    """A list in a document: the expected entries, and the actual ones. Their order counts only if
+    `in_order` is set.
     """
 
     wanted: list
@@ -103,8 +103,8 @@ def not_served(texts: Documents) -> List:
 
 
 def named(document: str, before: str, behind: str, is_wanted: Callable[[CC], bool]) -> Check:
-    """Returns the check that a document names exactly the expected commands between two given
-    texts.
+    """Returns a check that a document names exactly the expected commands between `before` and
+    `behind`.
     """
 
     def check(texts: Documents) -> List:

@@ -5,9 +5,9 @@
     damaged_images.py PROGRAM full [SEED [COUNT]]  the largest image, and COUNT altered bodies of
                                                    a full device
 
-For each kind of damage the test prints how many damaged texts there were, and their faults. Each
-difference has a line of its own. The last line is `N agree, M differ`. The test works in the
-current folder. It leaves the first texts that differ there, in files that the lines name.
+For each kind of damage the test prints the number of damaged images, and their faults. It prints a
+line for each difference. The last line is `N agree, M differ`. The test works in the current
+folder, and saves the first images that differ to files, whose names it prints.
 """
 
 import collections
@@ -55,7 +55,7 @@ class Program:
     @staticmethod
     def place(text):
         """Writes the image as a new file. If an existing file were overwritten, the system might
-        write it to disk at once, which is slow.
+        write it to disk at once.
         """
         path = pathlib.Path("image")
         path.unlink(missing_ok=True)

@@ -81,7 +81,7 @@ class Asked:
     found: object
 
 
-# The tested device, and the questions.
+# The tested device, and the class of the questions to it.
 
 
 def index_line(index: int, attributes: int, auth_policy: bytes) -> str:
@@ -127,8 +127,8 @@ class Answer:
 
 
 def answers_of(program: Program, code: CC, buffers: list[bytes]) -> list[Answer]:
-    """Executes the buffers one after another, and returns the results. The lines of `setup` come
-    first, except for TPM2_Startup.
+    """Executes the buffers one after another, and returns the results. The lines of `setup` are
+    executed first, unless the command is TPM2_Startup.
     """
     before = [] if code == CC.Startup else setup()
     printed = program.run([*before, *(f"cmd {it.hex()}" for it in buffers)], "--trace")[::2]

@@ -59,7 +59,7 @@ def is_right(line):
 
 
 def faults(text):
-    """Yields the numbers of the lines that fail these checks."""
+    """Yields the numbers of the lines in a script that fail a check."""
     told = text.replace("\n# ", " ")
     is_written = (WROTE_THIS in told or MADE_THIS in told) and AS_BYTES not in told
     for number, line in enumerate(text.splitlines(), 1):

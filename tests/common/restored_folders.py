@@ -44,9 +44,9 @@ def snapshot(program: str, folder: pathlib.Path) -> bytes:
 
 
 def is_other(found: bytes, wanted: bytes) -> bool:
-    """Returns whether two state texts are of different devices. Each restored device has a new
-    number that identifies the start of the completing layer. Therefore this number is ignored, like
-    the digest at the end.
+    """Returns whether two state texts are of different devices. The number that identifies the
+    start of the completing layer is ignored, because it is new in each restored device. The digest
+    at the end is ignored too.
     """
     parts = (slice(START_AT), slice(START_AT + START_BYTES, -DIGEST_BYTES))
     return any(found[part] != wanted[part] for part in parts)

@@ -133,8 +133,8 @@ class ScriptCaller(PreparedCommands):
     # Commands for objects.
 
     def creation_answer(self, response: Response) -> Public:
-        """Returns the public area in a response. Checks that the response's creation hash is that
-        of its creation data.
+        """Returns the public area in a response. Checks the creation hash in the response against
+        its creation data.
         """
         public, ticket = Public.read(response["outPublic"]), response["creationTicket"]
         self.creation_data = response["creationData"]

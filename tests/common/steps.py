@@ -86,7 +86,7 @@ class Steps(Teller):
         words = "It has to be authorized: no sessions (tag 8001): AUTH_MISSING"
         self.raw(words, command(code, number(handle, 4) + parameters))
 
-    # Steps for objects, sessions and indices that exist for a while.
+    # Steps for objects, sessions and indices that exist only for a while.
 
     def owned(self, what: str, public: Public, *uses: Means, **more: Any) -> int:
         """Makes a primary object of the owner's hierarchy, and returns its handle."""
@@ -135,15 +135,15 @@ class Steps(Teller):
     # Steps for policies that demand the authorization value.
 
     def by_value(self, session: Session, attributes: int = CONTINUE_SESSION) -> Use:
-        """Sends TPM2_PolicyAuthValue. Returns the use of the session with the authorization value,
-        as its policy then demands.
+        """Sends TPM2_PolicyAuthValue. The policy then demands the authorization value in the HMAC's
+        key; returns such a use of the session.
         """
         self.does("TPM2_PolicyAuthValue", self.auth_value_told(session))
         return with_value(session, attributes)
 
     def by_password(self, session: Session, attributes: int = CONTINUE_SESSION) -> Use:
-        """Sends TPM2_PolicyPassword. Returns the use of the session with a password, as its policy
-        then demands.
+        """Sends TPM2_PolicyPassword. The policy then demands a password; returns such a use of the
+        session.
         """
         self.does("TPM2_PolicyPassword", self.password_told(session))
         return in_plain(session, attributes)

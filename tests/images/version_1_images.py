@@ -147,8 +147,8 @@ def taken(text, commands):
 
 
 def executed(device, buffers, clock):
-    """Returns the outcomes of commands on the Python device. `clock` is the program's response to
-    the last command, which is TPM2_ReadClock. It shows how much time passed for the program.
+    """Returns the outcomes of commands on the Python device, with the times that passed for the
+    program. The last command is TPM2_ReadClock, and `clock` is the program's response to it.
     TPM2_Clear sets Clock to 0, so the time before TPM2_Clear is the difference of Time and Clock.
     The rest of the time passes before the last command.
     """

@@ -90,7 +90,8 @@ class Shim:
         return {"LD_PRELOAD": str(self.path), "FAILING": told}
 
     def met(self) -> str:
-        """Returns the name of the call that failed, or an empty text if there were fewer calls."""
+        """Returns the name of the call that failed, or an empty text if the host made fewer calls.
+        """
         if not self.report.exists():
             return ""
         text = self.report.read_text("utf8").strip()
@@ -348,8 +349,8 @@ class Case:
         return met, told, "; ".join(told.strange)
 
     def check(self, room: pathlib.Path, shim: Shim, share: int) -> tuple[int, int]:
-        """Makes only one in `share` of the runs. Returns the number of these runs, and the number
-        of wrong ones.
+        """Makes only one in `share` of the runs. Returns their number, and the number of wrong
+        ones.
         """
         runs, wrongs, untold = 0, 0, collections.Counter[str]()
         for turn, variant in enumerate(VARIANTS):

@@ -3,7 +3,7 @@
     python3 past_each.py PROGRAM HOSTS SHIM
 
 The Python host keeps three past journals. After a power cycle with a fault and one without, the
-latest journals must have the first numbers in order, and none may be missing.
+past journals must be numbered from 1 on, beginning with the latest, and none may be missing.
 """
 
 import errno

@@ -2,8 +2,8 @@
 
     tools/python.sh library_images.py LIBRARY
 
-LIBRARY is the shared library. The images and the output are those of common/damaged_images.py,
-which opens the images with the program.
+LIBRARY is the shared library. The images and the output are the same as in
+common/damaged_images.py, which opens the images with the program.
 """
 
 import os

@@ -37,7 +37,9 @@ def handles_in_order(code, handles):
 
 
 def general_refusals(code, handles, cut, uses):
-    """Causes all refusals before those of the parameters. The parameters are always `cut`."""
+    """Causes all refusals that precede the refusals of the parameters. The parameters are always
+    `cut`.
+    """
     handles_in_order(code, handles)
     is_first = handle_kinds.IS_OF_KIND[code.handles[0].kind]
     closed = BY_OTHERS if code.authorized and is_first(BY_OTHERS) else None

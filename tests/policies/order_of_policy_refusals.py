@@ -73,7 +73,9 @@ def says(words, text, session=policy, attributes=CONTINUE_SESSION):
 
 
 def decrypted(words, text, session=policy):
-    """Sends the command of the chapter with these parameters, while the HMAC session decrypts."""
+    """Sends the command of the chapter with these parameters, while the HMAC session decrypts the
+    first one.
+    """
     says(words, text, session, DECRYPTS)
 
 

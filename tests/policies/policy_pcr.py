@@ -26,7 +26,7 @@ def values_digest(banks):
 
 
 def texts(words, *those, front=EMPTY):
-    """Sends TPM2_PolicyPCR with the pcrDigest `front` and each of these bytes after it."""
+    """Sends TPM2_PolicyPCR with the pcrDigest `front`, followed by each of these byte strings."""
     tpm.texts(words, CC.PolicyPCR, session, *(front + it for it in those))
 
 

@@ -165,7 +165,8 @@ def told(device, size):
 
 
 def at_each_line(made, act):
-    """Returns the different results of interrupts, one at each line of `act`."""
+    """Interrupts `act` at each line that it executes, once per line. Returns the different results.
+    """
     said, count = set(), 1
     while True:
         with made() as device:
