@@ -124,8 +124,8 @@ def shrunken(lines, differs):
 
 
 def shown(wanted, given):
-    """Yields the expected and the actual text. If they are long, only a part is shown, which begins
-    shortly before the first character that differs.
+    """Yields both texts. Long texts are shortened: they begin shortly before the first character
+    that differs.
     """
     same = next((at for at, (a, b) in enumerate(zip(wanted, given)) if a != b), 0)
     first = max(0, same - SHOWN // 4) if max(len(wanted), len(given)) > SHOWN else 0

@@ -86,17 +86,15 @@ class Writer(random.Random):
         return self.choice(handle_kinds.PRIMARY_HIERARCHIES)
 
     def object(self, test=lambda it: True):
-        """Returns the handle of a loaded object, if there is one. Rarely returns the handle of a
-        missing object.
-        """
+        """Returns the handle of a loaded object, if there is one. Rarely the object is missing."""
         fitting = [it for it in self.device.objects if test(self.device.objects[it])]
         if self.happens(0.02) or not fitting:
             return self.choice((0x80000000 + self.randrange(9), 0x81000000, RH_NULL))
         return self.choice(fitting)
 
     def session(self, *kinds):
-        """Returns the handle of a session of one of these kinds. Rarely returns the handle of a
-        missing session, or of a session of another kind.
+        """Returns the handle of a session of one of these kinds. Rarely the session is missing or
+        of another kind.
         """
         held = self.device.sessions
         fitting = [it for it in held if held[it].kind in kinds or self.happens(0.02)]
@@ -107,9 +105,7 @@ class Writer(random.Random):
         return self.choice((*HIERARCHIES, *held))
 
     def index(self, test=lambda it: True):
-        """Returns the handle of a defined index, if there is one. Rarely returns the handle of an
-        undefined index.
-        """
+        """Returns the handle of a defined index, if there is one. Rarely the index is undefined."""
         indices = self.device.indices
         fitting = [it for it in indices if test(indices[it].public) or self.happens()]
         if self.happens(0.02) or not indices:
@@ -331,7 +327,7 @@ class Writer(random.Random):
 
     def keyed(self, signs):
         """Returns the handle of an HMAC key if `signs` is true, otherwise of sealed data. Rarely
-        returns the handle of a different kind of object.
+        the object is of a different kind.
         """
         wanted = KEYEDHASH, signs
         is_one = lambda public: (public.kind, public.has(Attribute.SIGN)) == wanted

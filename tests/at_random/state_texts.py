@@ -31,7 +31,7 @@ class Differs(Exception):
 
 
 class Devices:
-    """The three devices, which get the same random events from one seed."""
+    """The three devices, with the same random seed."""
 
     def __init__(self, seed):
         self.writer, self.chance = Writer(seed), CHANCES[seed % len(CHANCES)]

@@ -6,9 +6,8 @@ device:
 The test takes one line for each command from assemble.lines. Each way to alter a token is applied
 to every third token of these lines. For each way the test prints how many lines it altered, how
 many of them assemble to a buffer, how many have each kind of fault, and for how many the program's
-result differs. It prints a line that begins with DIFFERS for each difference. Then the test plays
-some altered lines in scripts. Finally it inserts and replaces single bytes in script lines, at each
-offset.
+result differs. Lines that begin with DIFFERS report differences. Then the test plays some altered
+lines in scripts. Finally it inserts and replaces single bytes in script lines, at each offset.
 """
 
 import collections
@@ -160,9 +159,7 @@ def is_usage(line):
 
 
 def wanted(line):
-    """Returns the kind of result that `tpmsim asm` must have for a line, and its expected output
-    and status.
-    """
+    """Returns the kind of result that `tpmsim asm` must have for a line, and the result itself."""
     if is_usage(line):
         return "usage", Ending(2, error=b"tpmsim: usage\n")
     return fault_of(line).partition(" ")[0] or "buffers", assembled(line)

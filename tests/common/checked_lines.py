@@ -5,7 +5,7 @@ Python device:
 
 The script has each line of bent_lines.py once. For each kind of fault the test prints how many bad
 lines have it, and for how many of them `tpmsim check` reports something else. The last line counts
-the good lines. The test prints a line that begins with DIFFERS for each difference.
+the good lines. Lines that begin with DIFFERS report differences.
 """
 
 import collections

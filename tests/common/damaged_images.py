@@ -39,7 +39,7 @@ MOST_LEFT = 100
 # STEP must not divide the number of ways to change a byte. The library opens all images.
 FIRST, STEP = 100, 11
 
-# The time on the clock of the device in the damaged image. It replaces the time that really passed.
+# The device's clock in the damaged image, instead of the time that really passed.
 CLOCK = 0x0102_0304
 
 
@@ -125,8 +125,8 @@ class Comparison:
         return wanted or "opened"
 
     def kind(self, name, texts):
-        """Prints how many images have each fault. All images have the same kind of damage, and each
-        has a description.
+        """Prints how many images with one kind of damage have each fault. Each image has a
+        description.
         """
         faults = collections.Counter(self.fault_of(f"{name}, {words}", it) for words, it in texts)
         told = ", ".join(f"{count:,} {fault}" for fault, count in sorted(faults.items()))
@@ -165,8 +165,8 @@ def prefixes(text):
 
 
 def changed(text, places, changes):
-    """Yields all copies of the text in which one byte is changed. `places` are the offsets to
-    change, and `changes` the ways to change a byte.
+    """Yields copies of the text with one byte changed: at each offset in `places`, in each way in
+    `changes`.
     """
     for at in places:
         for change in changes:

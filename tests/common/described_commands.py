@@ -3,9 +3,9 @@
     tools/python.sh tests/common/described_commands.py PROGRAM
 
 The test asks the program about each fact of each command. For each kind of fact it prints the
-number of questions. It prints a line that begins with DIFFERS for each difference. Then the test
-changes one fact of one command in the description at a time, for each kind of fact, and checks that
-the comparison finds the mistake.
+number of questions. Lines that begin with DIFFERS report differences. Then the test changes one
+fact of one command in the description at a time, for each kind of fact, and checks that the
+comparison finds the mistake.
 """
 
 import concurrent.futures
@@ -66,7 +66,7 @@ class Program:
 
     @functools.cache
     def told(self, word: str, argument: str) -> Ending:
-        """Returns the output and status of `tpmsim asm` or `tpmsim line` for an argument."""
+        """Returns the result of `tpmsim asm` or `tpmsim line` for an argument."""
         return ran(self.path, word, argument)
 
 
@@ -190,8 +190,7 @@ def naming(code: int) -> bytes:
 
 
 def told(program: Program, word: str, said: list[str], wanted: Callable) -> Iterator[Asked]:
-    """Compares the output and status of `tpmsim asm` or `tpmsim line` for each of these arguments.
-    """
+    """Compares the results of `tpmsim asm` or `tpmsim line` for these arguments."""
     with concurrent.futures.ThreadPoolExecutor(AT_ONCE) as pool:
         for it, found in zip(said, pool.map(lambda it: program.told(word, it), said)):
             yield Asked(f"{word} {it}", wanted(it), found)

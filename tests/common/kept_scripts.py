@@ -119,9 +119,7 @@ def check_kills():
 
 
 def check_entropy():
-    """A new device is made from the first random bytes of the entropy file. Opening an existing
-    device needs no random bytes.
-    """
+    """A new device is made from the first random bytes. Opening an existing device needs none."""
     random = bytes(range(255, -1, -1))
     pathlib.Path("entropy").write_bytes(random + b"left over")
     run = Run(None, "--entropy", "entropy")

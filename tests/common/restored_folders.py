@@ -122,7 +122,7 @@ def failures(program: Tears, old: bytes, new: bytes) -> None:
 
 
 def main() -> None:
-    """Runs all tests of this program in the current folder."""
+    """Runs all tests in the current folder."""
     (path,) = sys.argv[1:]
     program = Tears(path)
     old = device(path, KEPT, b"do Startup 0\ndo GetRandom 4\n")

@@ -30,8 +30,8 @@ OTHERS = (
 FOREVER = 1_000_000_000
 CALLS = pathlib.Path("calls")
 
-# The formats of the data that is exchanged with turns.h: before a run its two numbers, and after
-# the run its status, and whether the shim has marked it.
+# The data that is exchanged with turns.h: before a run its two numbers, and after the run its
+# status, and whether the shim has marked it.
 TURN, REPORT = struct.Struct("ll"), struct.Struct("ii")
 
 

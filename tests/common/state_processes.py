@@ -74,7 +74,7 @@ def killed(program: str, times: int) -> None:
 
 
 def main() -> None:
-    """Runs all tests of this program in the current folder."""
+    """Runs all tests in the current folder."""
     (program,) = sys.argv[1:]
     print(answers(begun(program, "do Startup 0\n"))[0])
     together(program, 4, 25)

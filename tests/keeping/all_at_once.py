@@ -30,8 +30,8 @@ FOLDER, FULL, CLONE_NEWPID, SECONDS_TO_END = "state", "full", 0x20000000, 60
 INTERRUPT_EACH, KILL_EACH = 0.0007, 0.02
 ASKED, DONE, OTHER, WRONG = b"a", b"d", b"o", b"w"
 
-# The kinds of hosts, in the order in which the processes begin. CYCLES contains the probabilities
-# of a power cycle. With an odd seed the power is cycled often; with an even seed the journals grow.
+# The kinds of hosts, in the order in which processes begin, and the probabilities of a power cycle.
+# With an odd seed the power is cycled often; with an even seed the journals grow.
 KINDS = ((Module, Python, Run, Module, Python), (Module, Python, Run, Module, Python, Simulator))
 CYCLES = 0.0005, 0.02
 

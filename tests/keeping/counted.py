@@ -1,5 +1,5 @@
-"""A counter in a device that is kept in a folder. This module computes the counter's possible
-values after commands of which some were answered and some failed.
+"""Computes the possible values of a counter in a device that is kept in a folder, after commands of
+which some were answered and some failed.
 
 Operations are recorded as they happen: an operation with its answer, or several operations of which
 only the first few may have been done. They determine a set of possible states. An answer that is

@@ -1,5 +1,5 @@
-"""Simulates a crash of the host of a device that is kept in a folder, after each change that the
-host makes to the folder:
+"""Simulates crashes of the host of a device that is kept in a folder, after each change to the
+folder:
 
     python3 crash_each.py PROGRAM HOSTS SHIM SHARE [WORD]
 

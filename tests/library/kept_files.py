@@ -1,5 +1,5 @@
-"""A device that Python keeps in a folder: with wrong files, with writes that fail, in threads, and
-in forked processes:
+"""Tests a device that Python keeps in a folder, with wrong files, failing writes, threads and
+forked processes:
 
     tools/python.sh kept_files.py LIBRARY
 

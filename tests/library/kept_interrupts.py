@@ -1,5 +1,5 @@
-"""A device that Python keeps in a folder, with calls that are interrupted: at each line that they
-execute, at random moments, and while they wait for the lock:
+"""Interrupts calls of a device that Python keeps in a folder: at each line that they execute, at
+random moments, and while they wait for the lock:
 
     tools/python.sh kept_interrupts.py LIBRARY
 

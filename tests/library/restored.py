@@ -1,4 +1,4 @@
-"""Devices that can be restored from their state. Their calls are interrupted at lines of Python:
+"""Interrupts calls of devices at lines of Python. The devices can be restored from their state:
 
     tools/python.sh restored.py LIBRARY
 

@@ -1,7 +1,6 @@
 """Prints the scripts of tests/ and examples/ in which sessions encrypt, as lines of JSON. Each line
-contains the decrypted first parameters of commands and responses, with the numbers of their lines
-in the script. The Python device decrypts them. page_plain.mjs compares the page's values with
-these.
+contains the decrypted first parameters of commands and responses, with their line numbers in the
+script. The Python device decrypts them. page_plain.mjs compares the page's values with these.
 """
 
 import json
