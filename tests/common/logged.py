@@ -141,7 +141,7 @@ def check_uses(program, *options):
 
 
 def check_cut(run, responses, chance):
-    """If a log is cut at any offset, its entries before the cut stay valid."""
+    """If a log is truncated at any offset, its entries before that offset stay valid."""
     text = run.log.read_bytes()
     lines = text.splitlines(keepends=True)
     ends = [

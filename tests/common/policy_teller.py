@@ -25,7 +25,8 @@ class PolicyTeller(Teller):
         self.script.device.tell = self.history.add
 
     def digest_of(self, session: Session) -> bytes:
-        """Returns the policy digest that the assertions accepted in a session produce."""
+        """Returns the policy digest that results from the assertions that a session has accepted.
+        """
         return self.history.sessions.live[session.handle].policy.digest
 
     def digest_is(self, what: str, session: Session, wanted: bytes | None = None) -> None:

@@ -65,9 +65,7 @@ def cut(name: str, prepared: Prepared, outcome: str = "AUTH_FAIL/s1", tries: int
 
 
 def by_each_command(session: Session, told: Session, key: int) -> None:
-    """Sends other commands to a protected index or object, authorized with a session that is not
-    bound.
-    """
+    """Sends other commands on a protected index or object, authorized with an unbound session."""
     cut("TPM2_NV_Read", tpm.reading(FIRST, 3, session, offset=2))
     cut("TPM2_NV_SetBits", tpm.setting(SECOND, 5, session))
     cut("TPM2_NV_Extend", tpm.extending(THIRD, DATA, session))

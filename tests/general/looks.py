@@ -136,7 +136,7 @@ class LookingScript(Script):
                 self.refuses(example, list(refused_of(example)))
 
     def refuses(self, example: Example, rows: Sequence[Row]) -> None:
-        """Sends rows of buffers that must be refused, and then the whole command."""
+        """Sends rows of buffers that must be refused, and then the unaltered command."""
         if not rows:
             self.command(f"{example.name}: {example.outcome}", example.whole, as_bytes=True)
             return

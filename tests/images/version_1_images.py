@@ -138,7 +138,9 @@ def restarted(tpm):
 
 
 def taken(text, commands):
-    """Yields the buffers of commands. Each is made for the device after the previous ones."""
+    """Yields the buffers of commands. Each is made for the state of the device after the previous
+    ones.
+    """
     device = image.open_image(text)
     for prepared in commands(Commands(device)):
         buffer = prepared.buffer()

@@ -20,8 +20,8 @@ def refused(words, prepared, *wrong):
 
 
 def up_to_hmacs(text):
-    """Causes all refusals before the parameters, in a command with one handle. `text` is its
-    parameters.
+    """Causes all refusals that precede those of the parameters, in a command with one handle.
+    `text` is its parameters.
     """
 
     def using(*uses, handle=policy.handle):

@@ -13,7 +13,7 @@ import sys
 from contextlib import ExitStack
 from unittest import mock
 
-import wrong_devices as wrong  # it makes the parts of the device and of the audit importable
+import wrong_devices as wrong  # makes the parts of the device and of the audit importable
 
 from tpmsim.audit.auditor import Auditor
 from tpmsim.audit.ground import Finding
