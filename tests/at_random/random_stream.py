@@ -105,8 +105,8 @@ class StreamWriter(Writer):
 
 
 def random_stream(seed, runs):
-    """Returns the lines of this many runs of one device. Rarely, a new device replaces it between
-    two runs.
+    """Returns the lines of this many runs. Rarely the device is replaced by a new one between two
+    runs.
     """
     writer = StreamWriter(seed)
     for at in range(runs):

@@ -81,7 +81,7 @@ class Asked:
     found: object
 
 
-# The tested device, and the class of the questions to it.
+# The tested device, and functions that execute commands on it.
 
 
 def index_line(index: int, attributes: int, auth_policy: bytes) -> str:

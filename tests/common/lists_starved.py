@@ -23,8 +23,8 @@ MEMORY = Ending(3, error=b"tpmsim_lists: memory\n")
 STARVED, SUCCESS = machine.STARVED.hex(), bytes(4).hex()
 CODE = slice(12, 20)
 
-# The commands that may get the response MEMORY, because they add to a list. The script has all
-# commands of the device. It sends each of these commands whenever the list must allocate.
+# The commands that may get the response MEMORY, because they add to a list; and the script, which
+# has all commands. It sends each command of GROWING whenever that command's list must allocate.
 GROWING = {CC.StartAuthSession, CC.CreatePrimary, CC.Load, CC.NV_DefineSpace, CC.EvictControl}
 SCRIPT = (HERE / "growing.tpm").read_bytes()
 LINES = SCRIPT.splitlines()

@@ -50,7 +50,7 @@ class PolicyTeller(Teller):
         """Sends a policy command with each of these parameter encodings, valid or not."""
         self.says(words, *(self.told(code, session, it) for it in texts))
 
-    # Commands whose HMACs are computed with a wrong key or with wrong nonces.
+    # Commands whose HMACs are computed with a different key or with different nonces.
 
     def with_key(self, key: bytes, prepare: Callable[..., Prepared], *those: Any) -> Prepared:
         with self.breaking(key=lambda *_: key):

@@ -135,15 +135,15 @@ class Steps(Teller):
     # Steps for policies that demand the authorization value.
 
     def by_value(self, session: Session, attributes: int = CONTINUE_SESSION) -> Use:
-        """Sends TPM2_PolicyAuthValue. The policy then demands the authorization value in the HMAC's
-        key; returns such a use of the session.
+        """Sends TPM2_PolicyAuthValue. Returns the use of the session with the authorization value
+        in the HMAC's key, which the policy then demands.
         """
         self.does("TPM2_PolicyAuthValue", self.auth_value_told(session))
         return with_value(session, attributes)
 
     def by_password(self, session: Session, attributes: int = CONTINUE_SESSION) -> Use:
-        """Sends TPM2_PolicyPassword. The policy then demands a password; returns such a use of the
-        session.
+        """Sends TPM2_PolicyPassword. Returns the use of the session with a password, which the
+        policy then demands.
         """
         self.does("TPM2_PolicyPassword", self.password_told(session))
         return in_plain(session, attributes)

@@ -1,4 +1,4 @@
-"""The names that most programs that write scripts use."""
+"""Names that are used by most programs that write scripts."""
 
 from tpmsim.caller import area, bits, BY_OWNER, BY_PLATFORM, BY_POLICY, BY_VALUE, CLEAR, counter
 from tpmsim.caller import extended, flipped, HERE, hmac_key, OPEN, sealed, STATE, storage_key

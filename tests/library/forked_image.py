@@ -1,5 +1,5 @@
-"""A process forks while it has opened a device from an image. Only the process that opened the
-image may write it:
+"""Forks a process that has opened a device from an image. Only the process that opened the image
+may write it:
 
     tools/python.sh forked_image.py LIBRARY
 
