@@ -16,7 +16,7 @@ SECONDS = 60
 
 
 def exchanged(client, connection):
-    """Sends the bytes of a connection in pieces. Returns the bytes that it receives."""
+    """Sends the bytes of a connection in pieces. Returns the received bytes."""
     left, answered, is_sending = connection.sent, b"", True
     while True:
         writers = [client] if is_sending else []

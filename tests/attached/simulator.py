@@ -180,7 +180,7 @@ def launched() -> None:
 
 
 def hostile() -> None:
-    """Clients that send random bytes, in pieces or cut off, do not disturb another client."""
+    """Clients that send random bytes, in pieces or truncated, do not disturb another client."""
     draw = random.Random(7)
     with Served() as served, contextlib.ExitStack() as held:
         tpm = served.client()

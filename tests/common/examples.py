@@ -53,8 +53,8 @@ BY_POLICY = [entry(POLICY, nonce=bytes(16))]
 # An entry of SESSION that decrypts the first parameter.
 BY_DECRYPTING = [entry(SESSION, bytes(16), frames.CONTINUE_SESSION | frames.DECRYPT)]
 
-# Three entries. The last session ends when the command is accepted. A trial session then gets its
-# slot.
+# Three entries. The session of the last one ends when the command is accepted. A trial session then
+# gets its slot.
 BY_THREE = [entry(), *BY_SESSION, entry(OTHER, nonce=bytes(16), attributes=0)]
 
 

@@ -160,7 +160,8 @@ class Service:
 
     @property
     def told(self):
-        """Returns the same result, but with a description of the image, for comparison."""
+        """Returns this result with a description of the image instead of its bytes, for comparison.
+        """
         return replace(self, image=image_told(self.image))
 
 

@@ -40,7 +40,9 @@ def refused_alone(what: str, outcome: str, tries: int, buffer: bytes) -> None:
 
 
 def cuts_of(prepared: Prepared) -> Iterator[tuple[str, bytes]]:
-    """Yields the command with its parameters cut to each shorter length, after a description."""
+    """Yields the command with its parameters truncated to each shorter length. Each buffer comes
+    after its description.
+    """
     whole, count = prepared.buffer(), len(prepared.parameters)
     for left in range(count):
         yield f"Cut to {left} of {count} bytes", with_size(whole[: len(whole) - count + left])

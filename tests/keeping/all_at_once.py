@@ -96,7 +96,7 @@ class Worker:
 
     def asks(self, act: str) -> object:
         """Returns the answer to an operation. If the device is not started, starts it for the next
-        one.
+        operation.
         """
         answer = answer_of(act, does(self.host, act, FOLDER))
         if answer == INITIALIZE:

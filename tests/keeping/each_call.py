@@ -159,7 +159,7 @@ def one_line(fault: object) -> str:
 
 
 class Child:
-    """A host in a fork of this process. It reports each operation before and after it."""
+    """A host in a fork of this process. It reports before and after each operation."""
 
     def __init__(self, host: Host, folder: str, shim: Shim, tells: int) -> None:
         self.host, self.folder, self.shim, self.tells = host, folder, shim, tells

@@ -212,7 +212,9 @@ def alarmed(made):
 
 
 def moved(device):
-    """Executes a command from another locality, which is sent to the device before the command."""
+    """Executes a command at another locality. The locality is sent to the device before the
+    command.
+    """
     device.locality = 3
     device.execute(asking(FIRST))
 

@@ -12,7 +12,7 @@ from tests.common.vocabulary import RH_OWNER, SE_HMAC, SE_POLICY, SHA256, STATE,
 from tests.sessions.grounds_caller import AFTER_AUTH_VALUE, DATA, GroundsCaller, OWNER, ZEROS
 
 VALUE, LOCKOUT_AUTH, OTHER_DATA = b"a", b"lockout", b"to write"
-RECOVERY = 1_000_000  # milliseconds of recoveryTime and lockoutRecovery of a new device
+RECOVERY = 1_000_000  # recoveryTime and lockoutRecovery of a new device, in milliseconds
 
 # Random bytes that are used more than once.
 SEED, OTHER_SEED = b"\xa1", b"\xb2"
