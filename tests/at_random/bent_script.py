@@ -137,7 +137,7 @@ def bent_lines(random, lines):
 
 
 def bent_script(random, lines):
-    """Returns the text of an altered script, and the number of lines that were altered."""
+    """Returns the text of an altered script, and the number of altered lines."""
     lines, bent = bent_lines(random, lines)
     text = bytearray("\n".join(lines).encode("ascii") + b"\n")
     if random.random() < OFTEN:

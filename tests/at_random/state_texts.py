@@ -21,8 +21,7 @@ from tests.common.outputs import repeated
 
 EVENTS_OF_ONE = 1000
 
-# The probability that a state text is restored after an event. If it is low, small errors have time
-# to add up.
+# The probability that a state text is restored after an event. If it is low, errors can add up.
 CHANCES = 1, 0.2, 0.01
 
 

@@ -17,7 +17,7 @@ from tests.common.script import Script, SUCCESS
 HASHES = ((SHA1, "SHA-1"), (SHA256, "SHA-256"))
 KINDS = ((SE_POLICY, "policy"), (SE_TRIAL, "trial"))
 
-# The first indices that most scripts use.
+# The first four NV indices of most scripts.
 FIRST, SECOND, THIRD, FOURTH = range(0x0100_0001, 0x0100_0005)
 
 

@@ -40,8 +40,8 @@ def refused_alone(what: str, outcome: str, tries: int, buffer: bytes) -> None:
 
 
 def cuts_of(prepared: Prepared) -> Iterator[tuple[str, bytes]]:
-    """Yields the command with its parameters truncated to each shorter length. Each buffer comes
-    after its description.
+    """Yields the command with its parameters truncated to each shorter length, after its
+    description.
     """
     whole, count = prepared.buffer(), len(prepared.parameters)
     for left in range(count):

@@ -33,8 +33,8 @@ MOST_ZEROS, CHOICES = 5000, 3
 
 @dataclass
 class File:
-    """The content of a file, its earlier contents since it was synced, and the number of its first
-    bytes that are on the disk.
+    """The content of a file, its earlier contents since it was synced, and the size of its prefix
+    on the disk.
     """
 
     now: bytes = b""

@@ -303,8 +303,8 @@ class Start:
 
 @dataclass(frozen=True)
 class Starts:
-    """The three starting points: a kept device; one whose journal is so long that the next command
-    restarts it; and no device.
+    """The three starting points: a device in a folder; one whose journal is so long that the next
+    command restarts it; and no device.
     """
 
     kept: Start

@@ -28,8 +28,8 @@ tpm = Steps(__name__, __doc__)
 
 
 def fails(words, *commands):
-    """Sends TPM2_EvictControl with the empty password. Each tuple contains the hierarchy, the
-    object, and the persistent handle.
+    """Sends TPM2_EvictControl with the empty password. Each of `commands` contains the hierarchy,
+    the object, and the persistent handle.
     """
     tpm.says(words, *(tpm.evicting(*it, b"") for it in commands))
 

@@ -49,7 +49,7 @@ class Host:
 
 
 class Pair:
-    """The devices in a folder that play a script."""
+    """The devices that play a script in a folder."""
 
     def __init__(self, words: list[str], folder: str, completes: bool, is_twin: bool) -> None:
         caller, library, shim = words
