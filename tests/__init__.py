@@ -1,3 +1,3 @@
-"""The programs of the tests in Python. They form a package, so that programs in one folder can
-import those in another.
+"""The test programs in Python form a package, so that a program in one folder can import programs
+in another.
 """

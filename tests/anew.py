@@ -2,8 +2,9 @@
 
     tools/python.sh tests/anew.py tests/objects/create.py ..
 
-A program has either a caller `tpm`, whose script is written when the program has ended, or a
-function `write_script`. Otherwise it writes its own script while it runs.
+If a program defines a function `write_script`, this function writes the script. If it defines a
+caller `tpm`, the caller's script is written when the program has ended. Other programs write their
+own scripts.
 """
 
 import importlib

@@ -1,5 +1,5 @@
-"""Altered scripts and altered images. In an altered script, some commands have random changes, some
-lines are missing or swapped, and sometimes a byte of the text is changed.
+"""Alters scripts and images at random. In an altered script, some commands have random changes,
+some lines are missing or swapped, and sometimes a byte of the text is changed.
 """
 
 from tpmsim.model.image import BODY_AT, DIGEST_AT_END, HEAD_BYTES
@@ -7,7 +7,7 @@ from tpmsim.standard import CC, digest, frames
 from tests.common.expected import buffer_of
 from tests.common.script import line
 
-# The offset of an image's length, and the offset after the seeds and proofs.
+# The offset of the length field of an image, and the offset after the seeds and proofs.
 LENGTH_AT, BEHIND_SEEDS = 6, BODY_AT + 4 * 66
 
 # The probability that a line is altered, and the probability that a byte of the text is changed.
@@ -22,7 +22,7 @@ HANDLES = (
 
 
 def put(buffer, at, data):
-    """Returns the buffer with these bytes written at an offset."""
+    """Returns the buffer with `data` written at the offset `at`."""
     return buffer[:at] + data + buffer[at + len(data) :]
 
 
@@ -59,7 +59,8 @@ def more(random, buffer):
 
 
 def doubled(random, buffer):
-    """Returns the buffer with one part repeated, which may be a handle or an entry."""
+    """Returns the buffer with one part repeated. The part may be as long as a handle or an entry.
+    """
     at, size = random.randrange(len(buffer)), random.choice((4, 9, 9, 20))
     return buffer[: at + size] + buffer[at:]
 
@@ -104,8 +105,8 @@ def bent_buffer(random, buffer):
 
 
 def bent_image(random, text):
-    """Returns an image that is altered once or twice, usually after its seeds. Usually it has the
-    right length and digest.
+    """Returns an image with one or two alterations, usually after the seeds. Usually the length and
+    the digest are then corrected.
     """
     for _ in range(random.choice((1, 1, 2))):
         first = 0 if random.random() < 0.2 else BEHIND_SEEDS
@@ -117,7 +118,7 @@ def bent_image(random, text):
 
 
 def bent_lines(random, lines):
-    """Returns the lines, and the number of alterations. Some lines are altered, dropped, repeated,
+    """Returns altered lines, and the number of alterations. Lines are altered, dropped, repeated,
     or swapped with the next line.
     """
     lines, bent = list(lines), 0
@@ -136,7 +137,7 @@ def bent_lines(random, lines):
 
 
 def bent_script(random, lines):
-    """Returns the text of an altered script, and the number of its altered lines."""
+    """Returns the text of an altered script, and the number of altered lines."""
     lines, bent = bent_lines(random, lines)
     text = bytearray("\n".join(lines).encode("ascii") + b"\n")
     if random.random() < OFTEN:

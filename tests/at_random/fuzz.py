@@ -80,9 +80,9 @@ DEFECTS = (
 
 @dataclass
 class Kind:
-    """A kind of input: scripts, altered scripts or streams. `ending` is the suffix of its files,
-    and `difference` the function that compares an input. `tried` counts the inputs, and what they
-    contained.
+    """A kind of input: scripts, altered scripts or streams. `ending` is the suffix of its files.
+    `difference` is the function that finds where the results for an input differ. `tried` counts
+    the inputs and their contents.
     """
 
     name: str
@@ -104,8 +104,8 @@ class Kind:
 
 
 def shrunken(lines, differs):
-    """Removes lines from an input as long as it still differs, for a limited time. Returns the
-    rest.
+    """Removes lines from an input for a limited time, as long as the results for the rest still
+    differ. Returns the rest.
     """
     until = time.monotonic() + SHRINKING_SECONDS
     size, before = len(lines), len(lines)
@@ -124,8 +124,8 @@ def shrunken(lines, differs):
 
 
 def shown(wanted, given):
-    """Yields both texts. Long texts are cut to begin shortly before the first character that
-    differs.
+    """Yields both texts. Long texts are shortened: they begin shortly before the first character
+    that differs.
     """
     same = next((at for at, (a, b) in enumerate(zip(wanted, given)) if a != b), 0)
     first = max(0, same - SHOWN // 4) if max(len(wanted), len(given)) > SHOWN else 0
@@ -186,7 +186,7 @@ class Fuzz:
             self.leave(f"{name}.shrunken.{kind.ending}", lines, found)
 
     def leave(self, name, lines, found):
-        """Writes an input to a file, and prints how it differs."""
+        """Writes an input to a file, and prints how the two results for it differ."""
         self.folder = self.folder or pathlib.Path(tempfile.mkdtemp(prefix="fuzz."))
         path = self.folder / name
         path.write_bytes(bytes_text(lines))
@@ -201,7 +201,7 @@ def show(path, number, wanted, given):
 
 
 def replay(program, name):
-    """Plays the input in a file of an earlier run. Returns 1 if it still differs, else 0."""
+    """Plays an input that an earlier run saved. Returns 1 if the results still differ, else 0."""
     path = pathlib.Path(name)
     lines = bytes_lines(path.read_bytes())
     found = (stream_difference if path.suffix == ".stream" else script_difference)(program, lines)

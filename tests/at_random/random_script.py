@@ -2,9 +2,9 @@
 
     random_script.py SEED COUNT FOLDER
 
-writes COUNT commands to FOLDER/SEED.tpm, and their responses to FOLDER/SEED.out. Most commands may
-succeed. Some have a wrong field, and some have wrong bytes. tools/soak/random_scripts.sh compares
-the program's responses with these.
+writes COUNT commands to FOLDER/SEED.tpm, and their responses to FOLDER/SEED.out. Most commands can
+succeed. Some have one wrong field, and some have arbitrary wrong bytes. The script
+tools/soak/random_scripts.sh compares the program's responses with these.
 """
 
 import contextlib
@@ -31,8 +31,8 @@ KINDS = frames.SE_HMAC, frames.SE_HMAC, frames.SE_POLICY, frames.SE_POLICY, fram
 OPEN = Attribute.FIXED_TPM | Attribute.FIXED_PARENT | Attribute.USER_WITH_AUTH
 STORES = OPEN | Attribute.RESTRICTED | Attribute.DECRYPT | Attribute.SENSITIVE_DATA_ORIGIN
 USES = CC.Unseal, CC.HMAC, CC.Create, CC.Load, CC.PolicySecret
-# The commands that an index can authorize. Only a policy can authorize NV_ChangeAuth, so it occurs
-# most often.
+# The commands that an index can authorize. TPM2_NV_ChangeAuth is repeated so that it is chosen most
+# often, because only a policy can authorize it.
 NV_USES = (
     *(it for it in CC if it.handles and it.handles[0].kind == HandleKind.NV_AUTH),
     *(CC.NV_ChangeAuth,) * 6,
@@ -41,7 +41,7 @@ INDEX_NUMBERS = range(12)
 TYPES = *(nv.Type.ORDINARY,) * 2, *nv.Type
 ASKERS = frames.RH_OWNER, frames.RH_PLATFORM
 
-# Times to wait, in milliseconds, and the parameters of dictionary attack protection.
+# Times to wait, in milliseconds. Then the parameters of dictionary attack protection.
 WAITS = 1, 999, 1000, 999_999, 1_000_000, 1_000_001, 2**32 - 1
 MOST_TRIES = 3, 3, 3, 10, 1, 0
 RECOVERIES = 1000, 1000, 1, 0, 2**32 - 1
@@ -69,13 +69,13 @@ class Writer(random.Random):
         return self.randbytes(self.choice((0, 1, most // 2, most, most)) + self.happens(0.01))
 
     def bent(self, data):
-        """Returns the data with one bit changed."""
+        """Returns a copy of the data in which one bit is flipped."""
         at = self.randrange(len(data))
         return data[:at] + bytes([data[at] ^ 1 << self.randrange(8)]) + data[at + 1 :]
 
     def fitting(self, digest, algorithm):
-        """Returns the digest if its size fits the hash algorithm. Otherwise mostly returns an empty
-        digest.
+        """Returns the digest if its size fits the hash algorithm. Otherwise usually returns an
+        empty digest.
         """
         return digest if len(digest) in (0, size_of(algorithm)) or self.happens(0.1) else b""
 
@@ -86,17 +86,15 @@ class Writer(random.Random):
         return self.choice(handle_kinds.PRIMARY_HIERARCHIES)
 
     def object(self, test=lambda it: True):
-        """Returns the handle of a loaded object, if there is one. Rarely returns the handle of a
-        missing object.
-        """
+        """Returns the handle of a loaded object, if there is one. Rarely the object is missing."""
         fitting = [it for it in self.device.objects if test(self.device.objects[it])]
         if self.happens(0.02) or not fitting:
             return self.choice((0x80000000 + self.randrange(9), 0x81000000, RH_NULL))
         return self.choice(fitting)
 
     def session(self, *kinds):
-        """Returns the handle of a session of one of these kinds. Rarely returns that of a missing
-        session, or of another kind.
+        """Returns the handle of a session of one of these kinds. Rarely the session is missing or
+        of another kind.
         """
         held = self.device.sessions
         fitting = [it for it in held if held[it].kind in kinds or self.happens(0.02)]
@@ -107,9 +105,7 @@ class Writer(random.Random):
         return self.choice((*HIERARCHIES, *held))
 
     def index(self, test=lambda it: True):
-        """Returns the handle of a defined index, if there is one. Rarely returns that of an
-        undefined index.
-        """
+        """Returns the handle of a defined index, if there is one. Rarely the index is undefined."""
         indices = self.device.indices
         fitting = [it for it in indices if test(indices[it].public) or self.happens()]
         if self.happens(0.02) or not indices:
@@ -174,8 +170,8 @@ class Writer(random.Random):
         return size_of(algorithm) if kind == nv.Type.EXTEND else nv.NUMBER_BYTES
 
     def nv_policy(self, algorithm):
-        """Returns a policy digest: the present one of a session, one that a session can reach, or
-        an earlier one.
+        """Returns a policy digest: the current digest of a session, a digest that one policy
+        command produces, or a digest of an earlier session.
         """
         held = self.device.sessions.values()
         told = [it.policy for it in held if it.algorithm == algorithm and not it.is_trial]
@@ -206,8 +202,8 @@ class Writer(random.Random):
         return [frames.RH_PLATFORM if by_platform else self.choice(ASKERS), handle]
 
     def asked(self, kind=None, reads=False):
-        """Returns an authorizing handle and an index, mostly of the given type. Mostly the handle
-        may authorize commands on the index.
+        """Returns an authorizing handle and the handle of an index, usually of the given type.
+        Usually the first handle may authorize commands on the index.
         """
         handle = self.index(lambda it: kind in (None, it.kind))
         held = self.device.indices.get(handle)
@@ -283,7 +279,7 @@ class Writer(random.Random):
 
     def policy_cp_hash(self):
         """Returns a TPM2_PolicyCpHash, mostly with the cpHash of a command without parameters, or
-        with one that the session already has.
+        with the cpHash that the session already has.
         """
         (handle,), _ = self.told()
         held = self.device.sessions.get(handle)
@@ -315,7 +311,7 @@ class Writer(random.Random):
         return [handle], frames.sized_list(*branches)
 
     def load(self):
-        """Returns a TPM2_Load of a previously created object, mostly below its parent."""
+        """Returns a TPM2_Load of a previously created object, mostly with the right parent."""
         parent = self.object(lambda it: it.public.is_parent)
         name = self.device.name(parent)
         fitting = [it for it in self.made if it[0] == name or self.happens(0.02)]
@@ -331,7 +327,7 @@ class Writer(random.Random):
 
     def keyed(self, signs):
         """Returns the handle of an HMAC key if `signs` is true, otherwise of sealed data. Rarely
-        returns that of another object.
+        the object is of a different kind.
         """
         wanted = KEYEDHASH, signs
         is_one = lambda public: (public.kind, public.has(Attribute.SIGN)) == wanted
@@ -341,7 +337,7 @@ class Writer(random.Random):
         held = [*self.device.objects, *self.device.sessions, 0x80000007, 0x02000000, RH_NULL]
         return [], number(self.choice(held), 4)
 
-    # Commands that change what a device keeps without power.
+    # Commands that change the state that a device keeps without power.
 
     def parameters(self):
         """Returns the handle and the parameters of TPM2_DictionaryAttackParameters."""
@@ -541,7 +537,7 @@ class Writer(random.Random):
         return self.damaged(frames.buffer_of(code, handles, entries, command.parameters))
 
     def damaged(self, buffer):
-        """Returns the buffer. Rarely changes one of its bits, or truncates it and corrects
+        """Returns the buffer. Rarely flips one of its bits, or truncates it and corrects
         commandSize.
         """
         if self.happens(0.02):
@@ -580,7 +576,9 @@ class Writer(random.Random):
         self.note(buffer, outcome.response, outcome.refused)
 
     def note(self, buffer, response, refused):
-        """Stores the objects in responses to TPM2_Create, and the policy digests of sessions."""
+        """Stores the objects that TPM2_Create returned, and the current policy digests of the
+        sessions.
+        """
         if not refused and buffer[:2] == number(frames.SESSIONS, 2):
             if int.from_bytes(buffer[6:10], "big") == CC.Create:
                 fields = reading.Fields(response[14:])

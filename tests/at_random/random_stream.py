@@ -7,8 +7,8 @@ from tests.at_random.bent_script import bent_image
 from tests.at_random.random_script import MOST_TRIES, Writer
 from tests.common import streams
 
-# The times of dictionary attack protection, in seconds. None of them ends during the runs, so the
-# time that really passes has no effect.
+# The times of dictionary attack protection, in seconds. None of them elapses during the runs, so
+# the results do not depend on how much time really passes.
 RECOVERIES = 1000, 2**32 - 1, 0
 LEAST_RECOVERY = 500
 
@@ -23,8 +23,8 @@ def parameters(writer):
 
 
 def is_quick(text):
-    """Returns whether the device of an image may end a failed try or a lockout during a run, only
-    because time passes.
+    """Returns whether the device in an image may forget a failed try or end a lockout during a run,
+    only because time passes.
     """
     try:
         lockout = open_image(text).lockout
@@ -76,8 +76,8 @@ class StreamWriter(Writer):
             self.send(buffer[: self.randrange(len(buffer) or 1)])
 
     def give_image(self):
-        """Adds a run on an image of either version, which is mostly altered. If the altered text is
-        not an image, the earlier image is restored after the run.
+        """Adds a run that starts from an image of either version, usually an altered one. If the
+        program refuses the image, the previous image is restored after the run.
         """
         self.served.end()
         before = given = self.served.image
@@ -105,7 +105,8 @@ class StreamWriter(Writer):
 
 
 def random_stream(seed, runs):
-    """Returns the lines of this many runs on one image. Rarely the image is removed between runs.
+    """Returns the lines of this many runs. Rarely the device is replaced by a new one between two
+    runs.
     """
     writer = StreamWriter(seed)
     for at in range(runs):

@@ -1,5 +1,5 @@
-"""Serves runs that are described by lines of streams.py with `tpmsim serve`, and compares the
-responses with the expected ones.
+"""Plays runs with `tpmsim serve`, and compares the responses with the expected ones. Lines of
+streams.py describe the runs.
 """
 
 import pathlib
@@ -16,7 +16,7 @@ SECONDS = 60
 
 
 def exchanged(client, connection):
-    """Sends the bytes of a connection in pieces. Returns the bytes that it receives."""
+    """Sends the bytes of a connection in pieces. Returns the received bytes."""
     left, answered, is_sending = connection.sent, b"", True
     while True:
         writers = [client] if is_sending else []
@@ -67,8 +67,8 @@ class Folder:
         )
 
     def serve(self, run):
-        """Returns the responses to each connection, the run's error message, and a description of
-        its image.
+        """Returns the responses to each connection, the error message of the run, and a description
+        of the image that it left.
         """
         process, answers = self.began(run), []
         try:

@@ -1,5 +1,5 @@
-"""Plays the same random events on three devices. The first is a device of the library, which always
-continues. The second one, also of the library, and the third one, which is the Python device, are
+"""Plays the same random events on three devices. The first one, a device of the library, is never
+restored. The second one, also of the library, and the third one, which is the Python device, are
 often restored from the first one's state text:
 
     state_texts.py EVENTS [SEED]
@@ -21,7 +21,7 @@ from tests.common.outputs import repeated
 
 EVENTS_OF_ONE = 1000
 
-# The probability that a state text is restored after an event. With a low one, an error can grow.
+# The probability that a state text is restored after an event. If it is low, errors can add up.
 CHANCES = 1, 0.2, 0.01
 
 
@@ -30,7 +30,7 @@ class Differs(Exception):
 
 
 class Devices:
-    """The three devices of one seed."""
+    """The three devices, with the same random seed."""
 
     def __init__(self, seed):
         self.writer, self.chance = Writer(seed), CHANCES[seed % len(CHANCES)]
@@ -53,8 +53,8 @@ class Devices:
             self.go_on()
 
     def tell(self, event, answers):
-        """Plays an event of the writer on the devices of the library. The Python device has already
-        executed it.
+        """Plays an event of the writer on both devices of the library. The Python device has
+        already executed it.
         """
         if isinstance(event, bytes):
             self.execute(event, next(answers).outcome.response)
@@ -87,7 +87,7 @@ class Devices:
             raise Differs("the state texts differ")
 
     def go_on(self):
-        """Restores the other two devices from the state text of the device that always continues.
+        """Restores the other two devices from the state text of the device that is never restored.
         """
         text = self.whole.state()
         self.restored.close()

@@ -79,8 +79,8 @@ def has_index(tpm: Caller) -> bool:
 
 
 def keeps(*words: object) -> None:
-    """Checks that an index that one run defines still exists after SIGTERM and SIGKILL. Later runs
-    end with SIGINT and with the request STOP.
+    """Checks that an index that one run defines still exists after SIGTERM and after SIGKILL. Other
+    runs are ended by SIGINT and by the request STOP.
     """
     with Served(*words) as served:
         served.client().define(area(index=INDEX))
@@ -93,7 +93,7 @@ def keeps(*words: object) -> None:
 
 
 def refused(*words: str) -> str:
-    """Returns the status and the output of a simulator that does not start."""
+    """Runs a simulator that must not start. Returns its status and its error message."""
     done = subprocess.run([PROGRAM, "--port", "0", *words], capture_output=True, text=True)
     return f"{done.returncode} {done.stderr.strip()}"
 
@@ -180,7 +180,7 @@ def launched() -> None:
 
 
 def hostile() -> None:
-    """Clients that send random bytes, in pieces or cut off, do not disturb another client."""
+    """Clients that send random bytes, in pieces or truncated, do not disturb another client."""
     draw = random.Random(7)
     with Served() as served, contextlib.ExitStack() as held:
         tpm = served.client()

@@ -5,8 +5,8 @@ device:
 
 The test takes one line for each command from assemble.lines. Each way to alter a token is applied
 to every third token of these lines. For each way the test prints how many lines it altered, how
-many of them assemble to a buffer or have each fault, and how many results differ from the
-program's. Each difference has a line that begins with DIFFERS. Then the test plays some altered
+many of them assemble to a buffer, how many have each kind of fault, and for how many the program's
+result differs. Lines that begin with DIFFERS report differences. Then the test plays some altered
 lines in scripts. Finally it inserts and replaces single bytes in script lines, at each offset.
 """
 
@@ -148,8 +148,8 @@ def bent(first, bend, begin=0, step=1):
 
 
 def is_usage(line):
-    """Returns whether `tpmsim asm` refuses a line as a usage fault: it is not UTF-8, or it is an
-    option that does not exist.
+    """Returns whether `tpmsim asm` refuses a line as a usage fault, because it is not UTF-8 or
+    looks like an unknown option.
     """
     try:
         line.decode("utf-8")
@@ -159,7 +159,7 @@ def is_usage(line):
 
 
 def wanted(line):
-    """Returns the kind of result that `tpmsim asm` must have for a line, and how it must end."""
+    """Returns the kind of result that `tpmsim asm` must have for a line, and the result itself."""
     if is_usage(line):
         return "usage", Ending(2, error=b"tpmsim: usage\n")
     return fault_of(line).partition(" ")[0] or "buffers", assembled(line)

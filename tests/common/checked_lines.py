@@ -5,7 +5,7 @@ Python device:
 
 The script has each line of bent_lines.py once. For each kind of fault the test prints how many bad
 lines have it, and for how many of them `tpmsim check` reports something else. The last line counts
-the good lines. Each difference has a line that begins with DIFFERS.
+the good lines. Lines that begin with DIFFERS report differences.
 """
 
 import collections
@@ -38,8 +38,8 @@ def place_of(tokens: list[bytes], fault: str) -> int:
 
 
 def words_wanted(code: CC, tokens: list[bytes]) -> list[str]:
-    """Returns what each position of a line must contain, by the form of its command and its number
-    of entries.
+    """Returns the kind of word that each position of a line must contain. It depends on the command
+    and on its number of entries.
     """
     name, *words = lines.form_of(code).replace("@", "").split(" ")
     handles = len(code.handles)
@@ -67,7 +67,7 @@ def all_lines() -> list[bytes]:
 
 
 def checked(program: str, script: bytes) -> dict[int, str]:
-    """Returns what the program reports about a script's lines, by line number."""
+    """Returns what the program reports about each line of a script, by line number."""
     with tempfile.NamedTemporaryFile() as file:
         file.write(script)
         file.flush()

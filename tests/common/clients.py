@@ -44,7 +44,7 @@ A_WHILE = 0.5
 
 
 def fill(client):
-    """Sends commands until the device reads no more."""
+    """Sends commands until the device stops reading them."""
     client.setblocking(False)
     while select.select([], [client], [], A_WHILE)[1]:
         client.send(GET_RANDOM)

@@ -2,9 +2,9 @@
 
     tools/python.sh tests/common/command_lists.py
 
-For each list the test prints its number of entries. A missing or extra entry has a line that begins
-with DIFFERS. Then the test makes one mistake in a document at a time, and the comparison has to
-find it.
+For each list the test prints its number of entries. It prints a line that begins with DIFFERS for
+each missing or extra entry. Then the test makes one mistake in a document at a time, and checks
+that the comparison finds it.
 """
 
 import re
@@ -34,15 +34,15 @@ def documents() -> Documents:
 
 
 def between(text: str, before: str, behind: str) -> str:
-    """Returns the text between two given texts, or an empty text if either is missing."""
+    """Returns the text between `before` and `behind`, or an empty text if either is missing."""
     _, found, rest = text.partition(before)
     return rest.partition(behind)[0] if found else ""
 
 
 @dataclass(frozen=True)
 class List:
-    """A list in a document: the entries that it needs, and those that it has. Their order counts
-    only if `in_order` is set.
+    """A list in a document: the expected entries, and the actual ones. Their order counts only if
+    `in_order` is set.
     """
 
     wanted: list
@@ -103,8 +103,8 @@ def not_served(texts: Documents) -> List:
 
 
 def named(document: str, before: str, behind: str, is_wanted: Callable[[CC], bool]) -> Check:
-    """Returns the check that a document names exactly the expected commands between two given
-    texts.
+    """Returns a check that a document names exactly the expected commands between `before` and
+    `behind`.
     """
 
     def check(texts: Documents) -> List:
@@ -132,7 +132,8 @@ def counts(texts: Documents) -> List:
 
 
 def nv_access(texts: Documents) -> List:
-    """The page must name the attributes that each command requires of an index that authorizes it.
+    """The document's table must name the attributes that each command requires of an index that
+    authorizes it.
     """
     able = [it for it in CC if it.authorized and it.handles[0].kind in NV_KINDS]
     wanted = [(it.name, nv_access_of(it)) for it in able]

@@ -1,6 +1,6 @@
 """Finds the public names of a crate, with a small tolerant parser of crates/CRATE/src/*.rt.
 
-A name is that of an item, such as `authorize` or `Machine`, or of a member of a type or trait, such
+A name belongs to an item, such as `authorize` or `Machine`, or to a member of a type or trait, such
 as `Machine::execute` or `Keep::fixed`. Names of modules may precede it. An item counts if its
 module is public, or if a `pub use` re-exports it, even from another crate. The parser relies on the
 layout that `rt fmt` makes: items begin in the first column, members in the fifth.

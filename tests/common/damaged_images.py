@@ -5,9 +5,9 @@
     damaged_images.py PROGRAM full [SEED [COUNT]]  the largest image, and COUNT altered bodies of
                                                    a full device
 
-For each kind of damage the test prints how many damaged texts there were, and their faults. Each
-difference has a line of its own. The last line is `N agree, M differ`. The test works in the
-current folder. It leaves the first texts that differ there, in files that the lines name.
+For each kind of damage the test prints the number of damaged images, and their faults. It prints a
+line for each difference. The last line is `N agree, M differ`. The test works in the current
+folder, and saves the first images that differ to files, whose names it prints.
 """
 
 import collections
@@ -35,17 +35,17 @@ SEED, BENT = 1, 300
 DEFAULTS = [1, 10_000]
 MOST_LEFT = 100
 
-# The program reads only the first texts of a long series, and then one of every `step`. STEP must
-# not divide the number of ways to change a byte. The library reads all texts.
+# In a long series of images, the program opens only the first FIRST, and then one of every STEP.
+# STEP must not divide the number of ways to change a byte. The library opens all images.
 FIRST, STEP = 100, 11
 
-# The clock of the device whose image is damaged, instead of the time that really passed.
+# The device's clock in the damaged image, instead of the time that really passed.
 CLOCK = 0x0102_0304
 
 
 class Program:
-    """A program that serves a device, one run for each image. The runs of `opening` have no
-    connection; those of `saving` have one.
+    """A program that serves a device, with a new run for each image. In the runs of `opening` no
+    client connects; in those of `saving` one does.
     """
 
     def __init__(self, opening, saving):
@@ -62,8 +62,8 @@ class Program:
         path.write_bytes(text)
 
     def end(self, runs):
-        """Returns the fault that the program reported, None if the run succeeded, or any other
-        ending.
+        """Returns the fault that the program reported, None if the run succeeded, or a description
+        of any other result.
         """
         given = runs.ended()
         fault = given.error.decode("ascii", "replace").removeprefix(FAULT).removesuffix("\n")
@@ -72,7 +72,8 @@ class Program:
         return None if given == WELL else f"{given}"
 
     def fault_of(self, text):
-        """Returns the program's fault for an image. If there is none, the image is not saved again.
+        """Returns the fault that the program reports for an image, or None. The program does not
+        save the image again.
         """
         self.place(text)
         self.opening.begin()
@@ -95,8 +96,8 @@ class Program:
 
 
 class Comparison:
-    """Compares the program with the Python device. Of a long series of texts, it compares the first
-    ones, and then one of every `step`.
+    """Compares the program with the Python device. In a long series of images, it compares the
+    first ones, and then one of every `step`.
     """
 
     def __init__(self, program, step):
@@ -115,8 +116,8 @@ class Comparison:
             print(f"    {name}", flush=True)
 
     def fault_of(self, words, text):
-        """Returns the Python device's fault for a text, and checks that the program reports that
-        fault.
+        """Returns the Python device's fault for an image, and checks that the program reports the
+        same fault.
         """
         wanted, given = image.fault_of(text), self.program.fault_of(text)
         words = f"{words}: {wanted or 'opened'} is wanted, {given or 'opened'} is given"
@@ -124,7 +125,9 @@ class Comparison:
         return wanted or "opened"
 
     def kind(self, name, texts):
-        """Prints the faults of texts with one kind of damage. Each text has a description."""
+        """Prints how many images with one kind of damage have each fault. Each image has a
+        description.
+        """
         faults = collections.Counter(self.fault_of(f"{name}, {words}", it) for words, it in texts)
         told = ", ".join(f"{count:,} {fault}" for fault, count in sorted(faults.items()))
         print(f"{name}: {sum(faults.values()):,} texts: {told}", flush=True)
@@ -133,8 +136,8 @@ class Comparison:
         self.kind(name, (it for at, it in enumerate(texts) if at < FIRST or at % self.step == 0))
 
     def is_saved_again(self, words, text):
-        """Checks that a device that opens an image saves the same image in version 2. Each text is
-        tried once. A text that the program refuses is skipped, since it was counted before.
+        """Checks that a device that opens an image saves the same image in version 2. Each image is
+        tried once. Images that the program refuses are skipped.
         """
         if text in self.saved or self.program.fault_of(text) is not None:
             return
@@ -162,7 +165,9 @@ def prefixes(text):
 
 
 def changed(text, places, changes):
-    """Yields the texts in which one byte at `places` is changed in one of these ways."""
+    """Yields copies of the text with one byte changed: at each offset in `places`, in each way in
+    `changes`.
+    """
     for at in places:
         for change in changes:
             value = change(text[at])
@@ -172,7 +177,7 @@ def changed(text, places, changes):
 ALL_WAYS = [lambda byte, added=added: byte + added & 0xFF for added in range(1, 256)]
 
 # Ways to change a byte: flip its lowest bit; flip its highest bit; add one if the lowest bit is
-# set, else subtract one. The last one changes more than the lowest bit.
+# set, else subtract one. The last way flips at least the two lowest bits.
 THREE_WAYS = (
     *(lambda byte: byte ^ 0x01, lambda byte: byte ^ 0x80),
     lambda byte: byte + (1 if byte & 1 else -1) & 0xFF,

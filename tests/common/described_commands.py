@@ -3,9 +3,9 @@
     tools/python.sh tests/common/described_commands.py PROGRAM
 
 The test asks the program about each fact of each command. For each kind of fact it prints the
-number of questions. Each difference has a line that begins with DIFFERS. Then the test changes one
-fact of one command in the description at a time, for each kind of fact, and the comparison must
-find the mistake.
+number of questions. Lines that begin with DIFFERS report differences. Then the test changes one
+fact of one command in the description at a time, for each kind of fact, and checks that the
+comparison finds the mistake.
 """
 
 import concurrent.futures
@@ -66,7 +66,7 @@ class Program:
 
     @functools.cache
     def told(self, word: str, argument: str) -> Ending:
-        """Returns how `tpmsim asm` or `tpmsim line` ends with an argument."""
+        """Returns the result of `tpmsim asm` or `tpmsim line` for an argument."""
         return ran(self.path, word, argument)
 
 
@@ -81,7 +81,7 @@ class Asked:
     found: object
 
 
-# The tested device, and the questions.
+# The tested device, and functions that execute commands on it.
 
 
 def index_line(index: int, attributes: int, auth_policy: bytes) -> str:
@@ -117,7 +117,7 @@ class Answer:
         return (self.check, self.code) == (check, frames.code_of(name))
 
     def is_behind(self, check: str, refusal: str) -> bool | str:
-        """Returns whether the command passed a check. Only that check refuses with the given
+        """Returns whether the command passed a check. No other check refuses with the given
         response code.
         """
         if self.is_refusal(check, refusal):
@@ -127,8 +127,8 @@ class Answer:
 
 
 def answers_of(program: Program, code: CC, buffers: list[bytes]) -> list[Answer]:
-    """Executes the buffers one after another, and returns the results. The lines of `setup` come
-    first, except for TPM2_Startup.
+    """Executes the buffers one after another, and returns the results. The lines of `setup` are
+    executed first, unless the command is TPM2_Startup.
     """
     before = [] if code == CC.Startup else setup()
     printed = program.run([*before, *(f"cmd {it.hex()}" for it in buffers)], "--trace")[::2]
@@ -147,7 +147,7 @@ def right_handles(code: CC) -> list[int]:
 
 
 def buffer_of(code: CC, handles: list[int], *entries: bytes) -> bytes:
-    """Returns a command with one byte of parameters, so that hardly any command succeeds."""
+    """Returns a command whose parameters are a single byte, so that hardly any command succeeds."""
     if entries:
         return frames.on_handles(code, handles, b"\0", list(entries))
     return frames.buffer_of(code, handles, [], b"\0")
@@ -168,7 +168,7 @@ def attributes(program: Program, codes: list[CC]) -> Iterator[Asked]:
 
 
 def served(program: Program, codes: list[CC]) -> Iterator[Asked]:
-    """Compares which commands the device supports, and which of them a policy can name."""
+    """Compares which commands the device supports, and which commands a policy can name."""
     numbers = range(0x100, 0x200) if len(codes) == len(CC) else [int(it) for it in codes]
     for wanted, refusal, buffer in (
         ("served", "COMMAND_CODE", lambda it: frames.command(it, b"\0")),
@@ -190,7 +190,7 @@ def naming(code: int) -> bytes:
 
 
 def told(program: Program, word: str, said: list[str], wanted: Callable) -> Iterator[Asked]:
-    """Compares how `tpmsim asm` or `tpmsim line` ends with each of these arguments."""
+    """Compares the results of `tpmsim asm` or `tpmsim line` for these arguments."""
     with concurrent.futures.ThreadPoolExecutor(AT_ONCE) as pool:
         for it, found in zip(said, pool.map(lambda it: program.told(word, it), said)):
             yield Asked(f"{word} {it}", wanted(it), found)
@@ -205,8 +205,8 @@ def parameters(program: Program, codes: list[CC]) -> Iterator[Asked]:
 
 
 def parameter_lines(code: CC) -> Iterator[str]:
-    """Yields lines of a command: with each token for each parameter; cut before each word; and with
-    an extra word.
+    """Yields lines of a command: with each of TOKENS as each parameter; truncated before each word;
+    and with an extra word.
     """
     words = [code.name, *("01000000" for _ in code.handles), *map(sample, code.parameters)]
     front = len(words) - len(code.parameters)
@@ -237,7 +237,7 @@ def words(program: Program, codes: list[CC]) -> Iterator[Asked]:
 
 
 def kinds_of_handles(program: Program, codes: list[CC]) -> Iterator[Asked]:
-    """Compares which handles a command accepts, of existing entities and of others."""
+    """Compares which handles a command accepts, both for existing and for missing entities."""
     for code in codes:
         right, wanted, buffers = right_handles(code), [], []
         for place, handle in enumerate(code.handles, 1):
@@ -251,7 +251,7 @@ def kinds_of_handles(program: Program, codes: list[CC]) -> Iterator[Asked]:
 
 def authorizations(program: Program, codes: list[CC]) -> Iterator[Asked]:
     """Compares which handles need authorization, and whether a command accepts entries. A password
-    that authorizes no handle has a refusal of its own.
+    entry is refused with a code of its own if no handle of the command needs it.
     """
     for code in codes:
         handles = right_handles(code)
@@ -267,8 +267,8 @@ def authorizations(program: Program, codes: list[CC]) -> Iterator[Asked]:
 
 
 def encryption(program: Program, codes: list[CC]) -> Iterator[Asked]:
-    """Compares for which commands the first parameter is a sized buffer, so that a session may
-    decrypt it, or encrypt it in the response.
+    """Compares which commands and responses have a sized buffer as their first parameter. Only then
+    may a session encrypt that parameter.
     """
     for code in codes:
         if code.has(Fact.NO_SESSIONS):
@@ -302,8 +302,8 @@ def roles(program: Program, codes: list[CC]) -> Iterator[Asked]:
 
 
 def nv_attributes(program: Program, codes: list[CC]) -> Iterator[Asked]:
-    """Compares whether a command needs an index's attributes for reading or those for writing, if
-    the index authorizes it. The authorization value of an index never authorizes the ADMIN role.
+    """Compares whether a command that an index authorizes needs the index's attributes for reading
+    or those for writing. The authorization value of an index never authorizes the ADMIN role.
     """
     for code in codes:
         if not code.authorized or not takes(code.handles[0], READ_INDEX):
@@ -317,13 +317,13 @@ def nv_attributes(program: Program, codes: list[CC]) -> Iterator[Asked]:
             yield Asked(f"{code.name} is authorized by {it:08x}", wanted, is_able)
 
 
-# The events of tests/general/saved_state.tpm. There each command succeeds between TPM2_Shutdown and
-# TPM2_Startup.
+# The events of tests/general/saved_state.tpm. In that script each command succeeds between
+# TPM2_Shutdown and TPM2_Startup.
 
 
 def saved_state(program: Program) -> list[tuple[CC, str, str]]:
-    """Returns the script's events: the command, or None for a power cycle; the check; and the
-    response.
+    """Returns the script's events. Each has a command (None for a power cycle), the check that
+    refused it, and the response.
     """
     script = (TESTS / "general/saved_state.tpm").read_text("ascii").splitlines()
     printed = iter(program.run(script, "--trace"))
@@ -434,8 +434,8 @@ def with_fact(code: CC, fact: Fact) -> dict:
 
 @dataclass(frozen=True)
 class Wrong:
-    """A wrong description of one fact: the check that must find the mistake, the command, and its
-    changes.
+    """A wrong description of one fact: the function that must find the mistake, the command, and
+    the changes to its description.
     """
 
     what: str

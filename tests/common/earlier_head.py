@@ -14,8 +14,8 @@ from tpmsim.model.object_commands import OBJECTS
 from tpmsim.records.marks import Mark, sum_from, sum_of, OFFSET_BASIS
 from tpmsim.standard import number
 
-# The sizes of the sessions' numbers at the end of the body, and of the numbers that version 1 has
-# before them.
+# The size of the session numbers at the end of the body, and of the object numbers that precede
+# them in version 1, in bytes.
 OF_SESSIONS, OF_OBJECTS = 8 * 16, 2 * 8 * OBJECTS
 
 
@@ -27,8 +27,8 @@ def earlier(text: bytes) -> bytes:
 
 
 def marked(line: bytes, total: int) -> tuple[bytes, int]:
-    """Returns a line of the journal and the checksum after it. If the line is a mark, it gets its
-    new checksum.
+    """Returns a line of the journal, and the checksum after the line. If the line is a mark, its
+    checksum is replaced by the new one.
     """
     mark = Mark.read(line)
     if mark is None:

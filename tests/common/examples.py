@@ -53,8 +53,8 @@ BY_POLICY = [entry(POLICY, nonce=bytes(16))]
 # An entry of SESSION that decrypts the first parameter.
 BY_DECRYPTING = [entry(SESSION, bytes(16), frames.CONTINUE_SESSION | frames.DECRYPT)]
 
-# Three entries. The last session ends when the command is accepted. A trial session then gets its
-# slot.
+# Three entries. The session of the last one ends when the command is accepted. A trial session then
+# gets its slot.
 BY_THREE = [entry(), *BY_SESSION, entry(OTHER, nonce=bytes(16), attributes=0)]
 
 
@@ -207,7 +207,7 @@ def defining(name: str, public: nv.Public) -> Example:
 
 
 def by_owner(code: CC, index: int, parameters: bytes = b"") -> Example:
-    """Returns a command on an index that the owner authorizes."""
+    """Returns an example of a command on an NV index, authorized by the owner."""
     return Example(f"TPM2_{code.name}", on_handles(code, [RH_OWNER, index], parameters))
 
 
@@ -246,7 +246,7 @@ INDICES = [
 ]
 
 
-# Commands that change what the device keeps without power. TPM2_Clear comes last.
+# Commands that change the state that the device keeps without power. TPM2_Clear comes last.
 
 OBJECT, KEPT = 0x8000_0000, 0x8100_0000
 PRIMARY = frames.creation(frames.sensitive_create(), sized(storage_key().text))

@@ -130,7 +130,7 @@ def fault_of(line):
 
 
 def assembled(line):
-    """Returns how `tpmsim asm` ends with a line."""
+    """Returns the expected result of `tpmsim asm` for a line."""
     fault = fault_of(line)
     if fault:
         return Ending(2, error=f"tpmsim: asm {fault}\n".encode("ascii"))
@@ -138,7 +138,7 @@ def assembled(line):
 
 
 def line_told(buffer):
-    """Returns how `tpmsim line` ends with a buffer."""
+    """Returns the expected result of `tpmsim line` for a buffer."""
     line = lines.line_of(buffer)
     if line is None:
         return Ending(2, error=b"tpmsim: line NoLine\n")
@@ -146,7 +146,9 @@ def line_told(buffer):
 
 
 def traced(script):
-    """Returns how `tpmsim run --trace` ends with a script. The lines may contain any bytes."""
+    """Returns the expected result of `tpmsim run --trace` for a script. The lines may contain any
+    bytes.
+    """
     printed, error = player.played(script)
     status = {"": 0, "tpmsim: file": 3}.get(error, 2)
     output = "".join(f"{line}\n" for _, line in printed).encode("ascii")

@@ -35,8 +35,8 @@ def check_image(label, device, compared=bytes):
 
 
 def check_save(label, device, changes, old, compared=bytes):
-    """Checks the image after a command. If the command changes the device, the image must be that
-    of the device. Otherwise the file must not have been written.
+    """Checks the image after a command. If the command changes the device, the file must contain
+    the new image of the device. Otherwise the file must not have been written.
     """
     if changes:
         check_image(label, device, compared)

@@ -35,7 +35,7 @@ INCREMENT = b"do NV_Increment OWNER 01000002 pw:-"
 
 
 class Run:
-    """A run of the program, and the same device in Python."""
+    """A run of the program, and the Python device that plays the same lines."""
 
     def __init__(self, device=None, *words):
         self.player, self.is_saved = player.Player(device), device is not None
@@ -83,7 +83,7 @@ class Run:
 
 
 def watch(script):
-    """Plays a script line by line, and then again from the image that the first run left."""
+    """Plays a script line by line, and then again on the image that the first run left."""
     for again in ("", ", on its image"):
         run = Run(opened() if again else None)
         run.tell(*script.read_bytes().splitlines())
@@ -119,8 +119,7 @@ def check_kills():
 
 
 def check_entropy():
-    """A new device is made from the first random bytes. An existing device needs none to be opened.
-    """
+    """A new device is made from the first random bytes. Opening an existing device needs none."""
     random = bytes(range(255, -1, -1))
     pathlib.Path("entropy").write_bytes(random + b"left over")
     run = Run(None, "--entropy", "entropy")

@@ -8,8 +8,8 @@ bytes. Each connection reads both, increments the counter, and writes the counte
 the other index. Therefore both always contain the number of connections that the device has had.
 
 After a client has read all responses, it closes its sending side, and reads to the end of the
-stream. The device is saved only after that. Therefore a client cannot know that its connection has
-ended with the device saved, until a later connection is answered, or the program ends by itself.
+stream. Only then is the device saved. Therefore a client cannot know that the device was saved,
+until a later connection is answered, or the program ends by itself.
 
 The image must contain the device after the last connection that is known to have ended. If the
 client had closed the next connection before the kill, the image may instead contain the device
@@ -63,7 +63,7 @@ class Client(Caller):
         return counter
 
     def more(self, number):
-        """Adds one to both indices."""
+        """Adds one to the values of both indices."""
         self.send(self.incrementing(COUNTER, by=RH_OWNER))
         self.send(self.writing(NUMBER, (number + 1).to_bytes(8, "big"), by=RH_OWNER))
 

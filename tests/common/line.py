@@ -2,13 +2,13 @@
 
     python3 line.py PROGRAM
 
-Two checks apply to the buffer of each `do` line of tests/ and examples/. First, if the buffer is
-parsed and frames.py encodes the parts again, the result must be the same buffer. Second, the line
-that the Python device finds for the buffer must assemble to it. In a script that a program wrote,
-each `cmd` line must be a command that no line in words can encode, unless the script says that its
-commands are bytes. The program must find the same lines as the Python device. The test passes it
-the first buffers of each command and a tenth of the others, and only a twentieth of the `cmd`
-lines, because altered scripts have many.
+The buffer of each `do` line of tests/ and examples/ is checked twice. If it is parsed, and
+frames.py encodes the parts again, the result must be the same buffer. The line that the Python
+device finds for the buffer must assemble to it. In a script that a program wrote, each `cmd` line
+must be a command that no line in words can encode, unless the script says that its commands are
+bytes. The program must find the same lines as the Python device. The test passes it the first
+buffers of each command and a tenth of the others, and only a twentieth of the `cmd` lines, because
+altered scripts have many.
 """
 
 import collections
@@ -59,7 +59,7 @@ def is_right(line):
 
 
 def faults(text):
-    """Yields the numbers of the lines that fail these checks."""
+    """Yields the numbers of the lines in a script that fail a check."""
     told = text.replace("\n# ", " ")
     is_written = (WROTE_THIS in told or MADE_THIS in told) and AS_BYTES not in told
     for number, line in enumerate(text.splitlines(), 1):
@@ -71,7 +71,7 @@ def faults(text):
 
 
 def arguments(word):
-    """Returns the arguments of this word in all scripts, without duplicates."""
+    """Returns the arguments of all script lines that begin with `word`, without duplicates."""
     told = (
         line.partition(b" ") for it in places.scripts() for line in it.read_bytes().splitlines()
     )
@@ -79,8 +79,8 @@ def arguments(word):
 
 
 def check(turns, buffer):
-    """Returns whether the program finds the right line. If not, prints the program's ending and the
-    right one.
+    """Returns whether the program prints the right line for a buffer. If not, prints the program's
+    result and the expected one.
     """
     told, wanted = turns.run(word=buffer.hex().encode("ascii")), line_told(buffer)
     if told != wanted:
@@ -89,7 +89,7 @@ def check(turns, buffer):
 
 
 def some(buffers):
-    """Yields the first few buffers of each command, and one of every STEP others."""
+    """Yields the first few buffers of each command, and then one of every STEP."""
     seen = collections.Counter()
     for buffer in buffers:
         code = buffer[6:10]

@@ -23,16 +23,16 @@ MEMORY = Ending(3, error=b"tpmsim_lists: memory\n")
 STARVED, SUCCESS = machine.STARVED.hex(), bytes(4).hex()
 CODE = slice(12, 20)
 
-# The commands that may get the response MEMORY, and the script, which has all commands. Each of the
-# commands in GROWING adds to a list. The script sends it each time its list must allocate.
+# The commands that may get the response MEMORY, because they add to a list; and the script, which
+# has all commands. It sends each command of GROWING whenever that command's list must allocate.
 GROWING = {CC.StartAuthSession, CC.CreatePrimary, CC.Load, CC.NV_DefineSpace, CC.EvictControl}
 SCRIPT = (HERE / "growing.tpm").read_bytes()
 LINES = SCRIPT.splitlines()
 
 
 def printed(starved=()):
-    """Returns the responses of a Python device in which the commands with these numbers get no
-    memory.
+    """Returns the responses of a Python device in which the commands with the numbers `starved` get
+    no memory.
     """
     player = Player(starved=starved)
     told = [player.play(line) for line in LINES]
@@ -40,7 +40,7 @@ def printed(starved=()):
 
 
 class Script:
-    """The script and its commands. It counts how often each command got MEMORY when one allocation
+    """The script and its commands. Counts how often each command got MEMORY because an allocation
     failed.
     """
 

@@ -3,8 +3,8 @@
     python3 logged.py PROGRAM COUNT
     python3 logged.py PROGRAM --full FOLDER
 
-The responses that a caller received must be those that `tpmsim run` prints for the first image and
-the log, and those in the explanation of the log. The first form tests sessions, indices, a lockout
+The responses that a caller received must agree with the output of `tpmsim run` for the first image
+and the log, and with the explanation of the log. The first form tests sessions, indices, a lockout
 and restarts; a log that is cut; and COUNT kills. The second form tests a log in a folder on a disk
 that gets full.
 """
@@ -104,8 +104,8 @@ def draw(tpm):
 
 
 def count_on(tpm, *others):
-    """Starts the device. Then repeats the other uses and increments the counter, until the device
-    ends.
+    """Starts the device. Then calls `others` and increments the counter again and again, until the
+    device ends.
     """
     with contextlib.suppress(DeviceEnded):
         tpm.start_up()
@@ -116,7 +116,9 @@ def count_on(tpm, *others):
 
 
 def answered(*parts):
-    """Returns all responses of consecutive connections, one for each part."""
+    """Calls each part with the caller of a new connection, one after another. Returns all
+    responses.
+    """
     responses = []
     for part in parts:
         connected("socket").close()
@@ -139,7 +141,7 @@ def check_uses(program, *options):
 
 
 def check_cut(run, responses, chance):
-    """If a log is cut at any offset, its entries before the cut stay valid."""
+    """If a log is truncated at any offset, its entries before that offset stay valid."""
     text = run.log.read_bytes()
     lines = text.splitlines(keepends=True)
     ends = [

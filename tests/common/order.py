@@ -1,5 +1,5 @@
-"""A caller for scripts about the order of refusals. Each command starts with many faults. They are
-repaired one by one, and the response must always report the first remaining fault.
+"""A caller for scripts about the order of refusals. A command is first sent with many faults, which
+are then repaired one by one. Each response must report the first remaining fault.
 """
 
 from collections.abc import Sequence
@@ -22,8 +22,8 @@ class OrderTeller(Teller):
         both: str = "BAD_AUTH/s1",
     ) -> None:
         """Sends commands with faults in the authorization area, in the entries, and in their HMACs.
-        `cut` are truncated parameters. No password can authorize the index `closed`. `both` is the
-        outcome if two entries are wrong.
+        All of them have the truncated parameters `cut`. No password can authorize the index
+        `closed`. `both` is the outcome if two entries are wrong.
         """
         text, last = b"".join(number(it, 4) for it in handles), len(uses)
         if code.authorized:
@@ -45,8 +45,9 @@ class OrderTeller(Teller):
     def in_order(
         self, code: CC, uses: Sequence[Means], *cases: tuple[str, str, Sequence[int], bytes]
     ) -> None:
-        """Sends a command with each remaining fault. A case has its description, outcome, handles
-        and parameters. The authorization value of the first handle authorizes the command.
+        """Sends a command several times, with fewer faults each time. A case has a description, an
+        outcome, handles and parameters. The authorization value of the first handle authorizes the
+        command.
         """
         for what, outcome, handles, parameters in cases:
             by_value = self.auth_value(handles[0])

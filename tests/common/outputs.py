@@ -13,7 +13,7 @@ RANDOM_BYTES = 256
 
 
 def repeated(random: bytes) -> bytes:
-    """Returns the random bytes of a command: those of its `entropy` line, repeated."""
+    """Returns the random bytes of a command: the bytes of its `entropy` line, repeated."""
     return (random * RANDOM_BYTES)[:RANDOM_BYTES]
 
 

@@ -15,8 +15,8 @@ EXAMPLES = TOP / "examples"
 
 
 def of_tests() -> list[pathlib.Path]:
-    """Returns the scripts in the folders of tests/, sorted by name. Those of tests/common are left
-    out, because they are parts of tests.
+    """Returns the scripts in the folders of tests/, sorted by name. Omits tests/common, whose
+    scripts are parts of tests.
     """
     found = (it for it in TESTS.glob("*/*.tpm") if it.parent.name != "common")
     return sorted(found, key=lambda it: it.name)
@@ -37,7 +37,7 @@ def folder_of_made() -> pathlib.Path:
 
 
 def stored() -> list[pathlib.Path]:
-    """Returns the scripts in the repository: those of tests/, and then the examples."""
+    """Returns the scripts in the repository: first the scripts of tests/, and then the examples."""
     return [*of_tests(), *sorted(EXAMPLES.glob("*.tpm"))]
 
 

@@ -1,5 +1,5 @@
-"""A caller that compares its device with the device's history. The accepted commands determine the
-state of each policy session.
+"""A caller for policy sessions. It compares the state of its device with the state that the
+accepted commands determine.
 """
 
 from typing import Any, Callable, Sequence
@@ -25,12 +25,14 @@ class PolicyTeller(Teller):
         self.script.device.tell = self.history.add
 
     def digest_of(self, session: Session) -> bytes:
-        """Returns the policy digest that the assertions accepted in a session produce."""
+        """Returns the policy digest that results from the assertions that a session has accepted.
+        """
         return self.history.sessions.live[session.handle].policy.digest
 
     def digest_is(self, what: str, session: Session, wanted: bytes | None = None) -> None:
-        """Reads the policy digest with TPM2_PolicyGetDigest, and compares it with the accepted
-        assertions. If `wanted` is passed, the digest must also be equal to it.
+        """Reads the policy digest with TPM2_PolicyGetDigest, and compares it with the digest that
+        the accepted assertions determine. If `wanted` is passed, the digest must also be equal to
+        it.
         """
         told = self.digest_of(session)
         assert wanted in (None, told), what
@@ -48,7 +50,7 @@ class PolicyTeller(Teller):
         """Sends a policy command with each of these parameter encodings, valid or not."""
         self.says(words, *(self.told(code, session, it) for it in texts))
 
-    # Commands with HMACs that are computed from another key or from other nonces.
+    # Commands whose HMACs are computed with a different key or with different nonces.
 
     def with_key(self, key: bytes, prepare: Callable[..., Prepared], *those: Any) -> Prepared:
         with self.breaking(key=lambda *_: key):

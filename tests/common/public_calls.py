@@ -1,9 +1,9 @@
-"""Compares the requested public functions with the crates, and with docs/DECISIONS.md:
+"""Compares a list of requested public functions with the crates, and with docs/DECISIONS.md:
 
     python3 tests/common/public_calls.py ASKED PAGE FOLDER
 
 ASKED lists the requested items. PAGE has tables of the differences between that list and the crates
-in FOLDER. Each requested item must exist in its crate under its name, unless PAGE names a
+in FOLDER. Each requested item must exist in its crate by that name, unless PAGE names a
 replacement, which must exist. Each difference that PAGE lists must be real. The program prints a
 line for each fault. The status is 1 if there is one.
 """
@@ -29,8 +29,8 @@ TABLE = re.compile(r"^\|(.+)\|\n\|[-|]+\|\n((?:\|.*\|\n)*)", re.M)
 
 @dataclass
 class Asked:
-    """The request: crates with their limits of lines, functions with their types if known, and
-    enums with their variants.
+    """The requested items: crates with their maximum numbers of lines, functions with their types
+    if known, and enums with their variants.
     """
 
     limits: dict[str, int] = field(default_factory=dict)
@@ -43,7 +43,7 @@ class Asked:
 
 
 def read_asked(text: str) -> Asked:
-    """Reads the list, whose lines begin with `lines`, `call` or `type`."""
+    """Reads the list of requested items, whose lines begin with `lines`, `call` or `type`."""
     asked = Asked()
     for line in text.splitlines():
         if not line or line.startswith("#"):
@@ -85,8 +85,8 @@ def names_in(cell: str) -> list[str]:
 
 
 class Comparison:
-    """Compares the request, the crates and the page. Methods such as `names` yield differences of
-    one kind.
+    """Compares the requested items, the crates and the page. Each method such as `names` yields the
+    differences of one kind.
     """
 
     def __init__(self, asked: Asked, page: str, crates: Crates) -> None:
@@ -115,7 +115,7 @@ class Comparison:
 
     def calls_in(self, cell: str) -> list[str]:
         """Returns the present names of the functions that a cell names. If the cell names only
-        crates, these are all their requested functions.
+        crates, returns the names of all requested functions of those crates.
         """
         if set(SPAN.findall(cell)) <= set(self.asked.limits):
             calls = [call for crate in SPAN.findall(cell) for call in self.asked.calls_of(crate)]
@@ -129,7 +129,7 @@ class Comparison:
         return found.call if found else None
 
     def names(self) -> Iterator[str]:
-        """Yields the names in the request or on the page that the crates lack."""
+        """Yields each name that is in the request or on the page, but not in the crates."""
         for name in [*self.asked.calls, *self.asked.types]:
             if not self.crates.find(self.standing(name)):
                 yield f"{name}: neither as asked for nor by the page"
@@ -188,8 +188,8 @@ class Comparison:
             yield f"{name}: the page says its cases, and it was not asked for"
 
     def premises(self) -> Iterator[str]:
-        """Yields the `requires` clauses of functions that the page lacks, and those on the page
-        that do not exist.
+        """Yields each `requires` clause of a function that the page does not list, and each clause
+        on the page that no function has.
         """
         told: dict[str, list[str]] = {}
         for row in self.rows(PREMISES):

@@ -22,13 +22,13 @@ FOLDER, KEPT, TEXT, NEVER = (
 WORDS = ["restore", str(FOLDER), str(TEXT)]
 AT_MOST_SECONDS = 30
 
-# The number of the completing layer's start in a state text: its offset from the end, and its size.
-# Then the size of the digest at the end.
+# The number that identifies the start of the completing layer, in a state text: its offset from the
+# end of the text, and its size. Then the size of the digest at the end.
 START_AT, START_BYTES, DIGEST_BYTES = -176, 8, 32
 
 
 def device(program: str, folder: pathlib.Path, script: bytes) -> bytes:
-    """Returns the state text of a device after a script, which runs in a folder."""
+    """Runs a script on the device in a folder, and returns the device's state text."""
     play = ran(program, "run", "--state", str(folder), "-", stdin=script)
     if play.status != 0:
         fail(f"{folder} was not played on: {play}")
@@ -44,9 +44,9 @@ def snapshot(program: str, folder: pathlib.Path) -> bytes:
 
 
 def is_other(found: bytes, wanted: bytes) -> bool:
-    """Returns whether two state texts are of different devices. The number of the completing
-    layer's start is new in each restored device. Therefore it is ignored, like the digest at the
-    end.
+    """Returns whether two state texts are of different devices. The number that identifies the
+    start of the completing layer is ignored, because it is new in each restored device. The digest
+    at the end is ignored too.
     """
     parts = (slice(START_AT), slice(START_AT + START_BYTES, -DIGEST_BYTES))
     return any(found[part] != wanted[part] for part in parts)
@@ -79,7 +79,7 @@ def killed(program: Tears, at: int) -> bool:
 
 
 def failed(program: Tears, at: int) -> Ending:
-    """Returns how a run ends if its call number `at` fails."""
+    """Returns the result of a run in which call number `at` fails."""
     return ended(program.begun(WORDS, at=at, error=errno.EIO))
 
 
@@ -104,7 +104,7 @@ def kills(program: Tears, old: bytes, new: bytes) -> None:
 
 
 def failures(program: Tears, old: bytes, new: bytes) -> None:
-    """Makes each call of a run fail, with an old device in the folder."""
+    """Repeats a run in a folder with an old device, and makes a different call fail each time."""
     at, told = 0, set()
     while True:
         at += 1
@@ -122,7 +122,7 @@ def failures(program: Tears, old: bytes, new: bytes) -> None:
 
 
 def main() -> None:
-    """Runs all these tests in the current folder."""
+    """Runs all tests in the current folder."""
     (path,) = sys.argv[1:]
     program = Tears(path)
     old = device(path, KEPT, b"do Startup 0\ndo GetRandom 4\n")

@@ -18,7 +18,7 @@ COLUMNS = 100
 # differ.
 SEED_BYTES = 7
 
-# The ends of a script's first comment. They follow the name of the script's program.
+# The two endings of a script's first comment. One of them follows the name of the script's program.
 WROTE_THIS, MADE_THIS = ", next to it, wrote this.", " made this."
 
 # The outcome in a description. It comes after a colon, and before a comma or the end.
@@ -132,8 +132,8 @@ class Script:
 
     def allow_tries(self) -> None:
         """Sets the dictionary attack parameters, for scripts that send wrong authorization values
-        for other reasons than to test that protection. Otherwise the device would refuse even right
-        values after the third wrong one.
+        without testing that protection. Otherwise the device would refuse even right values after
+        the third wrong one.
         """
         self.command(
             "TPM2_DictionaryAttackParameters: maxTries and recoveryTime are 1,000, lockoutRecovery "

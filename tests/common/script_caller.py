@@ -17,7 +17,7 @@ from tests.common.script import Script, SUCCESS
 HASHES = ((SHA1, "SHA-1"), (SHA256, "SHA-256"))
 KINDS = ((SE_POLICY, "policy"), (SE_TRIAL, "trial"))
 
-# The first indices that most scripts use.
+# The first four NV indices of most scripts.
 FIRST, SECOND, THIRD, FOURTH = range(0x0100_0001, 0x0100_0005)
 
 
@@ -61,7 +61,9 @@ class ScriptCaller(PreparedCommands):
         return any(isinstance(it, Use) for it in prepared.uses)
 
     def fails(self, words: str, *prepared: Prepared) -> None:
-        """Sends commands. If a session has an entry, the script first sets new random bytes."""
+        """Sends commands. If an entry of a command is for a session, the script first sets new
+        random bytes.
+        """
         buffers = [it.buffer() for it in prepared]
         self.script.command(words, *buffers, fresh=any(map(self.draws, prepared)))
 
@@ -77,8 +79,8 @@ class ScriptCaller(PreparedCommands):
         return self.received(prepared, self.script.command(words, prepared.buffer(), fresh=fresh))
 
     def does(self, what: str, prepared: Prepared) -> bytes:
-        """Sends a command that must be accepted. If a session has an entry, the script first sets
-        new random bytes. Returns the response's parameters.
+        """Sends a command that must be accepted. If one of its entries is for a session, the script
+        first sets new random bytes. Returns the response's parameters.
         """
         return self.accepted(what, prepared, self.draws(prepared))[1]
 
@@ -131,8 +133,8 @@ class ScriptCaller(PreparedCommands):
     # Commands for objects.
 
     def creation_answer(self, response: Response) -> Public:
-        """Returns the public area in a response. Checks that the response's creation hash is that
-        of its creation data.
+        """Returns the public area in a response. Checks the creation hash in the response against
+        its creation data.
         """
         public, ticket = Public.read(response["outPublic"]), response["creationTicket"]
         self.creation_data = response["creationData"]
@@ -235,7 +237,7 @@ class ScriptCaller(PreparedCommands):
         public = self.read_index_public(what, index, *uses)
         assert public == wanted, f"{what}: {public.attributes:08x}"
 
-    # Commands for state that the device keeps without power.
+    # Commands that change the state that the device keeps without power.
 
     def start_up(self, what: str, kind: int = CLEAR) -> None:
         """Sends TPM2_Startup. With CLEAR, the platform's authorization value becomes empty."""

@@ -30,8 +30,8 @@ OTHERS = (
 FOREVER = 1_000_000_000
 CALLS = pathlib.Path("calls")
 
-# The data that is exchanged with turns.h: before a run its two numbers, and after it its status and
-# its mark.
+# The data that is exchanged with turns.h: before a run its two numbers, and after the run its
+# status, and whether the shim has marked it.
 TURN, REPORT = struct.Struct("ll"), struct.Struct("ii")
 
 
@@ -119,8 +119,8 @@ class Shim:
         subprocess.run(words, check=True)
 
     def check_calls(self, others):
-        """Checks that the program calls none of these functions, which do the same as those of the
-        shim. Returns the functions that it calls.
+        """Checks that the program calls none of the functions `others`, which do the same as the
+        functions that the shim replaces. Returns the functions that it calls.
         """
         words = ["nm", "-D", "--undefined-only", self.program]
         told = subprocess.run(words, check=True, capture_output=True, text=True).stdout
@@ -235,7 +235,7 @@ class Refusals(Shim):
             fail("the program does not get its memory by malloc")
 
     def whole(self, words, stdin=b""):
-        """Returns how the program ends if no allocation fails."""
+        """Returns the result of a run in which no allocation fails."""
         with Turns(self, words) as turns:
             return turns.run(stdin=stdin)
 
@@ -273,8 +273,8 @@ class Refusals(Shim):
         return turn
 
     def check(self, label, words, whole, memory, stdin=b"", needed=FOREVER, explains=False):
-        """Does the same as `compare` for the ending of a run. If no allocation fails, it must be
-        `whole`.
+        """Like `compare`, but for how a run ends. If no allocation fails, it must end as `whole`
+        says.
         """
         with Turns(self, words) as turns:
             run = functools.partial(turns.run, stdin=stdin)

@@ -32,7 +32,7 @@ SENT = bytes.fromhex(
 )
 ROOM = Room("served")
 
-# Results are cached, because most runs do not change the image.
+# Results are cached, because most runs do not change the image file.
 image_told = functools.cache(streams.image_told)
 
 
@@ -77,7 +77,9 @@ def check_words(program):
 
 @dataclass(frozen=True)
 class Service:
-    """The result of a run that serves: its ending, its responses, and the files in its folder."""
+    """The result of a run that serves clients: how it ends, its responses, and the files in its
+    folder.
+    """
 
     ending: Ending
     answers: bytes

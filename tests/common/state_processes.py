@@ -1,4 +1,4 @@
-"""Runs several processes on one kept device at once, and kills some of them:
+"""Runs several processes at once on one device that is kept in a folder, and kills some of them:
 
     python3 state_processes.py PROGRAM
 
@@ -74,7 +74,7 @@ def killed(program: str, times: int) -> None:
 
 
 def main() -> None:
-    """Runs all these tests in the current folder."""
+    """Runs all tests in the current folder."""
     (program,) = sys.argv[1:]
     print(answers(begun(program, "do Startup 0\n"))[0])
     together(program, 4, 25)

@@ -1,4 +1,4 @@
-"""A caller with the steps that many scripts need, and the values in these steps."""
+"""A caller with the steps that many scripts need, and the values that these steps use."""
 
 import contextlib
 import functools
@@ -62,8 +62,8 @@ def aes_key(
 
 
 class Steps(Teller):
-    """A caller whose methods send the commands of common steps. The outcome of a step is in its
-    description, or else follows from the method's name.
+    """A caller whose methods send the commands of common steps. The description of a step names its
+    outcome, unless the outcome follows from the method's name.
     """
 
     # Steps for commands that need an object.
@@ -86,7 +86,7 @@ class Steps(Teller):
         words = "It has to be authorized: no sessions (tag 8001): AUTH_MISSING"
         self.raw(words, command(code, number(handle, 4) + parameters))
 
-    # Steps for objects, sessions and indices that exist for a while.
+    # Steps for objects, sessions and indices that exist only for a while.
 
     def owned(self, what: str, public: Public, *uses: Means, **more: Any) -> int:
         """Makes a primary object of the owner's hierarchy, and returns its handle."""
@@ -135,28 +135,28 @@ class Steps(Teller):
     # Steps for policies that demand the authorization value.
 
     def by_value(self, session: Session, attributes: int = CONTINUE_SESSION) -> Use:
-        """Sends TPM2_PolicyAuthValue. Returns the use of the session with the authorization value,
-        as its policy then demands.
+        """Sends TPM2_PolicyAuthValue. Returns the use of the session with the authorization value
+        in the HMAC's key, which the policy then demands.
         """
         self.does("TPM2_PolicyAuthValue", self.auth_value_told(session))
         return with_value(session, attributes)
 
     def by_password(self, session: Session, attributes: int = CONTINUE_SESSION) -> Use:
-        """Sends TPM2_PolicyPassword. Returns the use of the session with a password, as its policy
-        then demands.
+        """Sends TPM2_PolicyPassword. Returns the use of the session with a password, which the
+        policy then demands.
         """
         self.does("TPM2_PolicyPassword", self.password_told(session))
         return in_plain(session, attributes)
 
     def encrypts_nothing(self, prepare: Callable[[], Prepared]) -> None:
-        """Sends a command with a session that could decrypt or encrypt, although the command has
-        nothing that can be encrypted.
+        """Sends a command with a session that could decrypt or encrypt, although neither the
+        command nor its response has a parameter that can be encrypted.
         """
         for attribute, words in ((DECRYPT, "decrypted"), (ENCRYPT, "encrypted")):
             bent = prepare().but_entry(1, attributes=CONTINUE_SESSION | attribute)
             self.refused(f"Nothing can be {words}: ATTRIBUTES/s1", bent)
 
-    # Steps for state that the device keeps without power.
+    # Steps for the state that the device keeps without power.
 
     def saves(self) -> None:
         self.does("TPM2_Shutdown(STATE)", self.shutting_down(STATE))

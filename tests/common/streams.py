@@ -18,10 +18,11 @@ from tpmsim.model.machine import Model, Outcome
 from tpmsim.standard import CC, COMMAND_BYTES, frames, HEADER_BYTES
 from tests.common.outputs import RANDOM_BYTES, repeated
 
-# The offset in a command at which its commandSize ends.
+# The offset of the end of commandSize in a command.
 SIZE_END = 6
 
-# The size of a response to TPM2_ReadClock, and the host's time in it, which is not compared.
+# The size of a response to TPM2_ReadClock, and the position of the host's time in it, which is not
+# compared.
 CLOCK_ANSWER_BYTES, TIMES = 35, slice(10, 26)
 
 
@@ -49,9 +50,9 @@ def without_clock(device: Model) -> bytes:
 
 
 class Connection:
-    """The bytes that a connection sends, in pieces of one size. It also stores the bytes that are
-    not yet a complete command, and the commands so far. Each command has the number of the line
-    that completes it, and its response.
+    """The bytes that a connection sends, in pieces of one size. Also stores the bytes that are not
+    yet a complete command, and the commands so far. Each command has the number of the line that
+    completes it, and its response.
     """
 
     def __init__(self, piece: int) -> None:
@@ -59,8 +60,8 @@ class Connection:
         self.answered: list[tuple[int, bytes, bytes]] = []
 
     def send(self, data: bytes) -> Iterator[bytes]:
-        """Yields the commands that these bytes complete. A size field that no command can have ends
-        the last command, which consists of the bytes up to the end of that field.
+        """Yields the commands that these bytes complete. If a size field is invalid, the bytes up
+        to its end are the last command of the connection.
         """
         self.sent += data
         self.left += data
@@ -93,9 +94,9 @@ def device_told(device: Model) -> str:
 
 @dataclass
 class Run:
-    """A run. `number` is the number of its line. `is_given` is true if a line contained the image
-    before the run; otherwise the previous run left it. The run is over if random bytes are missing,
-    or if its file is not an image.
+    """A run of the program. `number` is the number of the line that begins it. `is_given` is true
+    if a line contained the image before the run; otherwise the previous run left it. The run is
+    over if random bytes are missing, or if its file is not an image.
     """
 
     number: int
@@ -114,8 +115,8 @@ class Run:
 
 
 class Served:
-    """The device in all its runs, and the contents of its image file, according to the lines. A
-    line that makes no sense at its position is ignored.
+    """The device in all runs that the lines describe, and the contents of its image file. A line
+    that makes no sense at its position is ignored.
     """
 
     def __init__(self) -> None:

@@ -66,7 +66,8 @@ class Teller(ScriptCaller):
 
     def comes_to(self, words: str, prepared: Prepared) -> bytes:
         """Sends a command with the outcome that `words` names. Returns the decrypted parameters of
-        its response, if any. If a session has an entry, the script first sets new random bytes.
+        its response, if any. If one of its entries is for a session, the script first sets new
+        random bytes.
         """
         named = [it[1] for it in OUTCOME.finditer(words) if it[1] in frames.CODES]
         if not named:

@@ -48,15 +48,15 @@ OTHERS = (
     " sendfile sendmsg sendto shutdown splice stat sync unlinkat writev"
 ).split()
 
-# Further results of a call that fails.
+# Further results of a call that fails, as they are printed.
 NONE, ALONE = "", ", that connection alone ends"
 OLD, NEW = ", the old image stays", ", the new image is there"
 
 
 @dataclass(frozen=True)
 class End:
-    """The result of a call that fails: the ending of the run, the files that the run leaves, and
-    further results.
+    """The result of a call that fails: how the run ends, the files that it leaves, and further
+    results.
     """
 
     ending: Ending
@@ -160,7 +160,8 @@ class Service:
 
     @property
     def told(self):
-        """Returns the same result, but with a description of the image, for comparison."""
+        """Returns this result with a description of the image instead of its bytes, for comparison.
+        """
         return replace(self, image=image_told(self.image))
 
 
@@ -187,7 +188,7 @@ def talked(process, buffers):
 
 
 def served(program, text, at=0, error=0):
-    """Runs the program with or without an image. Call number `at` fails."""
+    """Runs the program, with or without an image, and makes call number `at` fail."""
     ROOM.furnish(text, b"".join(map(random_of, range(0 if text is None else 1, COMMANDS + 1))))
     process = program.begun([*SERVE, str(len(SENT))], ROOM.path, at, error)
     answers = [talked(process, buffers) for buffers in SENT]
@@ -223,8 +224,8 @@ IN_CONNECTION = {"recv connection", "send connection", "read entropy", "clock_ge
 
 @dataclass(frozen=True)
 class Tear:
-    """A call that fails, and its result. Also the number of connections that were accepted before,
-    and the number of responses that were sent to the last of these.
+    """A call that fails, and its result; the number of connections that were accepted before the
+    call; and the number of responses that were sent to the last of these connections.
     """
 
     call: str
@@ -267,8 +268,8 @@ class Tear:
 
 
 def check_next(program, label, torn):
-    """Checks that the next run opens the image that a torn run left, and removes the other files of
-    that run.
+    """Checks that the next run opens the image that an interrupted run left, and removes the other
+    files of that run.
     """
     process = program.begun([*SERVE, "1"], ROOM.path)
     talked(process, [])
@@ -293,7 +294,9 @@ def check_torn(program, label, text, calls, at):
 
 
 def check_service(program, label, text):
-    """Makes each call fail in a run that serves, with or without an image."""
+    """Repeats a run that serves clients, with or without an image, and makes a different call fail
+    each time.
+    """
     model, whole = Model(text), served(program, text).told
     calls = program.noted()
     if whole != Service(WELL, [model.answers(it) for it in SENT], model.image, ()):
@@ -312,8 +315,8 @@ def check_service(program, label, text):
 
 
 def check_words(program, label, words, stdin=b""):
-    """Makes each call fail in a run that only reads and prints. The run must end with `tpmsim:
-    file`, after it has printed a prefix of its usual output.
+    """Repeats a run that only reads and prints, and makes a different call fail each time. Each run
+    must end with `tpmsim: file`, after it has printed a prefix of its usual output.
     """
 
     def run(at=0, error=0):

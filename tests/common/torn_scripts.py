@@ -57,7 +57,7 @@ class Model:
 
     def allows(self, told, saved):
         """Returns whether an image has the effects of the commands that the first `told` responses
-        answer. It may also have the effect of the next line.
+        answer. The image may also have the effect of the next line.
         """
         return saved in self.images[told] or saved in self.images[min(told + 1, len(self.answers))]
 
@@ -88,7 +88,7 @@ def answers_to(process):
 
 
 def ran(program, text, at=0, error=0):
-    """Runs the program with or without an image. Call number `at` fails."""
+    """Runs the program, with or without an image, and makes call number `at` fail."""
     ROOM.furnish(text, RANDOM)
     process = program.begun(RUN, ROOM.path, at, error)
     answers = list(answers_to(process))
@@ -100,7 +100,7 @@ def fault_of(call):
 
 
 def check(program, label, text):
-    """Makes each call of a run fail, with or without an image."""
+    """Repeats a run with or without an image, and makes a different call fail each time."""
     model = Model(text)
     whole = ran(program, text)
     calls = program.noted()

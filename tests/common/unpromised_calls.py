@@ -5,8 +5,8 @@ docs/THEOREMS.md:
 
 FOLDER contains the crates. The list is the table after the words "These public functions promise
 nothing". Each row names a crate, the files of its src/ that contain public functions without
-`ensures` clauses, and the reason. Each difference has a line, and the last line counts the
-functions. Then the test removes one file from the list, and adds another; the comparison must find
+`ensures` clauses, and the reason. The test prints a line for each difference, and then the number
+of functions. Then it removes one file from the list, and adds a wrong one; the comparison must find
 both mistakes. The status is 1 if there is a difference, or if a mistake is not found.
 """
 
@@ -62,7 +62,7 @@ def listed(document: str) -> dict[str, set[str]]:
 
 
 def differences(found: Found, rows: dict[str, set[str]]) -> list[str]:
-    """Describes the files that the list lacks, and those that should not be in it."""
+    """Describes the files that are missing from the list, and those that should not be in it."""
     faults = []
     for crate in sorted({*found, *rows}):
         files, named = found.get(crate, {}), rows.get(crate, set())

@@ -1,4 +1,4 @@
-"""The names that most programs of scripts use."""
+"""Names that are used by most programs that write scripts."""
 
 from tpmsim.caller import area, bits, BY_OWNER, BY_PLATFORM, BY_POLICY, BY_VALUE, CLEAR, counter
 from tpmsim.caller import extended, flipped, HERE, hmac_key, OPEN, sealed, STATE, storage_key
@@ -14,8 +14,8 @@ from tpmsim.standard.policy import AUTH_VALUE, PASSWORD
 from tests.common.script_caller import FIRST, FOURTH, HASHES, is_trial, SECOND, THIRD, zeros
 from tests.common.teller import others_in, Teller, wrong_in
 
-# Attributes of entries: of a session that continues and decrypts, of one that continues and
-# encrypts, and of one that ends.
+# Attributes in entries for sessions: a session that continues and decrypts, one that continues and
+# encrypts, and one that ends.
 DECRYPTS, ENCRYPTS, ENDS = CONTINUE_SESSION | DECRYPT, CONTINUE_SESSION | ENCRYPT, 0
 
 LOCKS = NvAttribute.WRITE_STCLEAR | NvAttribute.READ_STCLEAR

@@ -2,8 +2,8 @@
 in which one of these numbers is increased or decreased by one.
 
 Sizes and counts follow from the form of a command: its handles, its entries, and the kinds of its
-parameters, as in lines.py. Therefore a new command needs an entry here only if one of its sized
-buffers contains a structure.
+parameters, as in lines.py. Therefore a new command needs an entry in STRUCTURES only if one of its
+sized buffers contains a structure.
 """
 
 from typing import NamedTuple
@@ -45,8 +45,8 @@ class Walk:
         return self.number(size)
 
     def sized(self, name, inside=None):
-        """Reads a sized buffer. If `inside` is passed, it reads the content, at least up to the
-        last size in it.
+        """Reads a sized buffer. If `inside` is passed, it is called to read the content, at least
+        up to the last size in it.
         """
         size = self.found_number(f"the size of {name}", 2)
         end = self.at + size
@@ -158,8 +158,8 @@ def numbers(buffer):
 
 
 def changed(buffer, it, by):
-    """Returns the buffer with a number changed by `by`. If 0 is decreased, it becomes the largest
-    number of its size.
+    """Returns the buffer with a number changed by `by`. Zero minus one becomes the largest number
+    of the same size.
     """
     end = it.at + it.size
     value = int.from_bytes(buffer[it.at : end], "big") + by

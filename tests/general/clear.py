@@ -21,7 +21,7 @@ says = tpm.raw
 
 
 def listed(what, wanted, *handles):
-    """Checks the handles of a kind that TPM2_GetCapability lists."""
+    """Checks which handles of a kind TPM2_GetCapability lists."""
     tpm.lists(what, HANDLES, wanted, 64, handles)
 
 

@@ -31,14 +31,18 @@ def refused(what: str, outcome: str, tries: int, *buffers: bytes) -> None:
 
 
 def refused_alone(what: str, outcome: str, tries: int, buffer: bytes) -> None:
-    """Does the same as `refused` for one buffer. A failed try that counts is then reset."""
+    """Like `refused`, but for one buffer. If the buffer counts as a failed try, the number of
+    failed tries is then reset.
+    """
     refused(what, outcome, tries, buffer)
     if tries:
         tpm.unlocks()
 
 
 def cuts_of(prepared: Prepared) -> Iterator[tuple[str, bytes]]:
-    """Yields the command with its parameters cut to each shorter length, after a description."""
+    """Yields the command with its parameters truncated to each shorter length, after its
+    description.
+    """
     whole, count = prepared.buffer(), len(prepared.parameters)
     for left in range(count):
         yield f"Cut to {left} of {count} bytes", with_size(whole[: len(whole) - count + left])
@@ -63,9 +67,7 @@ def cut(name: str, prepared: Prepared, outcome: str = "AUTH_FAIL/s1", tries: int
 
 
 def by_each_command(session: Session, told: Session, key: int) -> None:
-    """Sends other commands to a protected index or object, authorized with a session that is not
-    bound.
-    """
+    """Sends other commands on a protected index or object, authorized with an unbound session."""
     cut("TPM2_NV_Read", tpm.reading(FIRST, 3, session, offset=2))
     cut("TPM2_NV_SetBits", tpm.setting(SECOND, 5, session))
     cut("TPM2_NV_Extend", tpm.extending(THIRD, DATA, session))
@@ -75,7 +77,7 @@ def by_each_command(session: Session, told: Session, key: int) -> None:
 
 
 def beside(session: Session, bound: Session) -> None:
-    """Uses a session that is bound to the index in entries that do not authorize the index."""
+    """Uses a session that is bound to the index, in entries that do not authorize the index."""
     cut("TPM2_PCR_Event of PCR 16, which the bound session authorizes", tpm.event(DATA, bound))
     case = "TPM2_PCR_Event that a password authorizes, with the bound session after it"
     cut(case, tpm.event(DATA, b"", bound), "AUTH_FAIL/s2")
@@ -130,7 +132,8 @@ as_it_was = (whole[:length] for length in range(len(whole)))
 refused("With the old commandSize", "COMMAND_SIZE", NO_TRY, *as_it_was)
 comes_whole(prepared)
 
-# The entry is right for the remaining parameters. Therefore the parameters themselves are refused.
+# The entry is right for the truncated parameters. Therefore the command is refused only because
+# parameters are missing.
 whole = frames.nv_write(DATA, 2)
 in_data = range(len(sized(DATA)))
 for words, use in (
@@ -168,7 +171,7 @@ tpm.restarts(told)
 by_each_command(unbound, told, key)
 beside(unbound, bound)
 
-# The same cuts for entities without dictionary attack protection.
+# Truncated commands on entities without dictionary attack protection.
 case = "TPM2_NV_Write of the index with TPMA_NV_NO_DA"
 cut(case, tpm.writing(FOURTH, DATA, unbound), "BAD_AUTH/s1", NO_TRY)
 tpm('ownerAuth is "pin"').change_auth(RH_OWNER, PIN, b"")

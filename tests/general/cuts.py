@@ -1,6 +1,6 @@
 """Commands that are cut to every shorter length.
 
-If a cut buffer has the old commandSize, it is refused for its size. If it has the right
+If a cut buffer has the old commandSize, it is refused because of its size. If it has the right
 commandSize, it is refused because bytes are missing. The buffers are in rows, each with a
 description of the cuts and a response code.
 """
@@ -14,7 +14,8 @@ from tests.general.bends import pieces, Walk
 
 HEADER_BYTES = 10
 
-# Descriptions of a cut in a handle or parameter, if they do not use its name from Part 3.
+# Descriptions of a cut within these handles and parameters. For all others the description is
+# "within", followed by the name from Part 3.
 WORDS = {
     "digests": "within its digests",
     "eventData": "within its data",

@@ -11,7 +11,7 @@ change = tpm.change_auth
 
 
 def owners(parameters):
-    """Returns the command for TPM_RH_OWNER with these bytes as parameters, authorized with
+    """Returns a TPM2_HierarchyChangeAuth of TPM_RH_OWNER with these parameters, authorized with
     ownerAuth.
     """
     return tpm.prepare(CC.HierarchyChangeAuth, [RH_OWNER], parameters, b"owner")

@@ -39,8 +39,8 @@ def capabilities(kind: int, first: int, count: int = capability.MOST_ELEMENTS) -
 
 
 def at_pcrs() -> bytes:
-    """Returns a TPM2_PCR_Read of these PCRs in both banks. Its response contains the update
-    counter, which each change of a PCR increments.
+    """Returns a TPM2_PCR_Read of PCRS in both banks. Its response contains the update counter,
+    which each change of a PCR increments.
     """
     return command(CC.PCR_Read, frames.selection((SHA1, PCRS), (SHA256, PCRS)))
 
@@ -99,8 +99,8 @@ class LookingScript(Script):
         self.kind, self.seen, self.probe = HMAC_SESSION, dict[bytes, bytes](), self.device
 
     def look(self, what: str, looks: Iterable[bytes]) -> None:
-        """Sends commands that read the state. Since the last whole command, their responses must
-        not have changed.
+        """Sends commands that read the state. Their responses must be the same as after the last
+        unaltered command.
         """
         outcome = SUCCESS if self.device.started else "INITIALIZE"
         number = "" if outcome == SUCCESS else f" ({frames.code_of(outcome):03X})"
@@ -136,7 +136,7 @@ class LookingScript(Script):
                 self.refuses(example, list(refused_of(example)))
 
     def refuses(self, example: Example, rows: Sequence[Row]) -> None:
-        """Sends rows of buffers that must be refused, and then the whole command."""
+        """Sends rows of buffers that must be refused, and then the unaltered command."""
         if not rows:
             self.command(f"{example.name}: {example.outcome}", example.whole, as_bytes=True)
             return

@@ -16,7 +16,7 @@ tpm = Steps(__name__, __doc__)
 
 
 def extend(what):
-    """Extends each of the PCRs with its own number."""
+    """Extends each of the PCRs with an event, which is the PCR's number."""
     for locality, words in ((0, what), (2, "And 17 and 22, from locality 2")):
         tpm.locality_is(locality)
         for pcr in (it for it in PCRS if LOCALITY_OF.get(it, 0) == locality):

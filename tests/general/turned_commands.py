@@ -17,13 +17,13 @@ script = LookingScript(__name__, __doc__)
 
 
 def turned(whole: bytes) -> Iterator[bytes]:
-    """Yields buffers in which one byte has changed bits."""
+    """Yields copies of a command in which bits of one byte are flipped."""
     for at, it in itertools.product(range(len(whole)), BITS):
         yield whole[:at] + bytes([whole[at] ^ it]) + whole[at + 1 :]
 
 
 def rows(example: Example) -> Iterator[tuple[str, str, list[bytes]]]:
-    """Yields the buffers that are refused, in rows with the same outcome."""
+    """Yields the altered buffers that are refused, in rows with the same outcome."""
     if example.is_step:
         return
     told = ((script.outcome_now(it), it) for it in turned(example.whole))

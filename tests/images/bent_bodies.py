@@ -31,7 +31,9 @@ class Body:
 
 
 def within(fields):
-    """Returns all lists of fields in these fields. Outer lists come before inner ones."""
+    """Returns all lists of fields in `fields`, however deeply nested. Outer lists come before inner
+    ones.
+    """
     found = []
     add_lists(found, fields)
     return found
@@ -115,7 +117,7 @@ class Bender(random.Random):
         field.text = self.change_byte(field.text)
 
     def copy_field(self, fields):
-        """Copies the value of another field of the same size to a field."""
+        """Copies the value of one field to another field of the same size."""
         field = self.plain(fields)
         same = [it for it in self.all_of(fields, Plain) if len(it.text) == len(field.text)]
         field.text = self.one_of(same).text

@@ -1,5 +1,5 @@
-"""Bodies of images with one error, each with the most similar good body. Also good bodies with
-values that are not checked.
+"""Bodies of images with one error each, paired with the most similar good body. Also good bodies
+with values that are not checked.
 """
 
 import copy
@@ -327,7 +327,7 @@ def not_looked_at():
 
 
 def cases():
-    """Yields all cases. After each bad one comes the most similar good one."""
+    """Yields all cases. Each bad one is followed by the most similar good one."""
     yield from version_cases()
     yield from hierarchy_cases()
     yield from flag_cases()

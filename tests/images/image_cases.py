@@ -1,5 +1,5 @@
-"""Texts that are images or nearly images, with descriptions. Some contain only NV indices. Some are
-within the limits of their version, and some exceed them.
+"""Images and texts that are nearly images, with descriptions. Some contain only NV indices. Some
+are within the limits of their version, and some exceed them.
 """
 
 from dataclasses import dataclass
@@ -69,8 +69,8 @@ def without_state():
 
 
 def version_cases():
-    """Yields images with wrong limits between head and body, and images near the limits of version
-    1.
+    """Yields images of version 2 with wrong or missing limits, an image of version 1 with limits,
+    and images near the limits of version 1.
     """
     new = image(Model())
     old, body = image(Model(), VERSION_1), new[BODY_AT:-DIGEST_AT_END]

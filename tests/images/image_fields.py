@@ -1,8 +1,8 @@
 """Splits the image of a device into fields: fields with a size, fields with a count, and plain
 fields.
 
-The fields can be changed, and then written again with their correct sizes and counts, or with
-others.
+The fields can be changed, and then written again with their correct sizes and counts, or with wrong
+ones.
 """
 
 from dataclasses import dataclass
@@ -24,7 +24,7 @@ class Plain:
 
 @dataclass
 class Sized:
-    """Fields with their size before them."""
+    """Fields that are preceded by their total size."""
 
     fields: list
     size: int = None
@@ -37,7 +37,7 @@ class Sized:
 
 @dataclass
 class Counted:
-    """Groups of fields with their count before them."""
+    """Groups of fields that are preceded by the number of groups."""
 
     groups: list
     count: int = None

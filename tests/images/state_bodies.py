@@ -1,5 +1,5 @@
-"""Bodies of state texts with one error, each with the most similar good body. Also the largest
-body.
+"""Bodies of state texts with one error each, paired with the most similar good body. Also the
+largest body.
 """
 
 from dataclasses import replace

@@ -21,7 +21,7 @@ from tests.images import state_bodies, worked_state
 
 SCRIPTS = "objects", "policies", "sessions"
 
-# One in this many scripts is played, and one in this many bytes of a body is changed.
+# Only one in ONE_IN scripts is played, and only one in ONE_IN bytes of a body is changed.
 ONE_IN = 3
 
 
@@ -54,12 +54,12 @@ def play_all(tests):
 
 
 def worked():
-    """Checks that the state text of worked_state.py's device is the one in the file. That device
-    has something in each field. Each line of the file was compared by hand with
-    docs/table/state_text.md: its field is the next one of the page, and has the same size. Also
-    right are the sizes before sized fields; the numbers of types, algorithms, protection, demand
-    and localities; and the byte of each slot that says whether it is in use. The values that the
-    script sets (values, nonces, command, times, counts, the layer's numbers) are in their fields.
+    """Checks that the state text of worked_state.py's device is the one in the file. No field of
+    that device is empty. Each line of the file was compared by hand with docs/table/state_text.md:
+    it is the next field of that page, with the right size. Other numbers were also compared: the
+    sizes before sized fields; the numbers of types, algorithms, protection, demand and localities;
+    and the byte of each slot that says whether it is in use. The values that the script sets
+    (values, nonces, command, times, counts, the layer's numbers) are in their fields.
     """
     text = worked_state.text()
     print("the worked text is as it is written:", text == worked_state.written())
@@ -78,7 +78,7 @@ def version_1():
 
 
 def sizes():
-    """Prints the sizes that docs/table/state_text.md states."""
+    """Prints the sizes of state texts that docs/table/state_text.md states."""
     print(f"a new device has {len(state_text.state_text(Model())):,} bytes")
     most = state_text.state_text(*state_bodies.largest())
     same = state_text.state_text(*state_text.open_state(most)) == most

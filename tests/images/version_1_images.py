@@ -4,7 +4,7 @@
 
 The commands read the device's state, and use its secrets. The program's responses must be those of
 the Python device, and the image of version 2 that it saves afterwards must be the same too. For
-each image, the lines say what was tested. The last line is `N agree, M differ`.
+each image the test prints what it tested. The last line is `N agree, M differ`.
 """
 
 import collections
@@ -138,7 +138,9 @@ def restarted(tpm):
 
 
 def taken(text, commands):
-    """Yields the buffers of commands. Each is made for the device after the previous ones."""
+    """Yields the buffers of commands. Each is made for the state of the device after the previous
+    ones.
+    """
     device = image.open_image(text)
     for prepared in commands(Commands(device)):
         buffer = prepared.buffer()
@@ -148,7 +150,7 @@ def taken(text, commands):
 
 def executed(device, buffers, clock):
     """Returns the outcomes of commands on the Python device, with the times that passed for the
-    program. `clock` is the program's response to the last command, which is TPM2_ReadClock.
+    program. The last command is TPM2_ReadClock, and `clock` is the program's response to it.
     TPM2_Clear sets Clock to 0, so the time before TPM2_Clear is the difference of Time and Clock.
     The rest of the time passes before the last command.
     """
@@ -228,7 +230,7 @@ class Comparison:
         self.check(saved == image.image(device), f"{words}, it saves the same")
 
     def refused(self, fault, text, words):
-        """Checks that the program refuses a text that is not an image with this fault."""
+        """Checks that the program refuses a text with this fault, because it is not an image."""
         _, error, left = self.run(text, [], connections=0)
         holds = image.fault_of(text) == fault and error == f"tpmsim: image {fault}"
         self.check(holds and left == text, f"{words}: {fault}")
@@ -249,8 +251,8 @@ def damaged(text):
 
 
 def beyond_limits(text):
-    """Yields images of a full device that exceed the limits of version 1: by an index, or by a
-    byte.
+    """Yields images of a full device that exceed the limits of version 1, by one index or by one
+    byte of data.
     """
     device = image.open_image(text)
     device.indices[LAST_INDEX] = nv_commands.Index(area(LAST_INDEX, BY_OWNER, size=0), b"", b"")

@@ -1,5 +1,5 @@
 """The worked example of a state text, and its device. worked_state.txt lists the fields of the
-text. worked_state_1.txt lists those of a text of version 1 of the same device.
+text. worked_state_1.txt lists the fields of a text of version 1 for the same device.
 """
 
 import copy
@@ -76,6 +76,8 @@ def device_1():
 
 
 def written(fields=FIELDS):
-    """Returns the text in a file: the bytes before the first two blanks of each line."""
+    """Returns the text in a file: the bytes before the first double space of each line, without
+    comments.
+    """
     lines = fields.read_text("ascii").splitlines()
     return bytes.fromhex("".join(it.partition("  ")[0] for it in lines if it[:1] != "#"))

@@ -1,4 +1,5 @@
-"""Hosts of all kinds use one kept device at once, while some of them are killed at random moments:
+"""Hosts of all kinds use one device that is kept in a folder, while some of them are killed at
+random moments:
 
     python3 all_at_once.py PROGRAM HOSTS SHIM SECONDS PROCESSES SEED [fills]
 
@@ -29,8 +30,8 @@ FOLDER, FULL, CLONE_NEWPID, SECONDS_TO_END = "state", "full", 0x20000000, 60
 INTERRUPT_EACH, KILL_EACH = 0.0007, 0.02
 ASKED, DONE, OTHER, WRONG = b"a", b"d", b"o", b"w"
 
-# The kinds of hosts, which begin in turn. With an odd seed the power is cycled often; with an even
-# seed the journals grow.
+# The kinds of hosts, in the order in which processes begin, and the probabilities of a power cycle.
+# With an odd seed the power is cycled often; with an even seed the journals grow.
 KINDS = ((Module, Python, Run, Module, Python), (Module, Python, Run, Module, Python, Simulator))
 CYCLES = 0.0005, 0.02
 
@@ -95,7 +96,7 @@ class Worker:
 
     def asks(self, act: str) -> object:
         """Returns the answer to an operation. If the device is not started, starts it for the next
-        one.
+        operation.
         """
         answer = answer_of(act, does(self.host, act, FOLDER))
         if answer == INITIALIZE:

@@ -1,5 +1,5 @@
-"""A counter in a kept device. Computes its possible values after commands of which some were
-answered and some failed.
+"""Computes the possible values of a counter in a device that is kept in a folder, after commands of
+which some were answered and some failed.
 
 Operations are recorded as they happen: an operation with its answer, or several operations of which
 only the first few may have been done. They determine a set of possible states. An answer that is
@@ -80,7 +80,9 @@ class Counted:
         self.states = set(states)
 
     def answers(self, act: str, response: bytes) -> bool:
-        """Records that an operation was answered. Returns whether some state allows the answer."""
+        """Records that an operation was answered. Returns whether one of the possible states allows
+        the answer.
+        """
         told = answer_of(act, response)
         after = (outcome(state, act) for state in self.states if state.is_there or act == BEGIN)
         self.states = {state for state, answer in after if answer == told}

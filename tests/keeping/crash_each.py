@@ -1,4 +1,5 @@
-"""Simulates a crash of the host of a kept device after each change that it makes to its folder:
+"""Simulates crashes of the host of a device that is kept in a folder, after each change to the
+folder:
 
     python3 crash_each.py PROGRAM HOSTS SHIM SHARE [WORD]
 
@@ -9,7 +10,7 @@ followed by zeros. A name that was not synced may be lost, or may refer to an ea
 After each line of the log the test makes some folders as a crash may leave them, and another host
 opens them. With force=always each folder must contain the device that executed the answered
 operations, and perhaps the unanswered one. Otherwise it must contain one of the devices since the
-last power cycle. Only one in SHARE crashes is tested; with WORD, only those of hosts whose name
+last power cycle. Only one in SHARE crashes is tested; with WORD, only crashes of hosts whose name
 contains it.
 """
 
@@ -32,8 +33,8 @@ MOST_ZEROS, CHOICES = 5000, 3
 
 @dataclass
 class File:
-    """The content of a file, its earlier contents since it was synced, and the number of its first
-    bytes that are on the disk.
+    """The content of a file, its earlier contents since it was synced, and the size of its prefix
+    on the disk.
     """
 
     now: bytes = b""
@@ -80,7 +81,7 @@ class Disk:
         return name if folder == str(self.folder) else ""
 
     def hears(self, what: str, path: str, *rest: str) -> None:
-        """Applies a line of the log."""
+        """Applies the change that a line of the log describes."""
         if what == "mkdir" and path == str(self.folder):
             self.is_there = True
         elif what == "force" and path == str(self.folder):

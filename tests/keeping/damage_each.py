@@ -1,11 +1,11 @@
-"""Makes each call of a power cycle with --cut fail in turn, on a device with damage inside its
-journal:
+"""Repeats `power --cut` on a device with damage inside its journal, and makes a different call fail
+each time:
 
     python3 damage_each.py PROGRAM HOSTS SHIM SHARE
 
 Afterwards the journal must either be unchanged, byte for byte, or replaced by a new journal. The
 new journal must contain the device before the damage, or that device after the power cycle. Only
-one in SHARE runs is made.
+one in SHARE of these runs is made.
 """
 
 import functools

@@ -1,13 +1,14 @@
-"""Makes each call of each host of a kept device fail, in turn:
+"""Runs each host of a device that is kept in a folder, and makes a different system call fail each
+time:
 
     python3 each_call.py PROGRAM HOSTS SHIM SHARE [WORD]
 
 HOSTS is the folder with the module and the programs. SHIM is the library of failing.c, which
-LD_PRELOAD has loaded into this process too. Only one in SHARE runs is made; with WORD, only those
-of hosts whose name contains it. In each run a host has to do some operations, and one system call
-has a fault of VARIANTS. Then another host opens the folder. The device must have executed the
-answered operations, and perhaps the unanswered one. Standard error describes what is wrong, and
-reports the number of runs.
+LD_PRELOAD has loaded into this process too. Only one in SHARE runs is made; with WORD, only runs of
+hosts whose name contains it. In each run a host has to do some operations, and one system call has
+a fault of VARIANTS. Then another host opens the folder. The device must have executed the answered
+operations, and perhaps the unanswered one. Standard error describes what is wrong, and reports the
+number of runs.
 """
 
 import collections
@@ -58,7 +59,7 @@ WELL, FAULT, KILLED = 0, 3, -signal.SIGKILL
 
 @dataclass(frozen=True)
 class Meeting:
-    """The number of the call that fails, and its fault."""
+    """The number of the call that must fail, and the fault that it must have."""
 
     number: int
     act: Act
@@ -89,7 +90,8 @@ class Shim:
         return {"LD_PRELOAD": str(self.path), "FAILING": told}
 
     def met(self) -> str:
-        """Returns the name of the call that failed, or an empty text if there were fewer calls."""
+        """Returns the name of the call that failed, or an empty text if the host made fewer calls.
+        """
         if not self.report.exists():
             return ""
         text = self.report.read_text("utf8").strip()
@@ -157,7 +159,7 @@ def one_line(fault: object) -> str:
 
 
 class Child:
-    """A host in a fork of this process. It reports each operation before and after it."""
+    """A host in a fork of this process. It reports before and after each operation."""
 
     def __init__(self, host: Host, folder: str, shim: Shim, tells: int) -> None:
         self.host, self.folder, self.shim, self.tells = host, folder, shim, tells
@@ -174,7 +176,7 @@ class Child:
             word, text = "refuses", one_line(fault)
         except OSError as fault:
             word, text = "untold", one_line(fault)
-        except Exception as fault:  # whatever it is, it is reported
+        except Exception as fault:  # every exception is reported, whatever it is
             word, text = "strange", f"{type(fault).__name__}: {one_line(fault)}"
         finally:
             self.shim.goes_on(False)
@@ -263,7 +265,7 @@ class Trial:
 
 
 def seen(files: Files, folder: str) -> State:
-    """Returns the state of the device in a folder, according to a host without faults."""
+    """Returns the state of the device in a folder, as a host without faults reports it."""
     if not os.path.exists(f"{folder}/journal"):
         return NOTHING
     host = Python(files)
@@ -301,8 +303,8 @@ class Start:
 
 @dataclass(frozen=True)
 class Starts:
-    """The three starting points: a kept device; one whose journal is so long that the next command
-    restarts it; and no device.
+    """The three starting points: a device in a folder; one whose journal is so long that the next
+    command restarts it; and no device.
     """
 
     kept: Start
@@ -347,7 +349,9 @@ class Case:
         return met, told, "; ".join(told.strange)
 
     def check(self, room: pathlib.Path, shim: Shim, share: int) -> tuple[int, int]:
-        """Makes one in `share` runs. Returns the number of runs, and the number of wrong ones."""
+        """Makes only one in `share` of the runs. Returns their number, and the number of wrong
+        ones.
+        """
         runs, wrongs, untold = 0, 0, collections.Counter[str]()
         for turn, variant in enumerate(VARIANTS):
             for number in range(1 + turn % share, MOST_CALLS, share):

@@ -1,4 +1,5 @@
-"""The hosts of a kept device, which do the operations of counted.py. `Files` contains their paths.
+"""The hosts of a device that is kept in a folder. They perform the operations of counted.py.
+`Files` contains their paths.
 
 The module and Python run in this process, and fork with it. The other hosts are programs, and get
 their own environment.
@@ -41,7 +42,7 @@ class Files:
 
 
 class Refused(Exception):
-    """Raised when a host reports that it did not do an operation."""
+    """Raised when a host reports that it did not perform an operation."""
 
 
 class Host:
@@ -154,7 +155,7 @@ class Module(Host):
 
 
 class Python(Host):
-    """The kept device of the Python package."""
+    """The Python package, whose class KeptDevice opens the device."""
 
     name, part = "Python", "libtpmsim"
 
@@ -200,8 +201,8 @@ class Python(Host):
 
 
 class Run(Host):
-    """`tpmsim run --state`, which reads one line after another. After a power cycle, only its next
-    response shows that the cycle is done.
+    """`tpmsim run --state`, which reads one line after another. After a power cycle, only the
+    response to the next line shows that the cycle is done.
     """
 
     name, answers_all = "the program", False
@@ -322,7 +323,7 @@ class Simulator(Run):
 
 
 def does(host: Host, act: str, folder: str) -> bytes:
-    """Makes a host do an operation. Returns the response, if there is one."""
+    """Makes a host perform an operation. Returns the response, if there is one."""
     if act == BEGIN:
         host.begin(folder)
     elif act == POWER:

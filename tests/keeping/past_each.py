@@ -1,9 +1,9 @@
-"""Makes each call of a power cycle that keeps past journals fail in turn:
+"""Repeats a power cycle that keeps past journals, and makes a different call fail each time:
 
     python3 past_each.py PROGRAM HOSTS SHIM
 
 The Python host keeps three past journals. After a power cycle with a fault and one without, the
-latest journals must have the first numbers in order, and none may be missing.
+past journals must be numbered from 1 on, beginning with the latest, and none may be missing.
 """
 
 import errno
@@ -22,7 +22,7 @@ VARIANTS = [(Act.FAILS, errno.EIO), (Act.DOES_AND_FAILS, errno.EIO), (Act.IS_KIL
 
 
 class KeepingPast(Python):
-    """Python as a host that keeps past journals."""
+    """The Python host with the option to keep past journals."""
 
     def begin(self, folder: str) -> None:
         with self.refusing():
@@ -39,7 +39,7 @@ def made(host: Host, folder: pathlib.Path) -> None:
 
 
 def past_in(folder: pathlib.Path, journal: bytes) -> list[str]:
-    """Returns what the past journals contain, from number 1 on."""
+    """Returns the content of each past journal, from number 1 on."""
     told = []
     for number in range(1, KEPT + 1):
         path = folder / f"journal.{number}"

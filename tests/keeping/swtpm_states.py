@@ -1,14 +1,14 @@
-"""Makes each call of swtpm on the files of its states fail, in turn. swtpm uses this repository's
-libtpms.so.0:
+"""Runs swtpm many times, and makes a different call on the files of its states fail each time.
+swtpm uses this repository's libtpms.so.0:
 
     python3 swtpm_states.py FOLDER SHIM SHARE [WORD]
 
 FOLDER is made by `hosts/build.sh libtpms`, and SHIM is the library of failing.c. Only one in SHARE
-runs is made; with WORD, only those whose label contains it. In each run swtpm has to do some
+runs is made; with WORD, only runs whose label contains it. In each run swtpm has to do some
 operations, and one call on a file in its folder has a fault of VARIANTS. Then swtpm is started
 again without a fault. Its device must have executed the answered operations, and perhaps the
 unanswered ones; or swtpm or the library must report why there is no device. Standard error
-describes what is wrong, and reports the number of runs, and of those without a device.
+describes what is wrong, and reports the number of runs, and of runs without a device.
 """
 
 import contextlib
@@ -106,7 +106,7 @@ class Swtpm:
             return self.opened.execute(buffer).response
 
     def does(self, act: str, is_resumed: bool) -> bytes:
-        """Does an operation, and returns the response if it is a command."""
+        """Performs an operation, and returns the response if it is a command."""
         if act == BEGIN:
             self.begin(is_resumed)
         elif act == SUSPEND:
@@ -162,14 +162,14 @@ class Played:
         self.may_be_suspended, self.is_suspended = start.is_suspended, False
 
     def play(self, swtpm: Swtpm, script: Sequence[str]) -> None:
-        """Makes swtpm do the operations, until one fails because swtpm has ended."""
+        """Makes swtpm perform the operations, until one fails because swtpm has ended."""
         for act in script:
             is_done = self.suspend(swtpm) if act == SUSPEND else self.act(swtpm, act)
             if not is_done and (act in (BEGIN, POWER) or not swtpm.is_running):
                 return
 
     def act(self, swtpm: Swtpm, act: str) -> bool:
-        """Makes swtpm do an operation. Returns whether it was answered."""
+        """Makes swtpm perform an operation. Returns whether it was answered."""
         self.told.asks(act)
         try:
             response = swtpm.does(act, self.is_resumed)
@@ -254,7 +254,9 @@ class Case:
         return met, f"{wrong}: {acts}" if wrong else "", ""
 
     def check(self, room: pathlib.Path, shim: Shim, share: int) -> tuple[int, int]:
-        """Makes one in `share` runs. Returns the number of runs, and the number of wrong ones."""
+        """Makes only one in `share` of the runs. Returns their number, and the number of wrong
+        ones.
+        """
         runs, wrongs, without = 0, 0, 0
         for turn, variant in enumerate(VARIANTS):
             for at in range(1 + turn % share, MOST_CALLS, share):

@@ -2,8 +2,9 @@
 
     tools/python.sh contexts.py [LIBRARY]
 
-LIBRARY is the shared library. The Python device executes each command too. It must return the same
-response, and have the same state at the end. Without LIBRARY there is only the Python device.
+LIBRARY is the shared library. The Python device executes the same commands. Both must return the
+same responses, and have the same state at the end. Without LIBRARY the test uses only the Python
+device.
 """
 
 import collections
@@ -189,8 +190,8 @@ def counted(words, codes):
 
 
 def bent(client):
-    """Loads each proper prefix of a context, longer texts, and contexts with another byte,
-    hierarchy or savedHandle.
+    """Loads each proper prefix of a context, longer texts, and contexts in which a byte, the
+    hierarchy or savedHandle is changed.
     """
     handle = client.key()
     context = client.saved(handle)

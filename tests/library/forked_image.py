@@ -1,5 +1,5 @@
-"""A process forks while it has a device of an image. Only the process that opened the image may
-write it:
+"""Forks a process that has opened a device from an image. Only the process that opened the image
+may write it:
 
     tools/python.sh forked_image.py LIBRARY
 
@@ -34,7 +34,9 @@ def image():
 
 
 def in_child(device, snapshot):
-    """Prints the results of the calls of a forked child, and whether they changed the image."""
+    """Prints the results of the calls that a forked child makes, and whether they changed the
+    image.
+    """
     before = image()
     acts = {
         "a command": lambda: device.execute(b""),

@@ -1,5 +1,5 @@
-"""Shared by the tests of a device that Python keeps in a folder. The first argument of the program
-is the shared library.
+"""Functions for the tests of a device that Python keeps in a folder. The first argument of the
+program is the shared library.
 """
 
 import hashlib

@@ -1,5 +1,5 @@
-"""A device that Python keeps in a folder: with wrong files, with writes that fail, in threads, and
-in forked processes:
+"""Tests a device that Python keeps in a folder, with wrong files, failing writes, threads and
+forked processes:
 
     tools/python.sh kept_files.py LIBRARY
 
@@ -37,15 +37,15 @@ def told(act):
 
 
 def asks():
-    """Opens the device, and makes it execute a command and a power cycle."""
+    """Opens the device, executes a command on it, and power-cycles it."""
     with KeptDevice(STATE) as device:
         device.execute(b"")
         device.power_cycle()
 
 
 def with_file(path, make):
-    """Returns the fault that is reported while `make` replaces what is at a path. Then restores the
-    path.
+    """Returns the fault that is reported while `make` replaces the file or folder at a path. Then
+    restores the path.
     """
     aside = pathlib.Path("aside")
     if path.exists():

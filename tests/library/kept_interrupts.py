@@ -1,5 +1,5 @@
-"""A device that Python keeps in a folder, with calls that are interrupted: at each line that they
-execute, at random moments, and while they wait for the lock:
+"""Interrupts calls of a device that Python keeps in a folder: at each line that they execute, at
+random moments, and while they wait for the lock:
 
     tools/python.sh kept_interrupts.py LIBRARY
 
@@ -38,8 +38,8 @@ HELD_SECONDS, SIGNAL_SECONDS = 0.4, 0.1
 
 @contextlib.contextmanager
 def interrupted(number):
-    """Raises KeyboardInterrupt when the package's devices execute their line number `number`. Two
-    places are not interrupted: methods __del__, whose exceptions are ignored, and the end of a
+    """Raises KeyboardInterrupt when the package's device classes execute their `number`-th line.
+    Two places are not interrupted: methods __del__, whose exceptions are ignored, and the end of a
     `with`, because no signal handler runs between its body and its end.
     """
     left, entered = number, set()
@@ -73,8 +73,8 @@ def interrupted(number):
 
 
 def is_interrupted(act, number, then):
-    """Returns whether `act` executes this many lines. If so, it is interrupted, and `then` checks
-    what it left, before the exception releases the objects that it refers to.
+    """Returns whether `act` executes this many lines. If so, it is interrupted. `then` checks what
+    it left, before the exception releases the objects that it refers to.
     """
     try:
         with interrupted(number):
@@ -102,7 +102,7 @@ def in_thread(act):
 
 
 class Lines:
-    """A device, and another holder of its folder. Interrupts an act at each of its lines."""
+    """A device, and another holder of its folder. Interrupts an operation at each of its lines."""
 
     def __init__(self, folder):
         self.folder, self.faults = folder, []

@@ -2,8 +2,8 @@
 
     tools/python.sh library_images.py LIBRARY
 
-LIBRARY is the shared library. The images and the output are those of common/damaged_images.py,
-which opens the images with the program.
+LIBRARY is the shared library. The images and the output are the same as in
+common/damaged_images.py, which opens the images with the program.
 """
 
 import os
@@ -15,8 +15,8 @@ from tests.common.damaged_images import main, RANDOM
 
 
 class Library:
-    """The library, which opens images and saves devices like a program that serves. All images use
-    the same holder.
+    """The library opens images and saves devices, like a program that serves clients. All images
+    use the same holder.
     """
 
     def __init__(self) -> None:

@@ -1,4 +1,4 @@
-"""Devices that can be restored from their state. Their calls are interrupted at lines of Python:
+"""Interrupts calls of devices at lines of Python. The devices can be restored from their state:
 
     tools/python.sh restored.py LIBRARY
 
@@ -25,7 +25,7 @@ EXTEND = frames.on_handle(
 
 
 def interrupted(act, left):
-    """Interrupts `act` at line number `left` that it executes in the package. Returns whether it
+    """Interrupts `act` at the `left`-th line that it executes in the package. Returns whether it
     executes that many lines.
     """
 
@@ -50,7 +50,7 @@ def interrupted(act, left):
 
 
 def values(device):
-    """Returns the values of the PCR in both banks that the device reports."""
+    """Returns the values of the PCR in both banks, as the device reports them."""
     read = Caller(device).send(Caller(device).read_pcr(PCR))["pcrValues"]
     return tuple(read)
 

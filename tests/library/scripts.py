@@ -5,7 +5,7 @@
     tools/python.sh scripts.py --lines SCRIPT     prints a script for play.c, without lines in words
 
 Each PLAYER is built from play.c. It plays the scripts of tests/ and the examples that succeed. Its
-output must agree with the files next to the script. It must also be that of the Python device: each
+output must agree with the files next to the script. It must also agree with the Python device: each
 response, row and number of drawn random bytes, and the images at the end. STACK is built from
 stack.c. It plays the scripts too, and no call may use more stack than tpmsim.h states.
 """
@@ -26,7 +26,7 @@ MOST_STACK = 64 * 1024
 
 
 def check_number(check: str) -> int:
-    """Returns the number for a check in a row."""
+    """Converts the name of a check to the number that a row contains."""
     if check == "ok":
         return 0
     if check == "M":
@@ -143,7 +143,9 @@ def check(player: str, played: list[Script]) -> None:
 
 
 class Stack:
-    """The maximum stack that each call uses. For an execution, also the command that uses it."""
+    """The maximum amount of stack that each call uses, and for an execution also the command that
+    uses it.
+    """
 
     def __init__(self, program: str, played: list[Script]) -> None:
         self.most: dict[str, tuple[int, str]] = {}

@@ -3,9 +3,9 @@
     tools/python.sh snapshots.py LIBRARY [ONE_IN]
 
 LIBRARY is the shared library. Texts in which one byte is changed, with and without the right
-digest, are restored; with ONE_IN, one in this many bytes is changed. A text that is refused must
+digest, are restored; with ONE_IN, only one in ONE_IN bytes is changed. A text that is refused must
 not change the device. A text that is accepted must be written again unchanged, or in version 2 if
-it has version 1. If it has no completing layer, the new text has a new one.
+it has version 1. If it has no completing layer, the library adds a new one to the written text.
 """
 
 import collections
@@ -27,7 +27,7 @@ FAULTS = {0: None}
 FAULTS |= dict(enumerate(("Short", "Magic", "Version", "Length", "Digest", "Body"), 13))
 
 # Ways to change a byte: flip its lowest bit; flip its highest bit; add one if the lowest bit is
-# set, else subtract one. The last one changes more than the lowest bit.
+# set, else subtract one. The last way flips at least the two lowest bits.
 WAYS = (
     *(lambda byte: byte ^ 0x01, lambda byte: byte ^ 0x80),
     lambda byte: byte + (1 if byte & 1 else -1) & 0xFF,
@@ -87,7 +87,9 @@ def kind(library: Library, words: str, texts: Iterable[bytes]) -> None:
 
 
 def turned(text: bytes, one_in: int) -> Iterator[bytes]:
-    """Yields the text with one byte changed, in three ways. One in `one_in` bytes is changed."""
+    """Yields copies of the text with one byte changed, in three ways. Only one in `one_in` bytes is
+    changed.
+    """
     for at in range(0, len(text), one_in):
         for way in WAYS:
             yield text[:at] + bytes([way(text[at])]) + text[at + 1 :]

@@ -35,8 +35,8 @@ class Way:
 
 
 def ways(handle, use):
-    """Returns all ways in which an entry is an authorization attempt at a protected entity, and the
-    sessions that they use.
+    """Returns all ways in which an entry attempts to authorize with the value of a protected
+    entity, and the sessions that they use.
     """
     unbound = tpm.start("An HMAC session that is bound to nothing")
     to_owner = tpm.start("One that is bound to TPM_RH_OWNER", RH_OWNER)

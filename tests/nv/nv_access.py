@@ -7,7 +7,8 @@ from tests.common.vocabulary import area, bits, BY_POLICY, BY_VALUE, counter, ex
 from tests.common.vocabulary import nv, NvAttribute, RH_ENDORSEMENT, RH_LOCKOUT, RH_NULL, RH_OWNER
 from tests.common.vocabulary import RH_PLATFORM, RS_PW, SECOND, Teller, THIRD
 
-# Pairs of an attribute for writing and one for reading, with the entity that they allow to do so.
+# Pairs of an attribute for writing and one for reading, with the entity that may then write and
+# read.
 ALLOWED = (
     (NvAttribute.OWNERWRITE, NvAttribute.OWNERREAD, "owner"),
     (NvAttribute.PPWRITE, NvAttribute.PPREAD, "platform"),
@@ -34,7 +35,8 @@ def refusal(asker, allowed):
 def each_asker(what, allowed, prepare):
     for words, handle, asker in ASKERS:
         tpm.comes_to(f"{words}, {what}: {refusal(asker, allowed)}", prepare(handle))
-    # Another index cannot authorize this one, although its attributes allow it to authorize itself.
+    # An index cannot authorize a command on another index, even if its attributes let it authorize
+    # commands on itself.
     tpm.fails(f"Another index that can be written, {what}: NV_AUTHORIZATION", prepare(SECOND))
 
 

@@ -16,7 +16,7 @@ tpm = Teller(__name__, __doc__)
 
 
 def fitting(what, public, **more):
-    """Defines an index, which must succeed, reads its public area, and undefines it."""
+    """Defines an index, which must succeed. Then reads its public area, and undefines the index."""
     by = more.get("by", RH_OWNER)
     tpm.define(what, public, **more)
     tpm.is_now("", public.index)
@@ -28,7 +28,7 @@ def unfitting(words, *publics, **more):
 
 
 def raw(text):
-    """Returns the command with these parameters."""
+    """Returns a TPM2_NV_DefineSpace with these parameters."""
     return tpm.defining(area()).but(parameters=text)
 
 

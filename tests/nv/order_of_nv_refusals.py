@@ -19,8 +19,8 @@ tpm = OrderTeller(__name__, __doc__, tries=True)
 
 
 def handles_in_order(code, handles):
-    """Sends commands in which a handle is truncated, of another kind, or of a missing entity. No
-    handle follows it.
+    """Sends commands in which a handle is truncated, of another kind, or of a missing entity. The
+    command ends after that handle.
     """
     for place, handle in enumerate(handles, 1):
         before = b"".join(number(it, 4) for it in handles[: place - 1])
@@ -37,7 +37,9 @@ def handles_in_order(code, handles):
 
 
 def general_refusals(code, handles, cut, uses):
-    """Causes all refusals before those of the parameters. The parameters are always `cut`."""
+    """Causes all refusals that precede the refusals of the parameters. The parameters are always
+    `cut`.
+    """
     handles_in_order(code, handles)
     is_first = handle_kinds.IS_OF_KIND[code.handles[0].kind]
     closed = BY_OTHERS if code.authorized and is_first(BY_OTHERS) else None

@@ -100,7 +100,8 @@ for hierarchy, name in HIERARCHIES:
     ticket_hierarchy, ticket = tpm.ticket
     assert ticket_hierarchy == hierarchy
     if hierarchy in proofs:
-        # The device is manufactured with the bytes 00 to ff. Their second half is the proofs.
+        # The device is manufactured with the random bytes 00 to ff. The second half becomes the
+        # proofs.
         proof = bytes(range(proofs[hierarchy], proofs[hierarchy] + 32))
         text = number(frames.ST_CREATION, 2) + made.public.name
         assert ticket == mac(SHA256, proof, text + digest(SHA256, tpm.creation_data))

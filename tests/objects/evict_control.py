@@ -28,8 +28,8 @@ tpm = Steps(__name__, __doc__)
 
 
 def fails(words, *commands):
-    """Sends TPM2_EvictControl with the empty password. Each tuple contains the hierarchy, the
-    object, and the persistent handle.
+    """Sends TPM2_EvictControl with the empty password. Each of `commands` contains the hierarchy,
+    the object, and the persistent handle.
     """
     tpm.says(words, *(tpm.evicting(*it, b"") for it in commands))
 
@@ -66,7 +66,7 @@ def handles_and_parameter(owners):
 
 
 def in_order():
-    """Causes each refusal, with commands that also have all later faults."""
+    """Causes each refusal in turn, with commands that also have all later faults."""
     tpm.chapter("The checks in their order; each command has the later faults too.")
     owners = tpm.owned("An object of the owner", storage_key())
     clears = tpm.owned("One with stClear", CLEARED)

@@ -24,12 +24,16 @@ def sealed_by(what, auth_policy, algorithm=SHA256, attributes=HERE | NO_DA, user
 
 
 def start_again(session):
-    """Checks that the session has no assertions again, because each assertion counts only once."""
+    """Checks that the session no longer has assertions, because each assertion counts for only one
+    command.
+    """
     tpm.digest_is("TPM2_PolicyGetDigest: zeros", session, zeros(session))
 
 
 def demands(algorithm, handle):
-    """Tests the demands of policies with an unbound session, on an object with the value "pin"."""
+    """Tests the demands of policies with an unbound session, on an object with the authorization
+    value "pin".
+    """
     session = tpm.policy("A policy session", algorithm=algorithm)
     tpm("Nothing is asserted: POLICY_FAIL/s1").unsealing(handle, session)
 
@@ -175,7 +179,7 @@ right_hash, wrong_hash = tpm.cp_hash(tpm.unsealing(handle)), bytes([7]) * 32
 
 
 def wrong(handle, session):
-    """Returns the command with a wrong HMAC too. The HMAC is compared last."""
+    """Returns a TPM2_Unseal that also has a wrong HMAC. The HMAC is compared last."""
     return others_in(tpm.unsealing(handle, session), 1)
 
 

@@ -2,9 +2,10 @@
 
     tools/python.sh tests/objects/object_vectors.py
 
-The program uses hashlib and hmac, and aes.py for the cipher, but not object_rules.py. It states the
-equations of objects again, each on its own line, with the numbers of one example. It compares the
-script's responses, which the Python device computes, with the results. It also prints each step.
+The program uses hashlib and hmac, and aes.py for the cipher, but not object_rules.py. It contains
+its own copy of the equations for objects, each on its own line, with the numbers of one example. It
+compares the script's responses, which the Python device computes, with the results. It also prints
+each step.
 """
 
 import hashlib
@@ -13,9 +14,9 @@ import hmac
 from tpmsim.standard import aes, CC, command, entry, number, on_handle, RH_OWNER, selection, sized
 from tests.common.script import Script
 
-# The device of a script is manufactured with the bytes 00 to ff. They are eight pieces of 32 bytes:
-# the seeds of the owner's, the endorsement, the platform and the null hierarchy, and then their
-# proofs.
+# The device of a script is manufactured with the random bytes 00 to ff. They are eight pieces of 32
+# bytes: the seeds of the owner's, the endorsement, the platform and the null hierarchy, and then
+# their proofs.
 OWNER_SEED, OWNER_PROOF = bytes(range(0x00, 0x20)), bytes(range(0x80, 0xA0))
 OWNER = number(RH_OWNER, 4)
 SHA256_NUMBER = bytes.fromhex("000B")
@@ -76,7 +77,7 @@ public = template[:-2] + sized(unique)
 name = step("primary Name", SHA256_NUMBER + sha256(public))
 qualified_name = step("primary qualified name", SHA256_NUMBER + sha256(OWNER, name))
 
-# The hierarchy replaces the parent.
+# A primary object has no parent, so its creation data name the hierarchy instead.
 created = creation("primary", name, (bytes.fromhex("0010"), OWNER, OWNER), b"first")
 
 given = sized(in_sensitive) + sized(template)

@@ -16,8 +16,8 @@ SECRET = b"secret"
 
 
 def general_refusals(code, handle, cut, uses):
-    """Causes all refusals before the parameters: those of the handle, the authorization area, the
-    entries and the HMACs.
+    """Causes all refusals that come before those of the parameters: refusals of the handle, the
+    authorization area, the entries and the HMACs.
     """
     other = RH_LOCKOUT if code == CC.CreatePrimary else RH_OWNER
     for words, text in (

@@ -87,7 +87,9 @@ class Forger:
         self.refused(what, *map(self.forge, texts))
 
     def made(self, given=b"", **parts):
-        """Returns an object whose sensitive area has these parts, with its authorization value."""
+        """Returns an object whose sensitive area has these parts, and the object's authorization
+        value.
+        """
         return Made(self.forge(sensitive(**parts)), self.public, given)
 
     def loaded(self, what, given=b"", flushed="It is flushed", **parts):

@@ -63,7 +63,7 @@ TARGETS = *CREATING, Target(CC.Load, parent)
 
 
 def shorts(*values):
-    """Returns these numbers, with two bytes each."""
+    """Encodes these numbers with two bytes each."""
     return b"".join(number(it, 2) for it in values)
 
 

@@ -3,8 +3,8 @@
     python3 tests/package/steps.py FOLDER [--run]
 
 The program prints each command of .github/workflows/*.yml and .gitlab-ci.yml in FOLDER. It also
-prints the paths and the targets of the Makefile that a command names and that do not exist; the
-status is 1 if there are any. With --run it runs each command once in FOLDER, except those of
+prints each path and each target of the Makefile that a command names but that does not exist; the
+status is 1 if there are any. Given --run, it also runs each command once in FOLDER, except those of
 apt-get and git, and ends at the first one that fails.
 """
 
@@ -28,7 +28,7 @@ def commands_of(text: str) -> list[str]:
 
 
 def missing(folder: pathlib.Path, command: str) -> list[str]:
-    """Returns the paths and targets that a command names and that do not exist."""
+    """Returns the paths and targets that a command names but that do not exist."""
     makefile = (folder / "Makefile").read_text()
     targets = [target for found in TARGET.findall(command) for target in found.split()]
     return [path for path in PATH.findall(command) if not (folder / path).exists()] + [

@@ -14,13 +14,14 @@ tpm = Teller(__name__, __doc__, tries=True)
 
 
 def refused(words, prepared, *wrong):
-    """Sends a command that must be refused. The entries `wrong` get wrong HMACs."""
+    """Sends a command that must be refused. The entries with the numbers `wrong` get wrong HMACs.
+    """
     tpm.refused(words, wrong_in(prepared, *wrong) if wrong else prepared)
 
 
 def up_to_hmacs(text):
-    """Causes all refusals before the parameters, in a command with one handle. `text` is its
-    parameters.
+    """Causes all refusals that precede those of the parameters, in a command with one handle.
+    `text` is its parameters.
     """
 
     def using(*uses, handle=policy.handle):
@@ -51,7 +52,7 @@ def symmetric(use):
 
 def by_right(words, text):
     """Sends TPM2_PolicySecret with the right password, while the policy session itself decrypts
-    nonceTPM. It must be refused.
+    nonceTPM. The command must be refused.
     """
     refused(words, secret(text, b"lockout", policy.decrypting))
 
@@ -72,7 +73,9 @@ def says(words, text, session=policy, attributes=CONTINUE_SESSION):
 
 
 def decrypted(words, text, session=policy):
-    """Sends the command of the chapter with these parameters, while the HMAC session decrypts."""
+    """Sends the command of the chapter with these parameters, while the HMAC session decrypts the
+    first one.
+    """
     says(words, text, session, DECRYPTS)
 
 

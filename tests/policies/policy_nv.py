@@ -12,8 +12,8 @@ from tests.common.vocabulary import counter, extended, FIFTH, FIRST, flipped, FO
 from tests.common.vocabulary import is_trial, number, NvAttribute, policy, RH_OWNER, RH_PLATFORM
 from tests.common.vocabulary import SECOND, SHA1, SHA256, sized, THIRD, Use, zeros
 
-# Descriptions of the operations, by number. COMPARE has the functions for those that compare, and
-# do not test bits.
+# Descriptions of the operations, by number. COMPARE has a function for each operation that compares
+# instead of testing bits.
 NAMES = (
     *("equal", "not equal", "greater, signed", "greater", "less, signed", "less"),
     *("greater or equal, signed", "greater or equal", "less or equal, signed", "less or equal"),
@@ -27,7 +27,7 @@ tpm = PolicyTeller(__name__, __doc__)
 
 
 def after(session, old, index, operand, offset, operation):
-    """Returns the digest after the assertion, as the standard defines it."""
+    """Returns the policy digest after TPM2_PolicyNV, as the standard defines it."""
     digest = hashlib.sha1 if session.algorithm == SHA1 else hashlib.sha256
     compared = digest(operand + number(offset, 2) + number(operation, 2)).digest()
     return digest(old + number(CC.PolicyNV, 4) + compared + tpm.names[index]).digest()

@@ -10,7 +10,7 @@ tpm = PolicyTeller(__name__, __doc__)
 
 
 def other(count):
-    """Returns digests with the size of the session's policyDigest, which is never equal to one of
+    """Returns digests with the size of the session's policyDigest. It is never equal to one of
     them.
     """
     return [digest(session.algorithm, b"branch %d" % it) for it in range(count)]

@@ -12,8 +12,8 @@ tpm = PolicyTeller(__name__, __doc__)
 
 
 def changed(what, banks=ZERO):
-    """Sends the command after a PCR has changed. A policy session must refuse it; a trial session
-    must not.
+    """Sends TPM2_PolicyPCR after a PCR has changed. A policy session must refuse it, and a trial
+    session must accept it.
     """
     outcome = "SUCCESS" if is_trial(session) else "PCR_CHANGED"
     tpm(f"{what}: {outcome}").pcrs(session, banks)
@@ -26,7 +26,7 @@ def values_digest(banks):
 
 
 def texts(words, *those, front=EMPTY):
-    """Sends these parameters after a pcrDigest, which is `front`."""
+    """Sends TPM2_PolicyPCR with the pcrDigest `front`, followed by each of these byte strings."""
     tpm.texts(words, CC.PolicyPCR, session, *(front + it for it in those))
 
 

@@ -10,7 +10,7 @@ PCR_0 = [(SHA256, [0])]
 
 
 def forgets(what, told):
-    """Makes an assertion, and restarts the session, which removes the assertion."""
+    """Makes an assertion, and restarts the session. This must remove the assertion."""
     tpm.says(f"{what}: SUCCESS", told)
     tpm.restarts(session)
     tpm.digest_is("The digest is zeros", session, zeros(session))

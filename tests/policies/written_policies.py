@@ -37,7 +37,7 @@ def recovery(session, of=RH_ENDORSEMENT, ref=REF):
 
 
 def ends(session):
-    """Returns the assertions with which both branches end."""
+    """Returns the assertions that end both branches of the policy."""
     return tpm.branches(session, *WAYS), tpm.command_code(session, CC.Unseal)
 
 
@@ -49,7 +49,7 @@ def no_way(session, **demand):
 
 
 # The policy of an update. It requires either the authorization value of an index, or a version in
-# that index and locality 0, 3 or 4.
+# that index and one of the localities 0, 3 and 4.
 
 
 def after_version(old=ZEROS):

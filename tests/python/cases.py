@@ -1,4 +1,4 @@
-"""Runs tools/audit.py many times in one process, each time with other arguments:
+"""Runs tools/audit.py many times in one process, each time with different arguments:
 
     cases.py <CASES
 
@@ -17,7 +17,9 @@ from tpmsim.model import player
 
 
 def printed(script):
-    """Returns the output of the Python device, as it is patched now, for a script."""
+    """Returns the output of the Python device for a script. If the device is patched, the patches
+    apply.
+    """
     return "".join(f"{it}\n" for _, it in player.played(script)[0]).encode()
 
 

@@ -2,9 +2,9 @@
 
     tools/python.sh tests/python/in_step.py PROGRAM
 
-Each command is interrupted at each line of Python that it executes, and one is answered too late.
-Afterwards no command may get the response of another one: the connection is closed, and the caller
-gets DeviceEnded. The device ChildDevice runs PROGRAM.
+Each command is interrupted at each line of Python that it executes. One command is answered too
+late. Afterwards no command may get the response to another one: the connection is closed, and the
+caller gets DeviceEnded. The device ChildDevice runs PROGRAM.
 """
 
 import os
@@ -24,11 +24,12 @@ PACKAGE = str(pathlib.Path(tpmsim.device.__file__).parent)
 FIRST, SECOND, LATE = 8, 16, 24
 SECONDS, MOST_SECONDS, LEAST_LINES = 0.1, 60, 10
 
-# The function in `coming` is called when LATE arrives. LATE is answered when `is_over` is set.
+# `coming` contains the function that is called when the command LATE arrives. LATE is answered when
+# `is_over` is set.
 coming, is_over = [lambda: None], threading.Event()
 
-# The number of bytes after a request on swtpm's control channel, by its number. All other requests
-# have none.
+# The number of bytes after a request on swtpm's control channel, by the request's number. All other
+# requests have none.
 ARGUMENTS = {2: 4, 5: 1}
 SESSION_END, INITIALIZE = 20, number(0x100, 4)
 
@@ -125,7 +126,7 @@ def simulated():
 
 
 def interrupted(act, left):
-    """Calls `act`, and interrupts it at line number `left` that it executes in the package. Returns
+    """Calls `act`, and interrupts it at the `left`-th line that it executes in the package. Returns
     whether it executes that many lines.
     """
 
@@ -150,8 +151,9 @@ def interrupted(act, left):
 
 
 def told(device, size):
-    """Sends a command with another size after an interrupted command, and describes its response. A
-    pipe responds with the command itself. A device that was power-cycled responds with INITIALIZE.
+    """After an interrupted command, sends a command for a different number of bytes, and describes
+    its response. A pipe responds with the command itself. A device that was power-cycled responds
+    with INITIALIZE.
     """
     try:
         response = device.execute(asking(size)).response
@@ -163,7 +165,8 @@ def told(device, size):
 
 
 def at_each_line(made, act):
-    """Returns the different results of interrupts, one at each line of `act`."""
+    """Interrupts `act` at each line that it executes, once per line. Returns the different results.
+    """
     said, count = set(), 1
     while True:
         with made() as device:
@@ -190,7 +193,7 @@ def late(made):
 
 
 def alarmed(made):
-    """Does the same as `late`, but with an exception from a signal handler instead of a timeout."""
+    """Like `late`, but with an exception from a signal handler instead of a timeout."""
 
     def raise_fault(*_):
         raise LookupError("a test's time")
@@ -209,7 +212,9 @@ def alarmed(made):
 
 
 def moved(device):
-    """Executes a command from another locality, which is sent to the device before the command."""
+    """Executes a command at another locality. The locality is sent to the device before the
+    command.
+    """
     device.locality = 3
     device.execute(asking(FIRST))
 

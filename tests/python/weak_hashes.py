@@ -1,6 +1,6 @@
-"""Replaces hashes in policies, each for one text. A session then gets the digest of a policy that
-it does not satisfy, and the device and its history accept the session. The audit must report this.
-In the last case the session satisfies the policy anyway.
+"""Makes hashes in policies weak: each case replaces the hash of certain texts. A session then gets
+the digest of a policy that it does not satisfy, and the device and its history accept the session.
+The audit must report this. In the last case the session satisfies the policy anyway.
 
     weak_hashes.py FOLDER
 
@@ -23,8 +23,8 @@ from tests.python import cases
 LOCALITY_0 = bytes.fromhex("0000016f01")
 ATTRIBUTES = nv.Attribute.POLICYREAD | nv.Attribute.POLICYWRITE
 
-# SHA-1 digests of two branches of a policy. MIDDLE is the end of the first one and the beginning of
-# the second one.
+# SHA-1 digests of two branches of a policy. MIDDLE is the end of the first digest and the beginning
+# of the second one.
 UNSEAL = policy.after_command_code(SHA1, bytes(20), CC.Unseal)
 VALUE = policy.after_auth_value(SHA1, bytes(20))
 MIDDLE = UNSEAL[10:] + VALUE[:10]
@@ -57,8 +57,8 @@ def script(algorithm, auth_policy, *assertions):
 
 
 def by_either(first, second, *branches):
-    """Returns a script for a policy with two branches. The session's TPM2_PolicyOR lists `branches`
-    instead.
+    """Returns a script for a policy with two branches. The session's TPM2_PolicyOR lists the
+    digests `branches` instead of the policy's.
     """
     told = f"PolicyOR 03000000 {'+'.join(it.hex() for it in branches)}"
     return script(SHA1, policy.after_or(SHA1, [first, second]), "PolicyLocality 03000000 0x1", told)
@@ -106,7 +106,7 @@ WEAK = (
 
 
 def weakly(other):
-    """Replaces the hashes of these texts in all code for policies."""
+    """Replaces the hash of each text in `other`, in all code for policies."""
     stack = ExitStack()
     weak = lambda algorithm, text: other.get(text) or digest(algorithm, text)
     for module in (policy, pcr_values, policy_texts, broken, written):
@@ -124,7 +124,7 @@ def judged(lines, text):
 
 
 def ended(folder, lines, output, text):
-    """Writes these files, and returns how their audit ends."""
+    """Writes the script, its output and the policy to files. Returns the results of their audit."""
     files = [folder / it for it in ("script", "output", "policy")]
     for file, data in zip(files, ("\n".join(lines).encode(), output, text.encode())):
         file.write_bytes(data)

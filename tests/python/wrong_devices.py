@@ -1,5 +1,6 @@
-"""Wrong Python devices with one error each, and a script that shows the error. The audit compares
-the output of a wrong device with that same device, so that only the history can reveal the error.
+"""Wrong Python devices with one error each, and for each a script that shows the error. The audit
+compares the output of a wrong device with that same device, so that only the history can reveal the
+error.
 
     wrong_devices.py
 
@@ -24,7 +25,9 @@ restore_pcrs, start_session = Model.restore_pcrs, Model.start_auth_session
 
 
 def unless(refused):
-    """Returns a check of the use of a policy that never fails with this response code."""
+    """Returns a function that checks the use of a policy, but ignores faults with this response
+    code.
+    """
 
     def checked(session, entity, use, place):
         try:
@@ -84,7 +87,7 @@ def keeps_a_digest(self, request):
 
 
 def in_rows(code, row):
-    """Returns a patch that gives a command another effect."""
+    """Returns a patch that changes the effect of a command."""
     return mock.patch.dict(machine.ROWS, {code: row})
 
 
@@ -144,8 +147,8 @@ def script_of(name):
 
 
 def fault_of(name):
-    """Returns the fault that the audit finds for the Python device, as it is patched now, with a
-    script.
+    """Returns the fault that the audit finds for the Python device with a script. If the device is
+    patched, the patches apply.
     """
     script = script_of(name)
     return audited(script, printed(script))[1]

@@ -4,8 +4,8 @@ with policies in words:
     wrong_policies.py POLICIES
 
 POLICIES contains a folder of policies for each script. For each device the program prints what the
-audit finds. Then it prints each use that does not satisfy its policy, when only policies are
-audited. The status is 1 if either audit finds nothing.
+audit finds. Then it audits only the policies, and prints each use that does not satisfy its policy.
+The status is 1 if either audit finds nothing.
 """
 
 import pathlib
@@ -13,7 +13,7 @@ import sys
 from contextlib import ExitStack
 from unittest import mock
 
-import wrong_devices as wrong  # it makes the parts of the device and of the audit importable
+import wrong_devices as wrong  # makes the parts of the device and of the audit importable
 
 from tpmsim.audit.auditor import Auditor
 from tpmsim.audit.ground import Finding
@@ -61,7 +61,9 @@ WRONG = (
 
 
 def policies_alone():
-    """Turns off the audit of grounds, and the comparison of the device with its history."""
+    """Turns off the audit of what authorizes each command, and the comparison of the device with
+    its history.
+    """
     stack = ExitStack()
     ground = Finding(True, "it is not judged")
     stack.enter_context(mock.patch.object(Grounds, "findings", lambda *_: [ground]))

@@ -27,7 +27,7 @@ HIERARCHIES = {
 
 tpm = GroundsCaller(__name__, __doc__)
 
-# The null hierarchy's authorization value is empty, and can authorize nothing but this command.
+# The null hierarchy's authorization value is empty, and can authorize only this command.
 at_null = partial(tpm.primary, RH_NULL, sealed(), data=SECRET)
 
 

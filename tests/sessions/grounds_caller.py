@@ -28,10 +28,10 @@ def after_secret(name, policy_ref=b""):
 
 
 def after_equal_data(name, old=ZEROS):
-    """Returns the digest after TPM2_PolicyNV that compares `DATA` with the index that has this
-    Name.
+    """Returns the digest after a TPM2_PolicyNV that requires the index with this Name to contain
+    `DATA`.
     """
-    compared = frames.policy_nv(DATA)[2:]  # the hashed bytes have no size
+    compared = frames.policy_nv(DATA)[2:]  # without the size that precedes DATA
     return policy.after_nv(SHA256, old, compared, name)
 
 
@@ -76,7 +76,7 @@ class GroundsCaller(PolicyTeller):
     # Methods that make assertions in a policy session.
 
     def asserts(self, what, *told):
-        """Makes the assertions in this order."""
+        """Makes the assertions `told` in this order."""
         self.says(f"{what}: SUCCESS", *told)
 
     def asserts_code(self, session, code=CC.Unseal):

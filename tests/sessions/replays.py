@@ -12,7 +12,7 @@ from tests.common.vocabulary import RH_OWNER, SE_HMAC, SE_POLICY, SHA256, STATE,
 from tests.sessions.grounds_caller import AFTER_AUTH_VALUE, DATA, GroundsCaller, OWNER, ZEROS
 
 VALUE, LOCKOUT_AUTH, OTHER_DATA = b"a", b"lockout", b"to write"
-RECOVERY = 1_000_000  # milliseconds of recoveryTime and lockoutRecovery of a new device
+RECOVERY = 1_000_000  # recoveryTime and lockoutRecovery of a new device, in milliseconds
 
 # Random bytes that are used more than once.
 SEED, OTHER_SEED = b"\xa1", b"\xb2"
@@ -28,7 +28,7 @@ def with_random(what, seed, prepared):
 
 
 class Start:
-    """A TPM2_StartAuthSession with certain random bytes. Its session can be started again, with the
+    """A TPM2_StartAuthSession with certain random bytes. It can start its session again, with the
     same buffer or with another nonce.
     """
 

@@ -23,32 +23,34 @@ def start(**changes):
 
 
 def refused(words, *choices):
-    """Sends the command with each of these sets of values. It must be refused."""
+    """Sends TPM2_StartAuthSession with each of these sets of values. It must be refused."""
     tpm.raw(words, *(start(**it) for it in choices))
 
 
 def each(words, name, *values):
-    """Sends the command with each of these values of one field."""
+    """Sends TPM2_StartAuthSession with each of these values of one field. It must be refused."""
     refused(words, *({name: it} for it in values))
 
 
 def start_text(**changes):
-    """Returns the parameters of the command with these values."""
+    """Returns the parameters of TPM2_StartAuthSession with these values."""
     return frames.start_auth_session(**{"nonce": NONCE, **changes})[1]
 
 
 def heads(words, *texts, tag=frames.NO_SESSIONS):
-    """Sends the command with these bytes after its header."""
+    """Sends TPM2_StartAuthSession with each of these texts after its header."""
     tpm.raw(words, *(command(CC.StartAuthSession, it, tag) for it in texts))
 
 
 def texts(words, *those):
-    """Sends the command with these parameters."""
+    """Sends TPM2_StartAuthSession with each of these parameter areas."""
     tpm.raw(words, *(on(NULLS, it) for it in those))
 
 
 def ciphers(words, *those, rest=number(SHA256, 2)):
-    """Sends the command with these bytes as its parameter symmetric. `rest` is authHash."""
+    """Sends TPM2_StartAuthSession with each of these texts as its parameter symmetric. `rest` is
+    authHash.
+    """
     texts(words, *(sized(NONCE) + sized(b"") + b"\0" + it + rest for it in those))
 
 

@@ -1,6 +1,6 @@
 """Writes three scripts in which three callers use one device. The first caller measures into PCR 10
-and reads it. The second one has data unsealed with a policy on PCR 10. The third one writes an NV
-index in an HMAC session, and sends one command again. The callers take turns, take turns in reverse
+and reads it. The second one unseals data with a policy on PCR 10. The third one writes an NV index
+in an HMAC session, and sends one command again. The callers take turns, take turns in reverse
 order, or come one after another:
 
     tests/sessions/callers_in_turn.tpm

@@ -20,8 +20,8 @@ BOTH = DECRYPTS | ENCRYPT
 HASHES = {SHA1: hashlib.sha1, SHA256: hashlib.sha256}
 OWNER_AUTH = b"owner"
 
-# Sizes of a first parameter: none, one byte, the sizes of digests and one byte more, and the
-# maximum.
+# Sizes of a first parameter: none, one byte, the sizes of the digests, one byte more than a digest,
+# and the maximum.
 SIZES = 0, 1, 20, 21, 32, 33, 1024
 
 tpm = Teller(__name__, __doc__, tries=True)
@@ -45,7 +45,7 @@ def exclusive_or(left, right):
 
 
 def first_buffer(text):
-    """Returns the content of the first sized buffer in some parameters."""
+    """Returns the content of the sized buffer at the beginning of some parameters."""
     return text[2 : 2 + int.from_bytes(text[:2], "big")]
 
 
@@ -63,8 +63,8 @@ def masking(what, prepared, plain, place=1, auth_value=b""):
 
 
 def masked(what, prepared, plain, place=1, auth_value=b""):
-    """Sends a command, and checks that the first parameter of its response is `plain`, masked with
-    the device's new nonce and the caller's nonce.
+    """Sends a command. The first parameter of the response must be `plain`, masked with the
+    device's new nonce and the caller's nonce.
     """
     use = prepared.uses[place - 1]
     tpm.accepted(what, prepared)

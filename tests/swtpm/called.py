@@ -15,7 +15,8 @@ class Answered(NamedTuple):
 
 
 class Called:
-    """A running caller with a library, in a folder. Its environment contains only these variables.
+    """A running caller with a library, in a folder. Its environment contains only the variables
+    that are passed.
     """
 
     def __init__(

@@ -1,6 +1,6 @@
 """A device that is stopped while it has a bound and an unbound HMAC session, a policy session,
-objects, contexts of the completing layer, and a launch. Also the commands that it must accept when
-it continues.
+objects, contexts of the completing layer, and a dynamic launch. Also the commands that it must
+accept when it continues.
 """
 
 from tests.swtpm.called import Called
@@ -24,8 +24,8 @@ def succeeded(device: Called, buffer: bytes) -> bytes:
 
 class LeftDevice:
     """A device with sessions, objects and contexts. `loads` are the commands that load the
-    contexts. With an older library no object is saved, because later libraries have other contexts
-    of objects.
+    contexts. With an older library no context of an object is saved, because later libraries have a
+    different format for such contexts.
     """
 
     def __init__(self, device: Called, is_older: bool = False) -> None:

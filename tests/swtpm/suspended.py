@@ -49,7 +49,7 @@ class Host:
 
 
 class Pair:
-    """The devices in a folder that play a script."""
+    """The devices that play a script in a folder."""
 
     def __init__(self, words: list[str], folder: str, completes: bool, is_twin: bool) -> None:
         caller, library, shim = words
@@ -102,7 +102,8 @@ class Pair:
 
 
 def of_device(pair: Pair, chance: random.Random, count: int) -> Iterator[list[bytes]]:
-    """Yields each response with that of the Python device, and the state texts at each suspension.
+    """Yields each response with the response of the Python device, and the state texts at each
+    suspension.
     """
     writer, played = random_script.Writer(chance.randrange(2**32)), 0
     locality, seed, elapsed = 0, b"", 0
@@ -132,7 +133,7 @@ def of_device(pair: Pair, chance: random.Random, count: int) -> Iterator[list[by
 
 
 def of_layer(pair: Pair, chance: random.Random, count: int) -> Iterator[list[bytes]]:
-    """Yields each response with that of a device that is never suspended."""
+    """Yields each response with the response of a device that is never suspended."""
     scripts, buffer = Scripts(chance), command(CC.Startup, bytes(2))
     for _ in range(count):
         if chance.random() < SUSPENDED:

@@ -99,7 +99,8 @@ def broken_links(facts):
             yield link
 
 
-# Contrast, according to WCAG 2.1, success criterion 1.4.3, level AA.
+# The colors of texts, each with the backgrounds against which it needs the contrast of WCAG 2.1,
+# success criterion 1.4.3, level AA.
 
 TEXTS = {
     "ink": ("ground", "panel", "tint", "bad-tint", "byte", "byte-odd"),

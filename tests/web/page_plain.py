@@ -1,6 +1,6 @@
 """Prints the scripts of tests/ and examples/ in which sessions encrypt, as lines of JSON. Each line
-contains the decrypted first parameters of commands and responses, by their lines in the script, as
-the Python device decrypts them. page_plain.mjs compares the page's values with these.
+contains the decrypted first parameters of commands and responses, with their line numbers in the
+script. The Python device decrypts them. page_plain.mjs compares the page's values with these.
 """
 
 import json
@@ -39,8 +39,7 @@ class Watched(Model):
 
 
 def plain_of(script):
-    """Returns the decrypted first parameters of commands, and those of responses, by line number
-    from 0.
+    """Returns the decrypted first parameters of commands and of responses, by line number from 0.
     """
     device, asked, answered = Watched(), {}, {}
     for step in steps_of(script):
