@@ -31,9 +31,9 @@ do GetRandom 4
 do GetRandom 8' >script
 "$program" run --state other script >answers
 
-# changed LABEL LINES: changes lines of a copy of the journal with a line of Python, and replays it. The
-# Python function `answered` changes the checksum of an entry's response, and updates the checksum in its
-# mark.
+# changed LABEL LINES: changes a copy of the journal by executing the Python code LINES, and replays it. The
+# Python function `answered` changes the checksum of an entry's response, and then updates the checksum in the
+# entry's mark.
 changed() {
     python3 -c "
 lines = open('other/journal', 'rb').read().splitlines(keepends=True)

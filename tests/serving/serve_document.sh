@@ -1,5 +1,5 @@
-# Runs the lines of docs/USING.md that serve a device and seal a key with tpm2-tools, exactly as written
-# there. The last tool prints the key.
+# Runs the lines of docs/USING.md that serve a device and seal a key with tpm2-tools, exactly as written there.
+# The last line prints the key.
 tests=$(cd "$(dirname "$0")/.." && pwd -P)
 . "$tests/common/cases.sh"
 needs tpm2 socat
