@@ -67,8 +67,8 @@ asks 0
 "$program" power --keep 3 state
 journals
 
-# If a folder has the name of a finished journal, the journal is not kept as a finished one, and the device
-# continues.
+# If a folder or a link has the name of a finished journal, the power cycle fails. The journal stays unchanged,
+# and the device continues.
 asks 1
 rm -f state/journal.[23] && mkdir state/journal.2 && echo >state/journal.3
 run 'a folder in place of the second journal' power --keep 3 state

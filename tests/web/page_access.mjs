@@ -1,5 +1,6 @@
-// Whether people who use only keys, or a screen reader, can use the page in Chromium: page_access.mjs
-// ADDRESS. It prints a line for each condition, and the status is 1 if one does not hold.
+// Whether people who use only keys, or a screen reader, can use the page in Chromium:
+// page_access.mjs ADDRESS. It prints a line for each condition, and the status is 1 if one does not
+// hold.
 
 import { Browser, CTRL, SHIFT, sleep } from "./browser.mjs";
 

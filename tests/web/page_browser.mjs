@@ -1,5 +1,5 @@
-// Tests the page in Chromium without a window: page_browser.mjs ADDRESS. It prints a line for each condition,
-// and the status is 1 if one does not hold.
+// Tests the page in Chromium without a window: page_browser.mjs ADDRESS. It prints a line for each
+// condition, and the status is 1 if one does not hold.
 
 import fs from "node:fs";
 import { ALT, Browser, CTRL, sleep } from "./browser.mjs";
