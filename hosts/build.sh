@@ -37,7 +37,7 @@ needs_header() {
 compile() {
     name=$1
     shift
-    # shellcheck disable=SC2086 # CFLAGS are words
+    # shellcheck disable=SC2086 # word splitting of CFLAGS is intended
     "$compiler" -std=c11 -O2 -Wall -Wextra -Werror -Wconversion -I"$(dirname "$archive")" \
         -Wl,--build-id=none -Wl,-z,relro -Wl,-z,now ${CFLAGS:-} -o "$work/$name" "$@" "$archive" || return 1
     [ -n "${CFLAGS:-}" ] || "$strip" --strip-unneeded "$work/$name"
@@ -50,7 +50,7 @@ compile_shared() {
     name=$1
     map=$2
     shift 2
-    # shellcheck disable=SC2086 # CFLAGS are words
+    # shellcheck disable=SC2086 # word splitting of CFLAGS is intended
     compile "$name" -shared -fPIC -Wl,-soname,"$name" -Wl,--version-script="$map" \
         ${CFLAGS:--Wl,-z,defs} "$@"
 }

@@ -68,7 +68,7 @@ read_shell() {
 }
 
 read_python() {
-    # shellcheck disable=SC2046 # program names have no spaces
+    # shellcheck disable=SC2046 # the names of the programs have no spaces
     "$@" $(git ls-files '*.py')
 }
 

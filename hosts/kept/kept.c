@@ -21,8 +21,8 @@ static bool tell_now(const struct kept *kept, uint64_t *now_ms, struct reason *r
                   "needs the host's clock, which cannot be read or is before 1970", 0);
 }
 
-/* Provides fresh random bytes. Until the device reports how many bytes it drew, all of them count
- * as drawn. */
+/* Provides fresh random bytes. All of them count as drawn until the device reports the number that
+ * it drew. */
 static bool renew(struct kept *kept, struct reason *reason) {
     if (!draws_renew(&kept->draws))
         return refuse(reason, keeping_name(&kept->keeping), NULL,

@@ -17,7 +17,7 @@ change='do HierarchyChangeAuth OWNER pw:- 6f776e'
 printf 'do Startup 0\n%s\n' "$change" >script
 printf 'do Startup 0\n%s\nbad\n' "$change" >bad
 bytes=$(awk 'BEGIN { for (n = 0; n < 256; n++) printf "\\%03o", n }')
-# shellcheck disable=SC2059 # the bytes are written as printf escapes
+# shellcheck disable=SC2059 # the bytes are printf escapes
 printf "$bytes" >entropy
 
 # The options in several positions, and their values in several forms.
@@ -33,7 +33,7 @@ run 'of the bytes 00 to ff' run --image image script
 cmp made image && echo 'which are those of a device without --entropy'
 rm image made
 
-# Only the owner may access the file, whatever the umask, and image.new is not left behind.
+# Only the owner may access the file, whatever the umask, and image.new is removed.
 (umask 000 && run 'a new device' run --image image script)
 stat -c '%n %a' image*
 chmod 666 image

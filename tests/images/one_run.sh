@@ -143,7 +143,7 @@ for kind in pipe folder device link listener folder/ missing/ missing/image ''; 
     run "the image '$kind', a script" run --image "$kind" script
     serve "the image '$kind', a served device" "$kind"
 done
-# shellcheck disable=SC2012 # the file names are known
+# shellcheck disable=SC2012 # the files have simple names
 echo "all that is there: $(ls -A | tr '\n' ' ')"
 
 # Random bytes cannot be read from a folder. They can be read from a pipe as soon as somebody writes to it.

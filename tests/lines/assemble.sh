@@ -23,7 +23,7 @@ while IFS= read -r written; do
     case $written in
     '' | '#'*) printf '%s\n' "$written" ;;
     *)
-        # shellcheck disable=SC2059 # the lines are written as printf escapes
+        # shellcheck disable=SC2059 # the lines contain printf escapes
         assembled "\"$written\"" "$(printf "$written")"
         ;;
     esac

@@ -66,7 +66,7 @@ ln -s "$tests" "$copy/tests"
 
 # on_this_path LABEL NAME..: prints the results of tests that find only the tools in that folder.
 on_this_path() {
-    # shellcheck disable=SC2123 # the tools are found there
+    # shellcheck disable=SC2123 # the tools are searched for only there
     (PATH=$room/path && played "$@")
 }
 

@@ -181,7 +181,7 @@ echo 'PolicyCommandCode Unseal' >policies/written_policies/unseal
 
 # trace NAME: writes the program's output for a script to a file.
 trace() {
-    # shellcheck disable=SC2094 # the script is another file
+    # shellcheck disable=SC2094 # the script and the output are different files
     "$program" run --trace "$(script "$1")" >"$1" 2>/dev/null
 }
 

@@ -35,6 +35,6 @@ rm disk/full
 begin 1
 talk 'a disk with room again' 4096 "$startup" "$back"
 ended 'one connection'
-# shellcheck disable=SC2012 # the file names are known
+# shellcheck disable=SC2012 # the files have simple names
 echo "on it: $(ls -A disk | tr '\n' ' ')"
 umount disk

@@ -15,7 +15,7 @@ for mask in 000 022 077; do
     echo "umask $mask: the socket is $(stat -c %A socket)"
     talk 'a connection' 4096 "$startup"
     ended 'one connection'
-    # shellcheck disable=SC2012 # the file names are known
+    # shellcheck disable=SC2012 # the files have simple names
     echo "umask $mask: the image is $(stat -c %A image), and beside it: $(ls -A | tr '\n' ' ')"
 done
 umask 000

@@ -40,7 +40,7 @@ in=21 out=41 both=61
 
 # tool WORDS..: runs one of IBM's tools, for at most ten seconds.
 tool() {
-    # shellcheck disable=SC2145 # the first word ends the name of the tool
+    # shellcheck disable=SC2145 # the first argument is the rest of the tool's name
     if timeout 10 "tss$@" >output 2>&1; then
         echo "ok: tss$*"
     else
@@ -54,7 +54,7 @@ tool() {
 refused() {
     code=$1
     shift
-    # shellcheck disable=SC2145 # the first word ends the name of the tool
+    # shellcheck disable=SC2145 # the first argument is the rest of the tool's name
     if ! timeout 10 "tss$@" >output 2>&1 && grep -q "rc $code" output; then
         echo "ok: tss$*: $code"
     else

@@ -29,7 +29,7 @@ is_good() {
     fault='dist/ has programs for Linux on x86-64 and on ARM64 alone'
     is_served || return 1
     fault="$shipped was proved of other sources than these"
-    # shellcheck disable=SC2119 # the default crate is meant
+    # shellcheck disable=SC2119 # no argument means the default crate
     is_proved sources "$(sources_checksum)" || return 1
     fault="$shipped is not the program that $proved names"
     is_proved program "$(checksum <"$shipped")" || return 1
