@@ -1,6 +1,6 @@
-# Uses a kept device on a full disk. Its journal stays unchanged. When there is space again, the device
-# continues from that state. The calling program is attached/ask.c. The disk is mounted only for this test, by
-# root or by a user who may be root in a namespace.
+# Uses a device that is kept in a folder on a full disk. Its journal stays unchanged. When there is space again,
+# the device continues from that state. The calling program is attached/ask.c. The disk is mounted only for this
+# test, by root or by a user who may be root in a namespace.
 if [ -z "${own_mounts:-}" ]; then
     for user in '' '--user --map-root-user'; do
         # shellcheck disable=SC2086 # word splitting is intended

@@ -21,7 +21,7 @@ ask() {
     echo "$label: status $status, $(tail -n 1 "$room/asked")"
 }
 
-# Makes a kept device in the folder `state`, and starts it.
+# Makes a device in the folder `state`, and starts it.
 renew() {
     rm -rf state
     timeout 10 "$room/ask" state=state "$startup" >"$room/asked" || echo 'there is no state'

@@ -1,5 +1,5 @@
-/* A layer between the parts of a kept device and the C library, linked with --wrap. The call with a
- * chosen number fails or transfers half of its bytes, or the process is killed before it. */
+/* A layer between the host in C and the C library, linked with --wrap. The call with a chosen
+ * number fails or transfers half of its bytes, or the process is killed before it. */
 #ifndef CALLS_H
 #define CALLS_H
 #include "common.h"

@@ -1,4 +1,4 @@
-/* Functions that the test programs of the kept device share. */
+/* Functions that the test programs of the host in C share. */
 #ifndef COMMON_H
 #define COMMON_H
 #define _GNU_SOURCE

@@ -1,10 +1,11 @@
-/* Replaces the functions of the C library with which a host of a kept device accesses its folder,
- * the clock, random bytes and memory. One call, chosen by its number, has one of the faults below.
- * LD_PRELOAD loads this library. The environment variable FAILING is `NUMBER ACT ERROR REPORT`. A
- * program with a host in the same process calls failing_begins instead, and failing_goes_on before
- * and after the calls that count. The name of the call with the fault is written to the file
- * REPORT. If FAILING_CLOCK is set, the clock jumps by at most a day. If FAILING_IN is set, a call
- * counts only if it is on a path in this folder or on an open file there. */
+/* Replaces the functions of the C library with which a host (a program or module that keeps a
+ * device in a folder) accesses the folder, the clock, random bytes and memory. One call, chosen by
+ * its number, has one of the faults below. LD_PRELOAD loads this library. The environment variable
+ * FAILING is `NUMBER ACT ERROR REPORT`. A program with a host in the same process calls
+ * failing_begins instead, and failing_goes_on before and after the calls that count. The name of
+ * the call with the fault is written to the file REPORT. If FAILING_CLOCK is set, the clock jumps
+ * by at most a day. If FAILING_IN is set, a call counts only if it is on a path in this folder or
+ * on an open file there. */
 #define _GNU_SOURCE
 #include <errno.h>
 #include <fcntl.h>

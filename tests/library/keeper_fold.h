@@ -38,8 +38,8 @@ static inline uint64_t number_at(const uint8_t *at, int size) {
     return number;
 }
 
-/* Writes the head of the journal for the new device of a seed, and returns its size, or 0 if the
- * seed is invalid. */
+/* Writes the head of the journal for a new device that is made from a seed, and returns its size,
+ * or 0 if the seed is invalid. */
 static inline size_t head_of_seed(const uint8_t *seed, size_t size) {
     tpmsim_ask ask = {0};
     tpmsim_keeper keeper = {0};

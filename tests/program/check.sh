@@ -1,5 +1,5 @@
-# Checks the output of `tpmsim check` for scripts: the number of each bad line, its fault and column, and what
-# is expected there (docs/SCRIPTS.md, docs/LINES.md). Each tested line is between two good ones. Lines are
+# Checks the output of `tpmsim check` for scripts: the number of each invalid line, its fault and column, and
+# what is expected there (docs/SCRIPTS.md, docs/LINES.md). Each tested line is between two valid ones. Lines are
 # written and printed with the escapes of printf.
 tests=$(cd "$(dirname "$0")/.." && pwd -P)
 . "$tests/common/cases.sh"
@@ -119,7 +119,7 @@ wait 1
 END
 run 'waits' check script
 
-# Each bad line is reported with its number, even after lines that are too long.
+# Each invalid line is reported with its number, even after lines that are too long.
 {
     printf 'bad\n%s\n' "$startup"
     printf '#%065535d\n#%065536d\n' 0 0

@@ -64,7 +64,7 @@ answered 'a line in pieces'
 exec 3>&-
 ended 'the end'
 
-# A bad line ends the program, although the pipe is still open.
+# An invalid line ends the program, although the pipe is still open.
 begin -
 give "$startup\n"
 answered 'a line'

@@ -1,5 +1,5 @@
 # `replay` executes the commands of a journal or a log again. It prints the same traces and responses as `run
-# --trace` did the first time. An incomplete last entry is ignored, since its command was not answered. If the
+# --trace` did the first time. An incomplete last entry is ignored, because its command was not answered. If the
 # text is damaged, or a response differs, the fault names the first line of the entry.
 tests=$(cd "$(dirname "$0")/.." && pwd -P)
 . "$tests/common/cases.sh"
