@@ -55,8 +55,8 @@ faults_of_library() {
     done
 }
 
-# Prints the faults of dist/aarch64, if it exists. They are not built again either: the checksums of the files
-# must be those in dist/aarch64/PROVED, and they must be built from the current sources.
+# Prints the faults of dist/aarch64, if it exists. The files there are not built again either. Their checksums
+# must be those in dist/aarch64/PROVED, and they must have been built from the current sources.
 faults_of_aarch64() (
     ship aarch64
     [ -d "$distribution" ] || return 0
