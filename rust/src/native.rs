@@ -138,8 +138,8 @@ impl Native {
         };
         let mut room = [0; RESPONSE_BYTES];
         let mut answered = Answered::default();
-        // SAFETY: the handle is one of the library; `buffer` has its size, `random` 256 bytes and `room`
-        // 4,096; and none of these overlap.
+        // SAFETY: the handle is one of the library; `buffer` has its size, `random` 256 bytes and
+        // `room` 4,096; and none of these overlap.
         let done = unsafe {
             call(
                 &mut self.0,
