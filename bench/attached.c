@@ -1,6 +1,6 @@
 /* Executes one command COUNT times through libtss2's loader, and prints the minimum and the median
- * time in microseconds: `attached TCTI COMMAND COUNT`. The command `open` loads and unloads the
- * transport. */
+ * time in microseconds. The usage is `attached TCTI COMMAND COUNT`. The command `open` loads and
+ * unloads the TCTI instead. */
 #define _GNU_SOURCE
 #include <stdio.h>
 #include <stdlib.h>
@@ -12,8 +12,8 @@ static const char STARTUP[] = "80010000000c000001440000";
 static const char DEFINE[] = "80020000002d0000012a40000001000000094000000900000000000000"
                              "000e01500020000b0006000600000040";
 
-/* The commands: the name; the bytes before the filling, in hex; the size of the filling, whose
- * first byte differs each time; and the bytes after the filling, in hex. */
+/* The commands: the name; the first bytes, in hex; the size of a filling that follows, whose first
+ * byte differs each time; and the last bytes, in hex. */
 static const struct {
     const char *name, *front;
     size_t filling;
@@ -47,8 +47,8 @@ static size_t read_hex(const char *text, uint8_t *buffer) {
     return size;
 }
 
-/* Writes a command to `buffer`, and the offset of its filling to `filling`. If there is no filling,
-   the offset is the command's end. Returns the command's size. */
+/* Writes a command to `buffer`, and the offset of its filling to `filling`. Without a filling, the
+   offset is the end of the command. Returns the command's size. */
 static size_t command_of(const char *name, uint8_t *buffer, size_t *filling) {
     for (size_t i = 0; i < sizeof COMMANDS / sizeof *COMMANDS; i++) {
         if (strcmp(name, COMMANDS[i].name) != 0) continue;

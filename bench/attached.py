@@ -1,9 +1,10 @@
-"""Measures a kept device, through the module for libtss2, and swtpm, and prints tables:
+"""Compares a device in a folder, used through the module for libtss2, with swtpm, and prints
+tables:
 
     tools/python.sh bench/attached.py MODULE CLIENT DISK [ROUNDS]
 
-MODULE is the module, CLIENT a program built from attached.c, and DISK a folder on a disk. Each round
-measures every transport in turn. Figures are the minimum and, in brackets, the median.
+MODULE is the module, CLIENT a program built from attached.c, and DISK a folder on a disk. Each
+round measures each TCTI in turn. Figures are the minimum and, in brackets, the median.
 """
 
 import itertools
@@ -64,7 +65,7 @@ class Swtpm:
 
 
 def run(words: list[str], transport: str) -> None:
-    """Runs a tool of tpm2-tools, which must succeed."""
+    """Runs one of tpm2-tools, which must succeed."""
     environment = os.environ | {"TPM2TOOLS_TCTI": transport}
     nowhere = subprocess.DEVNULL
     subprocess.run(words, env=environment, check=True, stdout=nowhere, stderr=nowhere)
@@ -90,7 +91,7 @@ def asked(client: str, command: str, count: int, transport: str) -> list[float]:
 def measure_each(
     label: str, ways: dict[str, str], rounds: int, tasks: dict[str, Callable[[str], list[float]]]
 ) -> None:
-    """Prints a table with the time of each task for each transport."""
+    """Prints a table with the time of each task for each TCTI."""
     print(f"\n| {label} | " + " | ".join(ways) + " |")
     print("|---" * (len(ways) + 1) + "|")
     for name, task in tasks.items():

@@ -9,9 +9,9 @@ COUNT times.
     bench/commands.py nv NAME SIZE INDICES COUNT  read, write or increment of the first of INDICES
                                                   indices, each of SIZE bytes
 
-tools/python.sh runs it. Commands without a session use a password. An object or a session that a
-command makes is flushed. With sessions, all commands get the same random bytes. The device
-therefore always draws the same nonce, and accepts the same prepared buffer each time.
+tools/python.sh runs it. Commands without a session use a password. If a command makes an object or
+a session, the script flushes it. In scripts with sessions, all commands get the same random bytes,
+so that the device always draws the same nonce, and accepts the same prepared buffer each time.
 """
 
 import sys
@@ -54,7 +54,7 @@ PLAIN = {
 
 
 def in_hex(lines):
-    """Returns lines with their buffers in hex."""
+    """Returns script lines with their commands in hex."""
     buffers = map(buffer_of, lines)
     return [it if data is None else line_in_bytes(data) for it, data in zip(lines, buffers)]
 

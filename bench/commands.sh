@@ -1,12 +1,12 @@
 #!/bin/sh
 # Counts the instructions that a command spends on each part of its work, for twelve commands. It runs a short
-# and a long script under callgrind and subtracts the counts, so that start and end do not count. Needs
-# valgrind, python3, and rt if the program is not built yet. Not part of the gate.
+# and a long script under callgrind and subtracts the counts, so that the start and the end of the program are
+# not counted. Needs valgrind, python3, and rt if tpmsim is not built yet. Not part of the gate.
 #
-# The device's instructions are those of `Machine::execute_into` and of everything that it calls; the other
-# instructions read and print the script's text. Of the device's instructions, those in the hash crates,
-# tpm_mac and tpm_aes count as hashing and ciphers, and those in the C library as clearing and copying.
-# Inlined code counts as part of the function into which it is inlined.
+# The device's instructions are those of `Machine::execute_into` and of everything that it calls. The other
+# instructions read the script and print the responses. Of the device's instructions, those in the hash crates,
+# tpm_mac and tpm_aes count as hashing and ciphers, and those in the C library as clearing and copying. Inlined
+# code counts as part of the function into which it is inlined.
 set -eu
 
 top=$(CDPATH='' cd "$(dirname "$0")/.." && pwd -P)

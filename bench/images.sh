@@ -1,10 +1,10 @@
 #!/bin/sh
 # Measures opening and saving the image of a full device (sixteen persistent objects, 64 NV indices of 16,384
 # bytes, a saved state): the microseconds of the fastest of ten runs and, with callgrind, the instructions per
-# byte of the image. It subtracts the figures of two runs, so that start and end do not count. Then it counts
-# the instructions of a TPM2_GetCapability line that lists all commands. Needs GNU time, valgrind, python3,
-# and rt, which builds a small program on the crates that are built here. It works in a temporary folder. Not
-# part of the gate.
+# byte of the image. It subtracts the figures of two runs, so that the start and the end of the program are not
+# counted. Then it counts the instructions of a TPM2_GetCapability line that lists all commands. Needs GNU time,
+# valgrind, python3, and rt, which builds a small program with the crates that are built here. It works in a
+# temporary folder. Not part of the gate.
 set -eu
 
 top=$(CDPATH='' cd "$(dirname "$0")/.." && pwd -P)
@@ -14,7 +14,7 @@ trap 'rm -rf "$folder"' EXIT
 
 (cd "$top/crates/tpm_image" && rt lib >"$folder/build" 2>&1) || { cat "$folder/build"; exit 1; }
 
-# The crates of this repository that tpm_image uses, and tpm_image itself.
+# Lists tpm_image and the crates of this repository that it uses.
 crates=$(awk -F: '
     function visit(crate, i, count, names) {
         if (!(crate in uses) || crate in needed) return
@@ -98,13 +98,13 @@ measured=$folder/crates/measured/out/measured
     >"$folder/image"
 bytes=$((($(wc -c <"$folder/image") - 1) / 2))
 
-# input WORD LINES: prints the program's input: the image, followed by LINES lines with the word.
+# input WORD LINES: prints the input for the small program: the image, followed by LINES lines with the word.
 input() {
     cat "$folder/image"
     awk -v word="$1" -v lines="$2" 'BEGIN { for (i = 0; i < lines; i++) print word }'
 }
 
-# instructions WORD LINES: prints the number of instructions for LINES lines of the word.
+# instructions WORD LINES: prints the number of instructions for LINES lines with the word.
 instructions() {
     input "$1" "$2" >"$folder/input"
     valgrind --tool=callgrind --callgrind-out-file=/dev/null "$measured" \
@@ -112,7 +112,7 @@ instructions() {
     [ "$(cat "$folder/output")" -eq $((32 * $2)) ] || echo "$0: not each $1 was done" >&2
 }
 
-# seconds WORD LINES: prints the time of the fastest of ten runs.
+# seconds WORD LINES: prints the time of the fastest of ten runs with LINES lines of the word.
 seconds() {
     input "$1" "$2" >"$folder/input"
     for _ in 1 2 3 4 5 6 7 8 9 10; do

@@ -1,5 +1,5 @@
-/* Executes commands on a device of libtpms and on devices of libtpmsim in one process, which
- * in_process.py measures. It reads lines:
+/* Executes commands on a device of libtpms and on devices of libtpmsim in one process, for the
+ * measurements of in_process.py. It reads lines:
  *
  *     use DEVICE                      selects the device of the following lines
  *     cmd HEX                         prints the response
@@ -120,7 +120,7 @@ static void start_libtpms(void) {
         fail("libtpms does not start");
 }
 
-/* The device of libtpmsim, and the arguments of its calls. */
+/* The device of libtpmsim, and buffers for the arguments of its calls. */
 static struct tpmsim device;
 static uint8_t random_bytes[RANDOM_BYTES], room[RESPONSE_BYTES];
 static uint64_t last_ms;
@@ -197,7 +197,7 @@ static void time_commands(char *words) {
 }
 
 /* TPM2_PCR_Reset of PCR 16, authorized by an HMAC session with an empty key and nonces of 16 bytes.
- * The time in which the caller computes its HMAC does not count. */
+ * The time in which the caller computes its HMAC is not counted. */
 enum { RESET_BYTES = 75, NONCE = 16, CALLER_NONCE_AT = 24, HMAC_AT = 43, TPM_NONCE_AT = 16 };
 
 static void authorize(unsigned char *buffer, const unsigned char *tpm_nonce) {

@@ -1,4 +1,4 @@
-"""Measures libtpmsim and libtpms, both in one process, and prints a table:
+"""Compares libtpmsim with libtpms, both in one process, and prints a table:
 
     tools/python.sh bench/in_process.py PROGRAM [ROUNDS]
 
@@ -32,7 +32,7 @@ BOUND = f"StartAuthSession NULL OWNER {'00' * 32} - 0 null sha256"
 BY_SESSION = "PCR_Reset by an HMAC session"
 PARENT, KEY, LOADED = "80000000", "80000001", "80000002"
 
-# TPM2_PCR_Allocate, which selects only the banks that libtpmsim has, SHA-1 and SHA-256.
+# TPM2_PCR_Allocate of only the banks that libtpmsim has: SHA-1 and SHA-256.
 BANKS = "00000004000403ffffff000b03ffffff000c03000000000d03000000"
 ALLOCATE = f"8002000000370000012b4000000c00000009400000090000000000{BANKS}"
 
@@ -84,7 +84,7 @@ class Program:
         return response
 
     def load(self, public: Public) -> str:
-        """Returns a command that loads a new object under the storage key."""
+        """Returns a command that loads a new child of the storage key."""
         fields = Fields(bytes.fromhex(self.command(create(public)))[14:])
         made = Made(fields.sized(), Public.read(fields.sized()), b"")
         return PREPARING.loading(int(PARENT, 16), made).buffer().hex()
@@ -123,8 +123,8 @@ def in_words(name: str, count: int, *commands: str, times_each: int = 1) -> Row:
 
 
 def prepare(program: Program, target: str) -> str:
-    """Prepares a device for the rows. Returns the line that seals data, which differs between the
-    devices.
+    """Prepares a device for the measurements. Returns the line that seals data, which differs
+    between the devices.
     """
     program.tell(f"use {target}")
     for words in PREPARED:
@@ -154,8 +154,7 @@ def rows(seals: dict[str, str]) -> list[Row]:
 
 
 def next_session(program: Program, target: str) -> str:
-    """Starts an HMAC session, and returns the `session` line with the session's handle and nonce.
-    """
+    """Starts an HMAC session. Returns the line `session` with the session's handle and nonce."""
     program.tell(f"use {target}")
     session = program.command(hex_of(SESSION.format(0)))
     return f"session {session[20:28]} {session[32:64]}"
@@ -198,7 +197,7 @@ def print_call(program: Program, rounds: int, call: str, count: int) -> None:
 
 
 def prepare_all(program: Program) -> dict[str, str]:
-    """Prepares both devices; returns for each target the line that seals."""
+    """Prepares both devices. Returns the line that seals data on each of them."""
     program.tell("use tpms")
     for buffer in hex_of("Startup 0"), ALLOCATE, hex_of("Shutdown 0"):
         program.command(buffer)

@@ -1,8 +1,8 @@
 #!/bin/sh
-# Measures the library and libtpms, both in one process: ten rows of commands, with their ratios; the time of
-# a save, an open, a new device and a power cycle; and the stack and memory that the calls use. Needs python3,
-# a C compiler, Debian's libtpms-dev and libssl-dev, and the library in dist/. in_process.c contains the
-# devices, and in_process.py takes the measurements. Not part of the gate.
+# Compares the library with libtpms, both in one process: ten measurements of commands, with their ratios; the
+# time to save and open an image, to make a device and to cycle its power; and the stack and memory that the
+# calls use. Needs python3, a C compiler, Debian's libtpms-dev and libssl-dev, and the library in dist/.
+# in_process.c contains the devices, and in_process.py takes the measurements. Not part of the gate.
 #
 #   bench/in_process.sh [ROUNDS]
 set -eu

@@ -2,9 +2,9 @@
 
     tools/python.sh bench/instructions.py PROGRAM FOLDER
 
-PROGRAM is built from in_process.c, and runs under callgrind; FOLDER is for its files. A figure is the
-mean over the executions of a row. The last two columns leave out digests and ciphers: the functions of
-libcrypto in libtpms, and those of the crates sha1, sha2 and tpm_aes in libtpmsim.
+PROGRAM is built from in_process.c, and runs under callgrind; FOLDER is for its files. A figure is
+the mean over the executions of a row. The last two columns exclude digests and ciphers: the
+functions of libcrypto in libtpms, and those of the crates sha1, sha2 and tpm_aes in libtpmsim.
 """
 
 import re
@@ -24,13 +24,15 @@ CALLGRIND = (
     " --zero-before=time_session --dump-after=time_commands --dump-after=time_session"
 )
 
-# A line of callgrind_annotate: a count, and a function or the words for the sum of all.
+# A line of callgrind_annotate: a count, and a function or the words for the total.
 LINE = re.compile(r"^ *([0-9,]+) \([0-9. ]+%\) +(.*)$", re.MULTILINE)
 DIGESTS = re.compile(r":<?(sha1|sha2|tpm_aes)::|libcrypto")
 
 
 def counted(path: Path) -> tuple[int, int]:
-    """Returns two counts of instructions in a file of callgrind: all, and those outside digests."""
+    """Returns two counts of instructions in a file of callgrind: all of them, and those outside
+    digests and ciphers.
+    """
     words = "callgrind_annotate", "--threshold=100", str(path)
     done = subprocess.run(words, capture_output=True, text=True, check=True)
     counts = [(int(it[1].replace(",", "")), it[2]) for it in LINE.finditer(done.stdout)]

@@ -1,7 +1,8 @@
 #!/bin/sh
-# Counts the instructions of ten rows of commands, on the library and on libtpms, with and without digests
-# and ciphers. Needs valgrind, python3, a C compiler, Debian's libtpms-dev and libssl-dev, and the library in
-# dist/. in_process.c contains the devices, and instructions.py counts. Not part of the gate.
+# Counts the instructions of the ten measurements of in_process.sh, with the library and with libtpms, with and
+# without digests and ciphers. Needs valgrind, python3, a C compiler, Debian's libtpms-dev and libssl-dev, and
+# the library in dist/. in_process.c contains the devices, and instructions.py evaluates the counts. Not part of
+# the gate.
 set -eu
 
 top=$(CDPATH='' cd "$(dirname "$0")/.." && pwd -P)
@@ -9,8 +10,8 @@ dist=${DIST:-$top/dist}
 folder=$(mktemp -d)
 trap 'rm -rf "$folder"' EXIT
 
-# Makes the C library clear and copy large blocks with vector instructions, as it does small ones. By default
-# it uses one repeated instruction, which callgrind counts again for each byte.
+# Makes the C library clear and copy large blocks with vector instructions, like small blocks. By default it
+# uses one repeated instruction, which callgrind counts once for each byte.
 export GLIBC_TUNABLES=glibc.cpu.x86_rep_stosb_threshold=1000000:glibc.cpu.x86_rep_movsb_threshold=1000000
 
 # callgrind must see the calls of `execute`.

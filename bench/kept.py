@@ -18,10 +18,11 @@ from dataclasses import dataclass
 from pathlib import Path
 
 ROUNDS = 15
-# How often a process repeats its task: a command, or opening a device, which takes 400 times as
-# long as a command.
+# The numbers of repetitions of a task in one process: a command, or the opening of a device, which
+# takes 400 times as long.
 COMMANDS, OPENINGS = 1000, 20
-# The journal is longest after 1,500 commands. A few commands later the library restarts it.
+# The numbers of commands before the opening. After 1,500 commands the journal has almost its
+# maximum size; a few commands later, the library restarts it.
 OPENED_AFTER = 900, 1_500, 60_000
 TOOL = ["tpm2_getrandom", "-f", "--hex", "16"]
 
@@ -48,7 +49,7 @@ def run(words: list[str], transport: str) -> Cost:
 
 
 def instructions(words: list[str], transport: str) -> int:
-    """Returns the number of instructions that a program executes from its start to its end."""
+    """Returns the number of instructions that a program executes in all."""
     counting = ["valgrind", "--tool=callgrind", "--callgrind-out-file=/dev/null"]
     environment = os.environ | {"TPM2TOOLS_TCTI": transport}
     done = subprocess.run(
@@ -78,7 +79,8 @@ def measure_tool(transport: str, rounds: int) -> None:
 
 
 def elapsed_of_one(client: str, transport: str, act: str, count: int) -> float:
-    """Returns the median time of one repetition if a process repeats a task `count` times."""
+    """Returns the median time of one repetition, for a process that repeats a task `count` times.
+    """
     words = [client, transport, act, str(count)]
     output = subprocess.run(words, check=True, capture_output=True, text=True).stdout
     return float(output.split()[1])
@@ -94,8 +96,8 @@ class Act:
 
 
 def measure_act(act: Act, client: str, transport: str, rounds: int) -> None:
-    """Measures a task. The processor time and the instructions are the difference between a process
-    that repeats the task and a process that does it once.
+    """Measures a task. For the processor time and the instructions, subtracts those of a process
+    that performs the task once from those of a process that repeats it.
     """
     words = [[client, transport, act.name, str(count)] for count in (1, act.count + 1)]
     elapsed = [elapsed_of_one(client, transport, act.name, act.count) for _ in range(rounds)]

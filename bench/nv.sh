@@ -1,10 +1,10 @@
 #!/bin/sh
-# Counts the instructions of TPM2_NV_Read, TPM2_NV_Write and TPM2_NV_Increment with 1, 32 and 64 NV indices.
-# It runs a short and a long script under callgrind and subtracts the counts, so that start and end do not
-# count. Needs valgrind, python3, and rt if the program is not built yet. Not part of the gate.
+# Counts the instructions of TPM2_NV_Read, TPM2_NV_Write and TPM2_NV_Increment with 1, 32 and 64 NV indices. It
+# runs a short and a long script under callgrind and subtracts the counts, so that the start and the end of the
+# program are not counted. Needs valgrind, python3, and rt if tpmsim is not built yet. Not part of the gate.
 #
-# The device's instructions are those of `Machine::execute_into` and of everything it calls; the rest reads
-# and prints the script's text.
+# The device's instructions are those of `Machine::execute_into` and of everything that it calls. The other
+# instructions read the script and print the responses.
 set -eu
 
 top=$(CDPATH='' cd "$(dirname "$0")/.." && pwd -P)
@@ -16,7 +16,7 @@ trap 'rm -rf "$folder"' EXIT
 # uses one repeated instruction, which callgrind counts once for each byte.
 limits=glibc.cpu.x86_rep_stosb_threshold=1000000:glibc.cpu.x86_rep_movsb_threshold=1000000
 
-# counts COMMAND SIZE INDICES LINES: runs a script of LINES such commands, and prints two counts of
+# counts COMMAND SIZE INDICES LINES: runs a script with LINES commands of this kind, and prints two counts of
 # instructions: all, and those of `Machine::execute_into` with everything that it calls.
 counts() {
     "$top/tools/python.sh" "$top/bench/commands.py" nv "$@" >"$folder/script"
@@ -36,7 +36,7 @@ counts() {
         END { print all + 0, device + 0 }'
 }
 
-# measure COMMAND SIZE INDICES NAME: prints the instructions of one command.
+# measure COMMAND SIZE INDICES NAME: prints the number of instructions of one command.
 measure() {
     short=$(counts "$1" "$2" "$3" 500)
     long=$(counts "$1" "$2" "$3" 1500)

@@ -1,8 +1,8 @@
 #!/bin/sh
-# Counts the device's instructions for TPM2_NV_Write, TPM2_NV_Read and TPM2_PCR_Extend, and how many of them
-# hash. An HMAC session authorizes the commands. It is unbound, or bound to the owner or to the index. Like
-# commands.sh it subtracts the counts of a short and a long script under callgrind. Needs valgrind, python3,
-# and rt if the program is not built yet. Not part of the gate.
+# Counts the device's instructions for TPM2_NV_Write, TPM2_NV_Read and TPM2_PCR_Extend, and those of them that
+# compute hashes. An HMAC session authorizes the commands. It is unbound, or bound to the owner or to the index.
+# Like commands.sh it subtracts the counts of a short and a long script under callgrind. Needs valgrind,
+# python3, and rt if tpmsim is not built yet. Not part of the gate.
 set -eu
 
 top=$(CDPATH='' cd "$(dirname "$0")/.." && pwd -P)
@@ -35,7 +35,7 @@ counts() {
         END { print device + 0, hashes + 0 }'
 }
 
-# measure COMMAND BINDING: prints the instructions of one command.
+# measure COMMAND BINDING: prints the numbers of instructions of one command.
 measure() {
     short=$(counts "$1" "$2" 100)
     long=$(counts "$1" "$2" 300)

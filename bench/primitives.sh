@@ -1,8 +1,8 @@
 #!/bin/sh
 # Counts the instructions per byte of HMAC-SHA-256, of AES-128 in CFB mode, and of decoding and encoding hex,
-# for texts of 1,024 bytes. It subtracts the counts of two runs under callgrind, so that start and end do not
-# count. Needs rt, which proves and builds a small program, and valgrind. It works in a temporary folder and
-# removes it. Not part of the gate.
+# for texts of 1,024 bytes. It subtracts the counts of two runs under callgrind, so that the start and the end
+# of the program are not counted. Needs rt, which proves and builds a small program, and valgrind. It works in a
+# temporary folder and removes it. Not part of the gate.
 set -eu
 
 repository=$(cd "$(dirname "$0")/.." && pwd)

@@ -1,6 +1,6 @@
 #!/bin/sh
 # Measures `tpmsim run` with a short and a long script: commands per second, and the maximum resident memory.
-# Needs GNU time, and rt if the program is not built yet. Not part of the gate.
+# Needs GNU time, and rt if tpmsim is not built yet. Not part of the gate.
 set -eu
 
 top=$(CDPATH='' cd "$(dirname "$0")/.." && pwd -P)

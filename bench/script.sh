@@ -1,6 +1,6 @@
 #!/bin/sh
 # Prints the script that run.sh, shares.sh and lines.sh measure: a Startup, and then GetRandom lines for 32
-# bytes. The first argument is the number of lines. The lines are in hex or, if the second argument is `do`,
+# bytes. The first argument is the number of lines. The commands are in hex or, if the second argument is `do`,
 # in words.
 set -eu
 

@@ -2,8 +2,8 @@
 
     python3 serving.py PROGRAM BARE IMAGE
 
-PROGRAM is tpmsim. BARE is a program that only answers every twelve bytes on a socket with the
-number of bytes in a response to TPM2_GetRandom of 32 bytes. IMAGE is the image of a device."""
+PROGRAM is tpmsim. BARE is a program that reads twelve bytes at a time from a socket, and writes as
+many bytes as the response to TPM2_GetRandom of 32 bytes has. IMAGE is the image of a device."""
 
 import contextlib
 import os
@@ -48,7 +48,8 @@ def round_trip(client):
 
 @contextlib.contextmanager
 def served(words, path):
-    """Starts a program that serves a connection at a path. Yields the program and the connection.
+    """Starts a program that serves one connection on a socket. Yields the program and the
+    connection.
     """
     server = subprocess.Popen(words)
     with connected(path) as client:

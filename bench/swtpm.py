@@ -1,5 +1,5 @@
 """Measures commands over the socket of swtpm, which runs in turn with its own libtpms, with tpmsim,
-and with a tpmsim that is recorded:
+and with tpmsim while it writes a record:
 
     python3 swtpm.py ATTACHED..
 
@@ -60,7 +60,7 @@ class Tpm:
         self.done(DEFINITION)
 
     def done(self, buffer: bytes) -> None:
-        """Executes a command, which must succeed. Repeats it if libtpms requests that."""
+        """Executes a command, which must succeed. Repeats the command if libtpms requests that."""
         code = RETRY
         while code == RETRY:
             self.client.sendall(buffer)

@@ -1,4 +1,4 @@
-/* The program's arguments, for proved code. */
+/* Gives proved code access to the program's arguments. */
 #include "glue.h"
 
 /* glibc passes the arguments to each constructor, before main. Nothing changes them later. */

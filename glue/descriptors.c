@@ -1,4 +1,4 @@
-/* Sets whether a descriptor is non-blocking, for proved code. */
+/* Makes a descriptor non-blocking or blocking, for proved code. */
 #include "glue.h"
 #include <sys/ioctl.h>
 

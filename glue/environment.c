@@ -1,12 +1,12 @@
-/* The environment, for proved code. */
+/* Gives proved code access to the environment. */
 #include "glue.h"
 #include <stdlib.h>
 #include <unistd.h>
 
 extern char **environ;
 
-/* Writes a text to the beginning of a buffer, without its terminating zero. Returns the same values
-   as rattle_arg. */
+/* Writes a text to the beginning of a buffer, without its terminating zero. Returns its length, -1
+   or -2, like rattle_arg. */
 static ssize_t put(const char *text, unsigned char *buffer, size_t size) {
     if (text == NULL)
         return -1;

@@ -1,4 +1,4 @@
-/* The C library's errno, for proved code. */
+/* Gives proved code access to the C library's errno. */
 #include "glue.h"
 #include <errno.h>
 

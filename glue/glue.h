@@ -1,7 +1,7 @@
 /* The nine C functions that Rattle's libraries `libc` and `os` need in addition to the C library.
  * Proved code relies on their contracts, but no proof shows that the C code satisfies the
- * contracts. The kit contains the functions compiled for x86-64. For other machines they are built
- * from this folder. */
+ * contracts. Rattle's kit contains these functions, compiled for x86-64. For other machines they
+ * are built from this folder. */
 #ifndef GLUE_H
 #define GLUE_H
 #include <stdbool.h>
@@ -9,8 +9,8 @@
 #include <stdint.h>
 #include <sys/types.h>
 
-/* The result of an allocation: whether it succeeded, 0 or 1, and the block. After a failure the
- * block is not null, and no memory belongs to it. Proved code reads only one byte of `ok`. The
+/* The result of an allocation: whether it succeeded, 0 or 1, and the block. After a failure,
+ * `block` is a non-null address that must not be used. Proved code reads only one byte of `ok`. The
  * other bytes are zeros. */
 struct tried {
     uint64_t ok;

@@ -1,6 +1,6 @@
 /* The functions with which proved code uses the heap. They are not proved, but trusted to satisfy
- * the contracts of Rattle's library `libc`, which the comments of glue.h state in prose. The kit
- * contains them for x86-64. */
+ * the contracts of Rattle's library `libc`, which the comments of glue.h state in prose. Rattle's
+ * kit contains these functions, compiled for x86-64. */
 #include "glue.h"
 #include <stdlib.h>
 
@@ -18,7 +18,7 @@ struct tried rattle_alloc(size_t size, size_t alignment) {
 }
 
 struct tried rattle_realloc(void *block, size_t kept, size_t size, size_t alignment) {
-    (void)kept; /* realloc preserves the bytes that fit. */
+    (void)kept; /* realloc preserves all bytes that fit. */
     return tried_of(realloc(block, size != 0 ? size : alignment));
 }
 

@@ -19,7 +19,8 @@ func CodeOf(response []byte) Code {
 	return Code(binary.BigEndian.Uint32(response[headerBytes-4 : headerBytes]))
 }
 
-// Place returns the parameter, handle or session that a code is about, such as p1, h2 or s1, or an empty string.
+// Place returns the parameter, handle or session to which a code refers, such as p1, h2 or s1, or
+// an empty string.
 func (code Code) Place() string {
 	number := uint32(code) >> 8 & 0xf
 	switch {
@@ -34,7 +35,8 @@ func (code Code) Place() string {
 	}
 }
 
-// Name returns the name without its place, such as AUTH_FAIL; empty for a code that this device never returns.
+// Name returns the name without its place, such as AUTH_FAIL. It is empty for a code that this
+// device never returns.
 func (code Code) Name() string {
 	if code == Success {
 		return "SUCCESS"
@@ -67,7 +69,8 @@ type Refusal struct {
 	check   uint8
 }
 
-// Check returns the check that refused the command, such as G9, as traces and docs/table name it.
+// Check returns the check that refused the command, by its name in traces and in docs/table, such
+// as G9.
 func (it *Refusal) Check() string {
 	switch {
 	case it.check == 255:

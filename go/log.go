@@ -48,15 +48,15 @@ func (tpm *TPM) beginLog() error {
 	return nil
 }
 
-// BeginLog starts a log from the current state of the device. Before that, no log is kept.
+// BeginLog starts a log from the current state of the device. Without this call, there is no log.
 func (tpm *TPM) BeginLog() error {
 	tpm.lock.Lock()
 	defer tpm.lock.Unlock()
 	return tpm.beginLog()
 }
 
-// Log returns the log, a script with the responses as comments. tpmsim-explain reports why each command in it
-// was refused. It is empty without BeginLog. It contains all secrets.
+// Log returns the log, a script with the responses as comments. tpmsim-explain reports why each
+// command in it was refused. The log is empty without BeginLog. It contains all secrets.
 func (tpm *TPM) Log() string {
 	tpm.lock.Lock()
 	defer tpm.lock.Unlock()

@@ -17,7 +17,7 @@ const (
 	responseBytes = 4096
 )
 
-// The faults of images and of state texts, in the order of the header's numbers.
+// The faults of images and of state texts, in the order of their numbers in the header.
 var faults = []string{
 	"there are fewer than 42 bytes",
 	"they begin otherwise",
@@ -27,7 +27,8 @@ var faults = []string{
 	"they spell no state",
 }
 
-// native is a handle of the library, in Go's memory; it contains only a pointer to C memory, or none.
+// native is a handle of the library. It is in Go's memory, and contains only a pointer to C memory,
+// which may be null.
 type native struct{ holder C.tpmsim }
 
 // outcome is the result of a command.
@@ -62,7 +63,8 @@ func (it *native) restore(text []byte) error {
 	return fault(int(told), C.TPMSIM_STATE_SHORT, ErrState)
 }
 
-// execute executes a command. The caller ensures that there is a device and that the locality is valid.
+// execute executes a command. The caller ensures that there is a device and that the locality is
+// valid.
 func (it *native) execute(command []byte, locality uint8, elapsed uint32,
 	random *[randomBytes]byte, completes bool) outcome {
 	var answered C.tpmsim_answered
@@ -92,7 +94,7 @@ func (it *native) stateText() []byte {
 	return text[:C.tpmsim_snapshot(&it.holder, front(text), C.size_t(len(text)))]
 }
 
-// front returns a pointer to the first byte, which is never nil.
+// front returns a pointer to the first of these bytes. The pointer is never nil.
 func front(bytes []byte) *C.uint8_t {
 	if len(bytes) == 0 {
 		bytes = []byte{0}
@@ -100,7 +102,8 @@ func front(bytes []byte) *C.uint8_t {
 	return (*C.uint8_t)(unsafe.Pointer(&bytes[0]))
 }
 
-// fault converts the result of a call that reads a text; first is the number of the first fault that it checks.
+// fault converts the return code of a call that reads a text. first is the code of the first fault
+// for which the call checks.
 func fault(told, first int, of error) error {
 	switch at := told - first; {
 	case told == C.TPMSIM_DONE:

@@ -6,8 +6,8 @@ import (
 	"strconv"
 )
 
-// source provides random bytes, from a seed or from the system. System bytes that no command has drawn are
-// used again.
+// source provides random bytes, from a seed or from the system. The next command gets those system
+// bytes again that no command has drawn.
 type source struct {
 	seeded bool
 	seed   []byte
@@ -15,7 +15,7 @@ type source struct {
 	bytes  [randomBytes]byte
 }
 
-// drawn fills bytes with random bytes of the system.
+// drawn fills a buffer with the system's random bytes.
 func drawn(bytes []byte) error {
 	if _, err := rand.Read(bytes); err != nil {
 		return fmt.Errorf("%w: %v", ErrRandom, err)
@@ -30,7 +30,7 @@ func (it *source) begin() error {
 	return drawn(it.bytes[:])
 }
 
-// ofNewDevice returns the bytes from which a new device is made.
+// ofNewDevice returns the random bytes from which a new device derives its seeds and proofs.
 func (it *source) ofNewDevice() (*[randomBytes]byte, error) {
 	if it.seeded {
 		bytes := shake256(it.seed)

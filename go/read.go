@@ -2,7 +2,8 @@ package tpmsim
 
 import "io"
 
-// Read reads the response to the command that Write executed; it returns io.EOF after the end.
+// Read reads the response to the command that Write executed. After the end of the response it
+// returns io.EOF.
 func (tpm *TPM) Read(buffer []byte) (int, error) {
 	tpm.lock.Lock()
 	defer tpm.lock.Unlock()

@@ -2,7 +2,7 @@ package tpmsim
 
 import "math/bits"
 
-// roundConstants are those of Keccak-f of 1,600 bits (FIPS 202).
+// roundConstants are the round constants of Keccak-f[1600] (FIPS 202).
 var roundConstants = [24]uint64{
 	0x0000000000000001, 0x0000000000008082, 0x800000000000808a,
 	0x8000000080008000, 0x000000000000808b, 0x0000000080000001,
@@ -14,7 +14,8 @@ var roundConstants = [24]uint64{
 	0x8000000000008080, 0x0000000080000001, 0x8000000080008008,
 }
 
-// moves are the steps rho and pi, lane by lane: the target of each lane, and the number of bits of its rotation.
+// moves contains the steps rho and pi, lane by lane: the target of each lane, and the number of
+// bits by which it is rotated.
 var moves = [24]struct{ target, bits int }{
 	{10, 1}, {7, 3}, {11, 6}, {17, 10}, {18, 15}, {3, 21},
 	{5, 28}, {16, 36}, {8, 45}, {21, 55}, {24, 2}, {4, 14},
@@ -27,7 +28,7 @@ const rate = 136
 
 type lanes [25]uint64
 
-// mixColumns is the step theta.
+// mixColumns performs the step theta.
 func (it *lanes) mixColumns() {
 	var parity [5]uint64
 	for at, lane := range it {
@@ -38,7 +39,7 @@ func (it *lanes) mixColumns() {
 	}
 }
 
-// moveLanes are the steps rho and pi.
+// moveLanes performs the steps rho and pi.
 func (it *lanes) moveLanes() {
 	moved := it[1]
 	for _, move := range moves {
@@ -46,7 +47,7 @@ func (it *lanes) moveLanes() {
 	}
 }
 
-// mixRows is the step chi.
+// mixRows performs the step chi.
 func (it *lanes) mixRows() {
 	before := *it
 	for at := range it {
@@ -64,12 +65,12 @@ func (it *lanes) permute() {
 	}
 }
 
-// add adds a byte at an offset.
+// add adds a byte to the state at an offset.
 func (it *lanes) add(at int, value byte) {
 	it[at/8] ^= uint64(value) << (at % 8 * 8)
 }
 
-// shake256 returns the first 256 bytes of SHAKE256 of a text.
+// shake256 returns the first 256 bytes of the SHAKE256 output for a text.
 func shake256(text []byte) (out [randomBytes]byte) {
 	var state lanes
 	for at, value := range text {

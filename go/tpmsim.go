@@ -1,17 +1,18 @@
 // Package tpmsim is a TPM 2.0 in your process, for tests.
 //
-//	tpm, err := tpmsim.Open()
-//	if err != nil {
-//		return err
-//	}
-//	defer tpm.Close()
-//	response, err := tpm.Send(command)
+// 	tpm, err := tpmsim.Open()
+// 	if err != nil {
+// 		return err
+// 	}
+// 	defer tpm.Close()
+// 	response, err := tpm.Send(command)
 //
-// A TPM is made by libtpmsim, which is linked statically and proved to respond as its specification says.
-// Each test has its own TPM: TPMs share no file, lock or variable. A TPM has the methods of go-tpm's
-// transport.TPMCloser, and of the simulator of go-tpm-tools.
+// A TPM is implemented by libtpmsim, which is linked statically, and proved to respond as its
+// specification requires. Each test has its own TPM: TPMs share no file, lock or variable. A TPM
+// has the methods of go-tpm's transport.TPMCloser, and of the simulator of go-tpm-tools.
 //
-// It needs cgo, on Linux on amd64 or arm64. CGO_LDFLAGS=-LFOLDER selects another folder with libtpmsim.a.
+// It needs cgo, on Linux on amd64 or arm64. CGO_LDFLAGS=-LFOLDER selects another folder with
+// libtpmsim.a.
 package tpmsim
 
 import (
@@ -47,8 +48,8 @@ const (
 	lastWait     = 1<<32 - 1
 )
 
-// A TPM is a device in this process. Several goroutines may use it: their commands are executed one after
-// another.
+// A TPM is a device in this process. Several goroutines may use it: their commands are executed one
+// after another.
 type TPM struct {
 	lock      sync.Mutex
 	native    native
@@ -61,7 +62,7 @@ type TPM struct {
 	response  []byte // what Read has not read yet
 }
 
-// An Option of Open.
+// An Option is an argument of Open.
 type Option func(*opening)
 
 type opening struct {
@@ -70,8 +71,8 @@ type opening struct {
 	image []byte
 }
 
-// WithSeed derives all secrets and random bytes of the TPM from a seed, so that they are the same in each run.
-// A device in Python or Rust with the same seed is the same device.
+// WithSeed derives all secrets and random bytes of the TPM from a seed, so that they are the same
+// in each run. In Python and Rust, the same seed results in the same device.
 func WithSeed(seed []byte) Option {
 	return func(it *opening) { it.seed = append([]byte{}, seed...) }
 }
@@ -86,8 +87,8 @@ func WithoutStartup() Option {
 	return func(it *opening) { it.tpm.starts = false }
 }
 
-// WithCompletion puts the completing layer above the device, which answers saved contexts and other things
-// that the device by design does not.
+// WithCompletion puts the completing layer above the device, which answers commands on saved
+// contexts, and other commands that the device by design does not support.
 func WithCompletion() Option {
 	return func(it *opening) { it.tpm.completes = true }
 }
@@ -132,7 +133,7 @@ func (tpm *TPM) manufacture() error {
 	return tpm.native.manufacture(random)
 }
 
-// started executes TPM2_Startup(CLEAR), unless the caller has taken that over.
+// started executes TPM2_Startup(CLEAR), unless the option WithoutStartup is set.
 func (tpm *TPM) started() error {
 	if !tpm.starts {
 		return nil
@@ -141,7 +142,8 @@ func (tpm *TPM) started() error {
 	return err
 }
 
-// execute executes a command, and replaces the random bytes that it drew. The caller must hold the lock.
+// execute executes a command, and replaces the random bytes that it drew. The caller must hold the
+// lock.
 func (tpm *TPM) execute(command []byte) (outcome, error) {
 	if !tpm.native.isThere() {
 		return outcome{}, ErrClosed
@@ -171,8 +173,8 @@ func (tpm *TPM) accepted(command []byte) ([]byte, error) {
 	return told.response[headerBytes:], nil
 }
 
-// Send executes a command, whatever its bytes are, and returns the response. A refused command also has a
-// response.
+// Send executes a command, whatever its bytes are, and returns the response. A refused command also
+// has a response.
 func (tpm *TPM) Send(command []byte) ([]byte, error) {
 	tpm.lock.Lock()
 	defer tpm.lock.Unlock()
@@ -180,8 +182,8 @@ func (tpm *TPM) Send(command []byte) ([]byte, error) {
 	return told.response, err
 }
 
-// Execute executes a command, and returns the bytes after the header of the response. If the command is
-// refused, the error is a *Refusal.
+// Execute executes a command, and returns the bytes after the header of the response. If the
+// command is refused, the error is a *Refusal.
 func (tpm *TPM) Execute(command []byte) ([]byte, error) {
 	tpm.lock.Lock()
 	defer tpm.lock.Unlock()
@@ -218,13 +220,14 @@ func (tpm *TPM) IsClosed() bool {
 	return !tpm.native.isThere()
 }
 
-// Reset restarts the TPM as a reboot of its computer would: TPM2_Shutdown(CLEAR) if it is started, a power cycle,
-// and TPM2_Startup(CLEAR).
+// Reset restarts the TPM as a reboot of its computer would: TPM2_Shutdown(CLEAR) if it is started,
+// a power cycle, and TPM2_Startup(CLEAR).
 func (tpm *TPM) Reset() error {
 	return tpm.restart((*TPM).cycle)
 }
 
-// ManufactureReset restarts with a new device; with a seed, the new device is the same as the first one.
+// ManufactureReset restarts with a new device. If there is a seed, the new device is the same as
+// the first one.
 func (tpm *TPM) ManufactureReset() error {
 	return tpm.restart(func(tpm *TPM) error {
 		if err := tpm.manufacture(); err != nil {
@@ -260,7 +263,7 @@ func (tpm *TPM) cycle() error {
 	return nil
 }
 
-// PowerCycle power-cycles the device without TPM2_Shutdown: the device then expects TPM2_Startup.
+// PowerCycle power-cycles the device without TPM2_Shutdown. The device then expects TPM2_Startup.
 func (tpm *TPM) PowerCycle() error {
 	tpm.lock.Lock()
 	defer tpm.lock.Unlock()
@@ -279,8 +282,8 @@ func (tpm *TPM) SetLocality(locality int) error {
 	return nil
 }
 
-// Wait lets time pass before the next command, in whole milliseconds. It returns at once, since the caller sets
-// the time of a device.
+// Wait lets time pass before the next command, in whole milliseconds. The call returns at once: it
+// only advances the device's time.
 func (tpm *TPM) Wait(duration time.Duration) error {
 	tpm.lock.Lock()
 	defer tpm.lock.Unlock()
@@ -293,13 +296,15 @@ func (tpm *TPM) Wait(duration time.Duration) error {
 	return nil
 }
 
-// Save returns the image: what the device keeps without power, which WithImage opens.
+// Save returns the image, which contains everything that the device keeps without power. WithImage
+// opens it.
 func (tpm *TPM) Save() ([]byte, error) {
 	return tpm.written((*native).image)
 }
 
-// Snapshot returns the state text: the whole state, with sessions, objects, PCRs and times. It contains all
-// secrets in the clear. It does not contain the locality, or elapsed time that no command has followed yet.
+// Snapshot returns the state text: the whole state, with sessions, objects, PCRs and times. It
+// contains all secrets in plain text. It does not contain the locality, nor the time that has
+// elapsed since the last command.
 func (tpm *TPM) Snapshot() ([]byte, error) {
 	return tpm.written((*native).stateText)
 }
@@ -313,8 +318,8 @@ func (tpm *TPM) written(text func(*native) []byte) ([]byte, error) {
 	return text(&tpm.native), nil
 }
 
-// Restore replaces the state by that of a state text, of any device in any process. Other bytes
-// change nothing. The log restarts.
+// Restore replaces the state with that in a state text, which may come from any device in any
+// process. If the bytes are not a state text, nothing changes. The log restarts.
 func (tpm *TPM) Restore(text []byte) error {
 	tpm.lock.Lock()
 	defer tpm.lock.Unlock()

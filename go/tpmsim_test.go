@@ -44,7 +44,7 @@ func open(t *testing.T, options ...Option) *TPM {
 	return tpm
 }
 
-// command returns a command without sessions: its code, and the bytes after the header.
+// command returns a command without sessions. rest contains the bytes after the header.
 func command(code uint32, rest ...byte) []byte {
 	text := binary.BigEndian.AppendUint32([]byte{0x80, 1}, uint32(10+len(rest)))
 	return append(binary.BigEndian.AppendUint32(text, code), rest...)
@@ -52,7 +52,8 @@ func command(code uint32, rest ...byte) []byte {
 
 func getRandom(count byte) []byte { return command(0x17b, 0, count) }
 
-// flush is TPM2_FlushContext of the first HMAC session, and startSession the command that starts the session.
+// flush returns TPM2_FlushContext of the first HMAC session, and startSession returns the command
+// that starts that session.
 func flush() []byte { return command(0x165, 2, 0, 0, 0) }
 
 func startSession() []byte {
@@ -97,7 +98,7 @@ func wantRefusal(t *testing.T, err error, wanted string) {
 	}
 }
 
-// clock returns the time since power-on.
+// clock returns the device's time since power-on.
 func clock(t *testing.T, tpm *TPM) time.Duration {
 	t.Helper()
 	answer := accept(t, tpm, command(0x181))
@@ -187,7 +188,7 @@ func TestResets(t *testing.T) {
 	wantRefusal(t, err, "FlushContext: HANDLE/p1 (1CB), by A2")
 	same, err := tpm.Save()
 	succeed(t, err)
-	// The seeds of the hierarchies belong to the device: they are at the front of an image.
+	// The first fields of an image are the seeds of the hierarchies, which differ between devices.
 	if !bytes.Equal(image[10:80], same[10:80]) {
 		t.Error("it is another device")
 	}
@@ -321,8 +322,9 @@ func TestSHAKE256(t *testing.T) {
 	}
 }
 
-// A thousand devices, each in its own goroutine, take less than half a second of each processor. This is not
-// measured with a clock, since other programs may use the processors at the same time.
+// A thousand devices, each in its own goroutine, use less than half a second of time on each
+// processor. The test measures processor time, because other programs may use the processors at the
+// same time.
 func TestAThousandDevices(t *testing.T) {
 	before := processorTime(t)
 	thousandDevices(t)
@@ -361,7 +363,7 @@ func thousandDevices(t *testing.T) {
 	group.Wait()
 }
 
-// One device, used by several goroutines.
+// Several goroutines use one device.
 func TestOneDeviceOfSeveral(t *testing.T) {
 	tpm := open(t)
 	var group sync.WaitGroup

@@ -1,14 +1,14 @@
 #!/bin/sh
-# Builds a program or a library with a device in it, from the archive of the library. The same sources and
-# the same compiler make the same bytes.
+# Builds a program or a library that contains a device, from the archive of the library. With the same compiler,
+# the same sources always result in the same bytes.
 #
 #   hosts/build.sh tcti FOLDER        libtss2-tcti-tpmsim.so.0, the module for libtss2, and tpmsim-power
 #   hosts/build.sh libtpms FOLDER     libtpms.so.0, with which swtpm is a tpmsim; tpmsim-swtpm, which starts
 #                                     it so; for libvirt's path, swtpm and swtpm_setup
 #   hosts/build.sh simulator FOLDER   tpmsim-simulator
 #
-# The archive is the one in dist/ for this machine, or the one that TPMSIM_ARCHIVE names, with tpmsim.h next
-# to it. CC, NM and STRIP are the tools, such as those for another machine. CFLAGS are further arguments for
+# The archive is the one in dist/ for this machine, or the one that TPMSIM_ARCHIVE names, with tpmsim.h next to
+# it. CC, NM and STRIP name the tools, for example those for another machine. CFLAGS are further arguments for
 # CC; if it is set, nothing is stripped. Needs a C compiler and Debian's binutils; tcti needs the headers of
 # libtss2-dev, and libtpms those of libtpms-dev.
 set -u
@@ -22,13 +22,13 @@ compiler=${CC:-cc}
 nm=${NM:-nm}
 strip=${STRIP:-strip}
 
-# fail REASON: ends the script.
+# fail REASON: ends the script with a message.
 fail() {
     echo "$0: $1" >&2
     exit 1
 }
 
-# needs_header HEADER PACKAGE: fails if the compiler does not find the header.
+# needs_header HEADER PACKAGE: ends the script if the compiler does not find the header.
 needs_header() {
     echo "#include <$1>" | "$compiler" -E - >/dev/null 2>&1 || fail "there is no header $1: Debian has it in $2"
 }
@@ -37,24 +37,25 @@ needs_header() {
 compile() {
     name=$1
     shift
-    # shellcheck disable=SC2086 # CFLAGS are words
+    # shellcheck disable=SC2086 # word splitting of CFLAGS is intended
     "$compiler" -std=c11 -O2 -Wall -Wextra -Werror -Wconversion -I"$(dirname "$archive")" \
         -Wl,--build-id=none -Wl,-z,relro -Wl,-z,now ${CFLAGS:-} -o "$work/$name" "$@" "$archive" || return 1
     [ -n "${CFLAGS:-}" ] || "$strip" --strip-unneeded "$work/$name"
 }
 
-# compile_shared NAME MAP WORDS..: compiles and links a shared object that exports the names of a
-# map. The program that loads it contains the runtime of the sanitizers.
+# compile_shared NAME MAP WORDS..: compiles and links a shared object that exports the names in a version
+# script. Symbols of the sanitizers may stay undefined, because the program that loads the object contains their
+# runtime.
 compile_shared() {
     name=$1
     map=$2
     shift 2
-    # shellcheck disable=SC2086 # CFLAGS are words
+    # shellcheck disable=SC2086 # word splitting of CFLAGS is intended
     compile "$name" -shared -fPIC -Wl,-soname,"$name" -Wl,--version-script="$map" \
         ${CFLAGS:--Wl,-z,defs} "$@"
 }
 
-# Prints the names that libtpms.map exports, each with its version.
+# Prints the names that libtpms.so.0 must export according to libtpms.map, each with its version.
 wanted_names() {
     awk '
         /^LIBTPMS_/ { version = $1 }
@@ -62,13 +63,14 @@ wanted_names() {
     ' libtpms/libtpms.map | sort
 }
 
-# Prints the names that libtpms.so.0 exports, each with its version.
+# Prints the names that the built libtpms.so.0 exports, each with its version.
 given_names() {
     "$nm" -D --defined-only --with-symbol-versions "$work/libtpms.so.0" |
         awk '$2 != "A" { print $3 }' | sort
 }
 
-# deliver SOURCE NAME MODE: puts a file into the folder. Programs that have the old file open keep it.
+# deliver SOURCE NAME MODE: replaces a file in the folder. Programs that have the old file open continue to use
+# it.
 deliver() {
     { cp "$1" "$folder/.$2.new" && chmod "$3" "$folder/.$2.new" && mv "$folder/.$2.new" "$folder/$2"; } ||
         fail "the folder $folder is not written"
@@ -126,6 +128,5 @@ archive=$(realpath -e "$archive") || exit 1
 mkdir -p "$folder" || fail "the folder $folder is not written"
 work=$(mktemp -d) || exit 1
 trap 'rm -rf "$work"' EXIT
-# The compiler gets the sources by paths relative to this folder, so that no absolute path gets into
-# the result.
+# Runs the compiler in this folder, so that no absolute path gets into the result.
 cd "$sources" && "build_$1"

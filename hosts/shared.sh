@@ -1,8 +1,8 @@
 #!/bin/sh
-# Builds dist/libtpmsim-kept.so.0, the kept device for other languages, and its lines in dist/PROVED: the
-# checksums of its sources and of itself, and the compiler. It is written in C and tested, not proved. It
-# exports only the names tpmsim_kept_*, and loads the libtpmsim.so.0 next to itself if the process has not
-# loaded another one.
+# Builds dist/libtpmsim-kept.so.0, which keeps devices in folders for programs in any language. Writes its lines
+# in dist/PROVED: the checksums of its sources and of itself, and the compiler. The object is written in C and
+# tested, not proved. It exports only the names tpmsim_kept_*, and loads the libtpmsim.so.0 next to itself if
+# the process has not loaded another one.
 #
 #   hosts/shared.sh           builds it
 #   hosts/shared.sh --check   builds it again, and compares it with dist/libtpmsim-kept.so.0: the bytes, if
@@ -16,13 +16,13 @@ export LC_ALL
 cd "$(dirname "$0")/.." || exit 1
 . tools/lib/proved.sh
 
-# fail REASON: ends the script.
+# fail REASON: ends the script with a message.
 fail() {
     echo "$0: $1" >&2
     exit 1
 }
 
-# Compiles and links it in the folder of the sources, so that no absolute path gets into it.
+# Compiles and links the object in the folder of the sources, so that no absolute path gets into the result.
 compile() (
     beside=$PWD/$distribution
     cd hosts/kept && "$compiler" -std=c11 -O2 -fPIC -Wall -Wextra -Werror -Wconversion -I../../library \
@@ -31,7 +31,7 @@ compile() (
         "$beside/libtpmsim.so.0" && "$strip" --strip-unneeded "$made" && chmod 644 "$made"
 )
 
-# Writes its lines to the end of PROVED.
+# Appends the object's lines to PROVED.
 tell_proved() {
     {
         sed '/^kept /d' "$proved"
@@ -41,12 +41,12 @@ tell_proved() {
     } >"$proved.new" && mv "$proved.new" "$proved"
 }
 
-# Installs it in dist/. Programs that have the old file open keep it.
+# Moves the object to dist/. Programs that have the old file open continue to use it.
 deliver() {
     cp "$made" "$kept_shared.new" && mv "$kept_shared.new" "$kept_shared" && tell_proved
 }
 
-# Prints the faults of the one in dist/, one per line.
+# Prints the faults of the object in dist/, one per line.
 faults() {
     faults_of_kept
     if ! is_proved 'kept compiler, which proves nothing' "$version"; then

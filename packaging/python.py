@@ -1,6 +1,6 @@
 #!/usr/bin/env python3
-"""Installs the Python package: the modules, the metadata of the installed package, and the programs
-that python/pyproject.toml names.
+"""Installs the Python package: its modules, its metadata, and the programs that
+python/pyproject.toml names.
 
     packaging/python.py ROOT PACKAGES PROGRAMS
 
@@ -14,7 +14,7 @@ import sys
 
 SOURCES = pathlib.Path(__file__).resolve().parents[1] / "python"
 sys.path.insert(0, str(SOURCES / "packing"))
-# The repository contains no Python bytecode.
+# Python must write no bytecode into the repository.
 sys.dont_write_bytecode = sys.pycache_prefix is None
 
 import tpmsim_wheel  # noqa: E402

@@ -1,5 +1,5 @@
-//! Makes the linker find libtpmsim: in the folder `TPMSIM_LIB_DIR`; otherwise in `native/MACHINE`, where a
-//! packed package contains it; otherwise in the repository's `dist/`.
+//! Makes the linker find libtpmsim: in the folder `TPMSIM_LIB_DIR`; otherwise in `native/MACHINE`,
+//! where a packed package contains it; otherwise in the repository's `dist/`.
 //!
 //! The build script of a dependent package reads the folder from `DEP_TPMSIM_LIBDIR`.
 
@@ -7,7 +7,7 @@ use std::env;
 use std::path::{Path, PathBuf};
 use std::process::exit;
 
-/// Returns how to link the library in a folder, if the folder contains one.
+/// Returns the kind of library in a folder, static or dynamic, or nothing if there is none.
 fn kind_in(folder: &Path) -> Option<&'static str> {
     let has = |name: &str| folder.join(name).exists();
     if has("libtpmsim.a") {
@@ -16,12 +16,12 @@ fn kind_in(folder: &Path) -> Option<&'static str> {
     has("libtpmsim.so").then_some("dylib")
 }
 
-/// Returns a variable that cargo sets for a build script; empty if it is not set.
+/// Returns the value of a variable that cargo sets for a build script, or an empty string.
 fn told(name: &str) -> String {
     env::var(name).unwrap_or_default()
 }
 
-/// Returns the folder that the repository ships for a machine.
+/// Returns the folder of the repository with the shipped files for a machine.
 fn shipped(repository: &Path, machine: &str) -> PathBuf {
     let dist = repository.join("dist");
     match machine {
@@ -30,7 +30,7 @@ fn shipped(repository: &Path, machine: &str) -> PathBuf {
     }
 }
 
-/// Returns the folder of the library.
+/// Returns the folder that contains the library.
 fn library_folder() -> PathBuf {
     let named = told("TPMSIM_LIB_DIR");
     if !named.is_empty() {

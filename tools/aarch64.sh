@@ -1,10 +1,10 @@
 #!/bin/sh
-# Builds the contents of dist/aarch64, for Linux on ARM64: the program, libtpmsim.a, libtpmsim.so.0 and
-# PROVED, which contains the version of the kit and the checksums of the sources and of these three files;
-# then the files of hosts/shared.sh. The crates of the program and of the library are proved for ARM64, as the
-# prover's verdict says. The crates below them were proved for x86-64.
+# Builds the contents of dist/aarch64, for Linux on ARM64: the program, libtpmsim.a, libtpmsim.so.0 and PROVED,
+# which contains the version of the kit and the checksums of the sources and of these three files; then the
+# files of hosts/shared.sh. The crates of the program and of the library are proved for ARM64, which the
+# prover's verdict confirms. The crates that they use were proved for x86-64.
 #
-# All crates below these two must have been built here by `rt ci`, and no source may be newer. tools/build.sh
+# All crates that these two use must have been built here by `rt ci`, and no source may be newer. tools/build.sh
 # and tools/library.sh build them, for x86-64. Needs `rt`, and Debian's gcc-aarch64-linux-gnu.
 set -u
 cd "$(dirname "$0")/.." && top=$(pwd -P) || exit 1
@@ -18,15 +18,15 @@ work=$(mktemp -d) || exit 1
 trap 'rm -rf "$work"' EXIT
 log=$work/log
 
-# fail REASON: ends the script, and prints the end of the log.
+# fail REASON: ends the script with a message, and prints the end of the log.
 fail() {
     [ ! -s "$log" ] || tail -n 20 "$log" >&2
     echo "$0: $1" >&2
     exit 1
 }
 
-# compile_here CRATE FILE: compiles a crate for ARM64, and prints the prover's verdict. Each crate has its own
-# log, since both are compiled at the same time.
+# compile_here CRATE FILE: compiles a crate for ARM64, and prints the prover's verdict. Each crate has a
+# separate log, because both are compiled at the same time.
 compile_here() {
     log=$log.$1
     compile "$top" "$1" "$work/$2" --target "$target" --cpu generic >"$log" 2>&1 &&
@@ -57,7 +57,7 @@ link_library() (
         chmod 644 ../libtpmsim.*
 ) >>"$log" 2>&1
 
-# Prints the lines of PROVED.
+# Prints the lines of the file PROVED.
 tell_proved() {
     echo "kit: $kit_version"
     echo "target: $target"

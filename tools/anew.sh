@@ -1,8 +1,8 @@
 #!/bin/sh
-# In a copy of the repository, generates all stored scripts of tests/ and examples/ again with their programs,
-# and the expected outputs with the device in Python. Then compares the files with those of the repository,
-# byte for byte. Needs python3, and takes half a minute on four processors. JOBS is the number of programs
-# that run at the same time.
+# Generates all stored scripts of tests/ and examples/ again in a copy of the repository, with the programs that
+# write them, and the expected outputs with the Python model. Then compares the files with those of the
+# repository, byte for byte. Needs python3, and takes half a minute on four processors. JOBS is the number of
+# programs that run at the same time.
 #
 #   tools/anew.sh           compares
 #   tools/anew.sh --write   replaces the files that differ
@@ -30,7 +30,7 @@ export PYTHONPYCACHEPREFIX="$work/compiled"
 cd "$work" || exit 1
 
 failed=0
-# A program's first line names the files that it writes. They are removed first.
+# The first line of such a program names the files that it writes. These files are removed first.
 grep -lE '^"""Writes [a-z_0-9]+[.](tpm|out)' tests/*/*.py examples/*.py >programs
 while read -r program; do
     rm -f "${program%.py}.tpm" "${program%.py}.out"
@@ -38,7 +38,7 @@ done <programs
 xargs -P "$jobs" -n 6 tools/python.sh tests/anew.py <programs >said || failed=1
 tools/python.sh tests/common/expected.py || failed=1
 
-# files: prints the files that a program may write.
+# files: prints the files that the programs may write.
 files() {
     find tests examples -name '*.tpm' -o -name '*.out' -o -name '*.trace' -o -name '*.lines'
 }

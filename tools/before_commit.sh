@@ -1,6 +1,6 @@
 #!/bin/sh
-# Runs the quick checks before a commit: the layout of the changed crates, the links and words of the
-# documents, the shell scripts, and the programs in Python. As a hook of git:
+# Runs the quick checks before a commit: the formatting of the changed crates, the links and words of the
+# documents, the shell scripts, and the programs in Python. To install it as a git hook:
 #
 #   ln -s ../../tools/before_commit.sh .git/hooks/pre-commit
 #
@@ -56,7 +56,7 @@ follow_links() {
     python3 tests/common/links.py . $(git ls-files '*.md')
 }
 
-# Prints the scripts for sh: the files whose first line says so, and all *.sh.
+# Prints the paths of all scripts for sh: the files whose first line says so, and all *.sh.
 shell_scripts() {
     git ls-files '*.sh'
     git grep -lI -e '^#!/bin/sh$' -- ':!*.sh' ':!*.md' ':!*.py'
@@ -68,7 +68,7 @@ read_shell() {
 }
 
 read_python() {
-    # shellcheck disable=SC2046 # program names have no spaces
+    # shellcheck disable=SC2046 # the names of the programs have no spaces
     "$@" $(git ls-files '*.py')
 }
 

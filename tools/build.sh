@@ -17,9 +17,9 @@ esac
 out=$top/crates/tpmsim/out
 log=$out/build.log
 
-# Proves each crate that the program uses, and the program. Crates that do not use each other are proved at
-# the same time. Then it builds the program, whose modification time is set to the start of the build, so that
-# a later edit of a source counts as newer.
+# Proves each crate that the program uses, and the program. Crates that do not use each other are proved at the
+# same time. Then builds the program. The program's modification time is set to the start of the build, so that
+# a source that is edited during the build counts as newer.
 build() {
     mkdir -p "$out" && : >"$log" && : >"$out/build_start" || return 1
     crates="$(crates_below tpmsim) tpmsim"

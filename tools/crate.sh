@@ -1,6 +1,6 @@
 #!/bin/sh
 # Makes the Rust package, tpmsim-VERSION.crate, with the library for each machine for which dist/ contains it,
-# and prints the package's path. It uses no network.
+# and prints the package's path. The script does not use the network.
 #
 #   tools/crate.sh [FOLDER]   in FOLDER; by default in out/
 #
@@ -8,7 +8,7 @@
 set -u
 folder=$(realpath -m "${1:-$(dirname "$0")/../out}") && cd "$(dirname "$0")/.." || exit 1
 
-# fail REASON: ends the script, and prints the end of cargo's output.
+# fail REASON: ends the script with a message, and prints the end of cargo's output.
 fail() {
     [ ! -f "$work/said" ] || tail -n 20 "$work/said" >&2
     echo "$0: $1" >&2
@@ -19,8 +19,8 @@ work=$(mktemp -d) || exit 1
 trap 'rm -rf "$work"' EXIT
 PATH=$PATH:${HOME:-/root}/.cargo/bin
 command -v cargo >"$work/found" || fail 'there is no cargo'
-# Cargo writes next to the files that it reads. Therefore it works on a copy, which contains the library for
-# each machine.
+# Cargo writes files next to those that it reads. Therefore it runs in a copy of the package, which contains the
+# library for each machine.
 mkdir -p "$work/rust/native/x86_64" "$work/rust/native/aarch64" || fail 'there is no folder for a copy'
 { (cd rust && cp -r Cargo.toml README.md build.rs examples src tests "$work/rust/") &&
     cp dist/libtpmsim.a "$work/rust/native/x86_64/" &&

@@ -1,6 +1,6 @@
 #!/bin/sh
-# Builds the package for Debian and its derivatives, tpmsim_VERSION_amd64.deb, and prints its path.
-# The same commit and the same tools make the same bytes.
+# Builds the package for Debian and its derivatives, tpmsim_VERSION_amd64.deb, and prints its path. With the
+# same tools, the same commit always results in the same bytes.
 #
 #   tools/deb.sh [--machine aarch64] [FOLDER]   in FOLDER; by default in out/
 #
@@ -19,14 +19,14 @@ fi
 folder=$(realpath -m "${1:-$(dirname "$0")/../out}") && cd "$(dirname "$0")/.." || exit 1
 . tools/lib/proved.sh
 
-# fail REASON: ends the script.
+# fail REASON: ends the script with a message.
 fail() {
     echo "$0: $1" >&2
     exit 1
 }
 
-# Prints the size of the installed files in KiB, each rounded up, so that it does not depend on the file
-# system.
+# Prints the total size of the installed files in KiB. Each file's size is rounded up, so that the total does
+# not depend on the file system.
 size() {
     find "$root/usr" -type f -printf '%s\n' | awk '{ sum += int(($1 + 1023) / 1024) } END { print sum }'
 }

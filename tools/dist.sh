@@ -1,8 +1,8 @@
 #!/bin/sh
 # Copies the program that `rt ci` proved and built here to dist/, and writes its lines of dist/PROVED: the
 # version of the kit, and the checksums of the sources and of the program. Needs `rt`. tools/library.sh builds
-# the library, hosts/shared.sh builds the kept device for other languages, and tools/web.sh builds the module
-# for web pages.
+# the library, hosts/shared.sh builds the C host for other languages, and tools/web.sh builds the module for web
+# pages.
 #
 #   tools/dist.sh           copies the program, unless a source is newer than the one built here
 #   tools/dist.sh --check   checks that dist/ was built from the current sources and, if the same kit is
@@ -12,7 +12,7 @@
 set -u
 cd "$(dirname "$0")/.." || exit 1
 . tools/lib/proved.sh
-# This script makes files for x86-64, even if a package is made for another machine.
+# This script makes files for x86-64, even while a package for another machine is made.
 ship x86_64
 
 # Prints the faults of dist/, one on each line.
@@ -55,8 +55,8 @@ faults_of_library() {
     done
 }
 
-# Prints the faults of dist/aarch64, if it exists. Its files are not built again either: their checksums must
-# be those in dist/aarch64/PROVED, and they must be built from the current sources.
+# Prints the faults of dist/aarch64, if it exists. The files there are not built again either. Their checksums
+# must be those in dist/aarch64/PROVED, and they must have been built from the current sources.
 faults_of_aarch64() (
     ship aarch64
     [ -d "$distribution" ] || return 0

@@ -4,7 +4,7 @@
 import pathlib
 import sys
 
-# The repository contains no Python bytecode.
+# Python must write no bytecode into the repository.
 sys.dont_write_bytecode = sys.pycache_prefix is None
 sys.path.insert(0, str(pathlib.Path(__file__).resolve().parents[1] / "python"))
 

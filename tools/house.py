@@ -1,7 +1,7 @@
 #!/usr/bin/env python3
-"""Draws docs/house.svg: the crates in layers, from crates.txt. A crate is in the row above the
-highest of the crates that it depends on, so the lowest crates are at the bottom. Its colour shows
-its group, which is a heading of crates.txt.
+"""Draws docs/house.svg: the crates in layers, from crates.txt. Each crate is one row above the
+highest of the crates that it depends on; crates without dependencies are at the bottom. A crate's
+colour shows its group, which is a heading of crates.txt.
 
 `tools/house.py` compares the picture with the new one, and its status is 1 if they differ;
 `tools/house.py --write` writes it.
@@ -40,7 +40,7 @@ class Crate:
 
 
 def read(text: str) -> tuple[list[Crate], list[str]]:
-    """Returns the crates and the groups of crates.txt, in its order."""
+    """Returns the crates and the groups of crates.txt, in the order of that file."""
     crates, groups = list[Crate](), list[str]()
     blocks = [it.splitlines() for it in re.split(r"\n{2,}", text) if ":" in it]
     for lines in blocks:
@@ -57,7 +57,7 @@ def read(text: str) -> tuple[list[Crate], list[str]]:
 
 
 def rows_of(crates: list[Crate]) -> list[list[Crate]]:
-    """Returns the crates by rows, from the bottom up."""
+    """Returns the crates of each row, from the bottom up."""
     depth: dict[str, int] = {}
     for crate in crates:
         depth[crate.name] = 1 + max((depth.get(it, -1) for it in crate.below), default=-1)

@@ -1,6 +1,6 @@
 #!/bin/sh
-# Installs the shipped program and everything that belongs to it. It proves nothing, and takes the program and
-# the library from dist/.
+# Installs the shipped program and everything that belongs to it. It proves nothing: the program and the library
+# come from dist/.
 #
 #   tools/install.sh    with these environment variables:
 #     PREFIX     the folder of the installation; by default /usr/local
@@ -12,9 +12,9 @@
 #     FUNCTIONS  the folder of zsh's functions in PREFIX; by default share/zsh/site-functions
 #
 # The modules for libtss2 and for swtpm, and tpmsim-simulator, are built if the headers that they need are
-# installed. Otherwise a line says what is not installed. Without DESTDIR, root's ldconfig adds the libraries
-# to the loader's cache. If the loader or python3 does not find the installed files, the script prints the
-# variables that a user has to set. Needs python3.
+# installed. Otherwise the script prints which of them are not installed. If DESTDIR is not set and the user is
+# root, ldconfig adds the libraries to the loader's cache. If the loader or python3 does not find the installed
+# files, the script prints the variables that a user has to set. Needs python3.
 set -u
 umask 022
 cd "$(dirname "$0")/.." || exit 1
@@ -24,13 +24,13 @@ libraries=${LIBRARIES:-lib}
 functions=${FUNCTIONS:-share/zsh/site-functions}
 root=${DESTDIR:-}$prefix
 
-# fail REASON: ends the script.
+# fail REASON: ends the script with a message.
 fail() {
     echo "$0: $1" >&2
     exit 1
 }
 
-# packages_of_python: prints the folder in PREFIX where python3 looks for packages, or nothing.
+# packages_of_python: prints the folder in PREFIX where python3 looks for packages, or nothing if there is none.
 packages_of_python() {
     python3 -c '
 import site, sys

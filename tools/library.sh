@@ -3,9 +3,9 @@
 # its lines in dist/PROVED, with the version of the kit, and the checksums of the sources and of the first two
 # files.
 #
-# The crate of the exports is proved and compiled with the crates below it, which `rt ci` built here. If a
-# source is newer, those crates are first proved in a copy. Needs `rt`, git, a C compiler and Debian's
-# binutils.
+# The crate of the exported functions is proved and compiled with the crates that it uses, which `rt ci` built
+# here. If a source is newer, those crates are first proved in a copy. Needs `rt`, git, a C compiler and
+# Debian's binutils.
 #
 #   tools/library.sh                    the files for x86-64
 #   tools/library.sh --target aarch64   the contents of dist/aarch64, with the program (tools/aarch64.sh)
@@ -26,14 +26,14 @@ work=$(mktemp -d) || exit 1
 trap 'rm -rf "$work"' EXIT
 log=$work/log
 
-# fail REASON: ends the script, and prints the end of the log.
+# fail REASON: ends the script with a message, and prints the end of the log.
 fail() {
     [ ! -s "$log" ] || tail -n 20 "$log" >&2
     echo "$0: $1" >&2
     exit 1
 }
 
-# Proves the exports and all crates below them in a copy.
+# Proves the crate of the exported functions, and all crates that it uses, in a copy.
 prove() {
     echo "tpmsim: proving what the library stands on; from nothing this takes half an hour to an hour" >&2
     crates="$below $exports"
@@ -42,8 +42,8 @@ prove() {
     tail -n 1 "$log" | grep -q ' 0 failed' || fail 'not everything is proved'
 }
 
-# Makes the archive from the compiled exports and the kit's interface to the C library's allocator, and links
-# the shared object from the same files.
+# Makes the archive from the compiled crate and the kit's interface to the C library's allocator, and links the
+# shared object from the same files.
 link() (
     mkdir "$work/objects" && cd "$work/objects" && ar x "$work/exports.a" &&
         ar x "$kit/c/liblibc_c.a" heap.pic.o && ar rcsD "$work/libtpmsim.a" ./*.o &&

@@ -15,8 +15,8 @@ BEGIN, END = "<!-- crates -->\n", "<!-- end of crates -->\n"
 
 
 def first_clause(crate: Path) -> str:
-    """Returns the first sentence of the comment at the head of a crate's root file. If the part
-    before its colon has at least three words, returns only that part.
+    """Returns the first sentence of the comment at the beginning of a crate's root file. If the
+    sentence has a colon with at least three words before it, returns only those words.
     """
     root = crate / "src" / "lib.rt"
     text = (root if root.exists() else crate / "src" / "main.rt").read_text()
@@ -32,7 +32,7 @@ def first_clause(crate: Path) -> str:
 
 
 def in_order(names: list[str]) -> list[str]:
-    """Returns the names of crates from the bottom up, in the order of crates.txt."""
+    """Returns the names of crates in the order of crates.txt, from the bottom up."""
     built = re.findall(r"(?m)^(\w+)", (TOP / "crates.txt").read_text())
     order = {name: at for at, name in enumerate(built)}
     return sorted(names, key=lambda name: (order.get(name, len(built)), name))

@@ -4,8 +4,8 @@
 `tools/measure.py` runs .ci/run at the top of the repository, prints its output, and adds up the CPU
 seconds of all toolchain processes, by crate and kind of process. `tools/measure.py --proofs` does
 the same with only `rt ci`. `tools/measure.py WORDS..` measures another command, prints the figures
-and writes nothing. Under `taskset` the figures are for fewer processors, and are stored next to
-those for all processors. Runs only on Linux.
+and writes nothing. If `taskset` limits the processors, the figures are stored separately from those
+for all processors. Runs only on Linux.
 
 `tools/measure.py --wrong REFUSED TRIED` stores how many wrong bodies outside the gate were refused.
 """
@@ -39,7 +39,7 @@ def status_of(pid: str) -> tuple[str, float, str]:
 
 
 def is_ours(pid: str) -> bool:
-    """Whether a process descends from this one."""
+    """Returns whether a process is a descendant of this one."""
     while pid not in ("0", "1"):
         if pid == str(os.getpid()):
             return True
@@ -61,7 +61,7 @@ def use_of(pid: str) -> tuple[Process, Use] | None:
 
 
 def watch(uses: dict[Process, Use], is_over: threading.Event) -> None:
-    """Records twice a second which resources each process of the toolchain has used so far."""
+    """Records twice a second the resources that each process of the toolchain has used so far."""
     while not is_over.wait(0.5):
         for pid in filter(str.isdigit, os.listdir("/proc")):
             try:

@@ -1,6 +1,5 @@
 #!/bin/sh
-# Runs python3 so that programs in tests/, tools/ and bench/ can import the package in python/ and the
-# programs in tests/:
+# Runs python3 so that programs in tests/, tools/ and bench/ can import the package in python/ and each other:
 #
 #   tools/python.sh tests/objects/create.py
 set -u

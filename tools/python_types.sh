@@ -1,6 +1,6 @@
 #!/bin/sh
-# Checks the package in python/: its types with strict mypy, its names with pyflakes, its layout with black,
-# and its unit tests with pytest and the package's plugin. Also checks names and layout of the programs in
+# Checks the package in python/: its types with strict mypy, its names with pyflakes, its formatting with black,
+# and its unit tests with pytest and the package's plugin. Also checks names and formatting of the programs in
 # tests/, examples/ and bench/. It is not part of the gate, and needs Debian's packages mypy, pyflakes3, black
 # and python3-pytest. The status is 1 if a check fails.
 set -u
@@ -19,7 +19,7 @@ status=0
 mypy --cache-dir "$work/mypy" || status=1
 pyflakes3 tpmsim tests "$top/tests" "$top/examples" "$top/bench" || status=1
 /usr/bin/black --quiet --check . || status=1
-# The programs of the tests must have the same layout as the package.
+# The programs of the tests must be formatted like the package.
 /usr/bin/black --quiet --check --config pyproject.toml "$top/tests" "$top/examples" || status=1
 pytest-3 -q -p no:cacheprovider -p tpmsim.pytest_plugin tests || status=1
 exit "$status"

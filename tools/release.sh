@@ -5,14 +5,14 @@
 #
 #   tools/release.sh [FOLDER]   in FOLDER; by default in out/vVERSION
 #
-# CHANGELOG.md must begin with the version's section, `## VERSION, DATE`; the working tree must equal the last
-# commit; and dist/ must be built from its sources. Needs git, dpkg-deb, tar, gzip and python3.
+# CHANGELOG.md must begin with the version's section, `## VERSION, DATE`; the working tree must be the same as
+# the last commit; and dist/ must be built from its sources. Needs git, dpkg-deb, tar, gzip and python3.
 set -u
 told_folder=${1:+$(realpath -m "$1")}
 cd "$(dirname "$0")/.." || exit 1
 . tools/lib/proved.sh
 
-# fail REASON: ends the script.
+# fail REASON: ends the script with a message.
 fail() {
     echo "$0: $1" >&2
     exit 1
@@ -38,7 +38,7 @@ notes() {
         CHANGELOG.md
 }
 
-# Clones the tag, and prints the milliseconds until the program of the clone has answered a command.
+# Clones the tag, and prints the number of milliseconds until the program in the clone has answered a command.
 answering() {
     git -c advice.detachedHead=false clone -q --branch "v$version" . "$work/clone" || return 1
     start=$(date +%s%3N)

@@ -1,10 +1,10 @@
 #!/bin/sh
 # Plays the scripts of tests/ and examples/, and the shell tests of tests/, and compares the results with the
 # expected files next to them. Exhaustive scripts are not stored: tests/common/made.py generates them first,
-# with the responses and traces of the device in Python. The script tests both programs that `rt ci` builds,
-# and the program in dist/ if its bytes differ. Then tpmsim_lists, which stores the device's state in lists
-# and not in arrays of fixed size, plays the scripts that must succeed, and must print the same bytes. Last
-# come the shell tests of that program, of the library in dist/, and of the hosts that use the library. If
+# with the responses and traces of the Python model. The script tests both programs that `rt ci` builds, and
+# also the program in dist/ if its bytes differ. Then tpmsim_lists, which stores the device's state in lists and
+# not in arrays of fixed size, plays the scripts that must succeed, and must print the same bytes. The last
+# tests are the shell tests of that program, of the library in dist/, and of the hosts that use the library. If
 # nothing was built here, only the files in dist/ are tested, which needs no `rt`.
 #
 #   tools/scripts.sh                   all tests
@@ -31,13 +31,13 @@ set -u
 top=$(CDPATH='' cd "$(dirname "$0")/.." && pwd -P) || exit 1
 out=$top/crates/tpmsim/out
 lists=$top/crates/tpmsim_lists/out/tpmsim_lists
-# The shipped files for this machine.
+# The paths of the shipped files for this machine.
 in_dist=$top/dist/tpmsim
 [ "$(uname -sm)" != 'Linux aarch64' ] || in_dist=$top/dist/aarch64/tpmsim
 library=${in_dist%/*}/libtpmsim.a
 jobs=${JOBS:-$(getconf _NPROCESSORS_ONLN)}
 
-# Tests sync files to the disk, which is fast in memory.
+# Tests sync files to the disk, which is faster if the files are in memory.
 . "$top/tools/lib/memory.sh"
 work=
 [ -n "${TMPDIR:-}" ] || work=$(folder_in_memory 1 2>&1) || work=
@@ -45,11 +45,10 @@ work=
 trap 'rm -rf "$work"' EXIT
 made_in=$work/made
 mkdir "$work/told" "$work/rooms" "$work/queue" "$made_in" || exit 1
-# A test may run as another user, who must be able to enter its folder.
+# A test may run a program as another user, who must be able to enter the test's folder.
 chmod a+x "$work" "$work/rooms"
 export TMPDIR="$work/rooms"
-# If python3 is only a launcher for another python3, like that of pyenv, the tests start the other one
-# directly.
+# If python3 is only a launcher for another python3, as in pyenv, the tests start the actual python3 directly.
 if found=$(command -v python3); then
     started=$(python3 -c 'import sys; print(sys.executable)')
     [ "${started:-$found}" = "$found" ] || PATH=${started%/*}:$PATH
@@ -58,7 +57,7 @@ fi
 . "$top/tools/lib/python.sh"
 unset TPMSIM_PYTHON
 ! python_is_whole || export TPMSIM_PYTHON=whole
-# The tests share Python's bytecode, even if the environment forbids it, and the compiled C programs that
+# The tests share Python's bytecode, even if the environment disables it, and the compiled C programs that
 # several tests need.
 export PYTHONPYCACHEPREFIX="$work/python" TPMSIM_BUILT="$work/built"
 unset PYTHONDONTWRITEBYTECODE
@@ -89,8 +88,8 @@ skip() {
     say "skipped: $1: $2"
 }
 
-# check_made TEST PROGRAM: queues a generated script. It is run only with --trace, since the trace includes
-# the responses.
+# check_made TEST PROGRAM: queues a generated script. The script is run only with --trace, because the trace
+# includes the responses.
 check_made() {
     if [ "${TPMSIM_PYTHON:-}" = whole ]; then
         check "$1" "$2" "${1%.tpm}.trace" --trace
@@ -99,7 +98,7 @@ check_made() {
     fi
 }
 
-# is_test PATH: succeeds if a path is a test. The files of tests/common are not tests.
+# is_test PATH: succeeds if the file at a path is a test. The files of tests/common are not tests.
 is_test() {
     case $1 in
     "$top/tests/common/"*) false ;;
@@ -156,8 +155,8 @@ for name do
     [ -n "$found" ] || say "FAILED: $name: there is no such test"
 done
 
-# make_scripts TEST..: generates the scripts among these tests that are not stored. If these are all such
-# scripts, the tests that play all scripts need not generate them again.
+# make_scripts TEST..: generates the scripts among these tests that are not stored. If these tests include all
+# such scripts, the tests that play all scripts do not generate them again.
 make_scripts() {
     for test do
         shift
@@ -174,8 +173,7 @@ make_scripts() {
 unset TPMSIM_MADE
 [ "${TPMSIM_PYTHON:-}" != whole ] || make_scripts "$@"
 
-# is_of_library TEST: succeeds if a test is about the library, a host that uses it, or the module for web
-# pages.
+# is_of_library TEST: succeeds if a test concerns the library, a host that uses it, or the module for web pages.
 is_of_library() {
     case $1 in
     */library_*.sh | */attached_*.sh | */web/*.sh) true ;;
@@ -183,13 +181,14 @@ is_of_library() {
     esac
 }
 
-# Whether the program in dist/ was built from the current sources.
+# Succeeds if the program in dist/ was built from the current sources.
 shipped_is_of_sources() (
     cd "$top" && . tools/lib/proved.sh && is_proved sources "$(sources_checksum)"
 )
 
-# is_asked PROGRAM: succeeds if a program is to be tested. A program that was built here counts as the one in
-# dist/ if its bytes are the same and dist/ was built from the current sources.
+# is_asked PROGRAM: succeeds if a program is to be tested. A program that was built here is not tested
+# separately if its bytes are the same as those of the program in dist/, and dist/ was built from the current
+# sources.
 is_asked() {
     case $asked,$1 in
     shipped,"$in_dist" | ,*) true ;;
@@ -198,7 +197,7 @@ is_asked() {
     esac
 }
 
-# missing PROGRAM: reports that a program is missing, if tpmsim was built here.
+# missing PROGRAM: if tpmsim was built here, reports that another program is missing.
 missing() {
     [ ! -x "$out/tpmsim" ] || say "${1#"$top/"} is not there"
 }
@@ -261,14 +260,14 @@ for test do
     esac
 done
 
-# Whether the library in dist/ was built from the current sources, and is the proved one.
+# Succeeds if the library in dist/ is the proved one, built from the current sources.
 library_is_proved() (
     cd "$top" && . tools/lib/proved.sh &&
         is_proved 'library sources' "$(sources_checksum tpmsim_library)" &&
         is_proved 'library archive' "$(checksum <"$library")"
 )
 
-# Prints the reason why no test of the library can run, or nothing if they can run.
+# Prints the reason why the tests of the library cannot run, or nothing if they can.
 missing_library() {
     [ -f "$library" ] || { echo "${library#"$top/"} is not there" && return; }
     library_is_proved || echo "${library#"$top/"} was proved of other sources than these"
@@ -286,7 +285,7 @@ for test do
     fi
 done
 
-# Prints the next results in order, as far as they are available.
+# Prints the results that are available and come next in the order.
 next=1
 show() {
     while [ -f "$work/told/$next" ]; do
@@ -295,7 +294,7 @@ show() {
     done
 }
 
-# The shell tests start first, since they take longest. Each process plays several scripts.
+# The shell tests start first, because they take longest. Each process plays several scripts.
 touch "$work/longest" "$work/long" "$work/short"
 { cat "$work/longest" "$work/long" && xargs -r -n 12 <"$work/short"; } |
     xargs -r -P "$jobs" -L 1 sh "$top/tools/lib/play_tests.sh" "$work" |
@@ -313,8 +312,8 @@ count() {
     find "$work/told" -type f -exec cat {} + | grep -c "^$1: "
 }
 
-# packages: prints the packages that are named in the reasons of skipped tests, such as `there is no cc, nm
-# (Debian: gcc, binutils)`.
+# packages: prints the packages that the reasons of skipped tests name, such as `there is no cc, nm (Debian:
+# gcc, binutils)`.
 packages() {
     find "$work/told" -type f -exec cat {} + | sed -n 's/^skipped: .* (Debian: \(.*\))$/\1/p' |
         sed 's/, */\n/g' | LC_ALL=C sort -u | tr '\n' ' '

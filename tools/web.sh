@@ -1,7 +1,7 @@
 #!/bin/sh
-# Builds dist/tpmsim.wasm, the device as a module for web pages and for node, and writes its lines in
-# dist/PROVED: the prover's verdict for the module's own target, the version of the kit, the checksums of the
-# sources and of the module, and the tool that converted it.
+# Builds dist/tpmsim.wasm, the device as a module for web pages and for node, and writes the module's lines in
+# dist/PROVED: the prover's verdict for WebAssembly, the version of the kit, the checksums of the sources and of
+# the module, and the tool that converted it.
 #
 # The kit links a module whose memory has 64-bit addresses. Debian's binaryen converts it to a module with
 # 32-bit addresses, which every browser and node run without a flag. Only the converted module is shipped.
@@ -19,21 +19,21 @@ cd "$(dirname "$0")/.." && top=$(pwd -P) || exit 1
 . tools/lib/compiling.sh
 ship x86_64
 target=wasm64-unknown-unknown
-# The size of the stack in bytes, which is below all memory that a page passes to the module.
+# The size of the stack in bytes. The stack is below all memory that a page passes to the module.
 stack=1048576
 work=$(mktemp -d) || exit 1
 trap 'rm -rf "$work"' EXIT
 log=$work/log
 : >"$log"
 
-# fail REASON: ends the script, and prints the end of the log.
+# fail REASON: ends the script with a message, and prints the end of the log.
 fail() {
     [ ! -s "$log" ] || tail -n 20 "$log" >&2
     echo "$0: $1" >&2
     exit 1
 }
 
-# Proves and compiles the exports, and stores the verdict.
+# Proves and compiles the crate of the exported functions, and stores the verdict.
 compile_exports() {
     compile "$top" tpmsim_web "$work/exports.a" --target "$target" --cpu lime1 >"$log" 2>&1 &&
         verdict=$(grep -o "^logic=proved functions=[0-9]* target=$target" "$log")
@@ -45,8 +45,8 @@ link() {
             -o "$work/wide.wasm" "$work/exports.a" >>"$log" 2>&1
 }
 
-# Converts the module. In addition to 64-bit memory it uses these features of WebAssembly, which all
-# browsers have.
+# Converts the module to 32-bit addresses. It also uses the other features of WebAssembly that are enabled here,
+# which all browsers have.
 lower() {
     wasm-opt --enable-memory64 --enable-bulk-memory --enable-sign-ext --enable-mutable-globals \
         --enable-nontrapping-float-to-int --memory64-lowering "$work/wide.wasm" -o "$work/tpmsim.wasm" \

@@ -1,7 +1,7 @@
 #!/usr/bin/env python3
 """Makes the Python package, which contains the library and the program, and prints its path:
-tpmsim-VERSION-py3-none-manylinux_2_34_MACHINE.whl. pip installs it without a network. The same sources
-make the same bytes.
+tpmsim-VERSION-py3-none-manylinux_2_34_MACHINE.whl. pip installs it without a network. The same
+sources always result in the same bytes.
 
     tools/wheel.py [--machine aarch64] [FOLDER]   in FOLDER; by default in out/
 
@@ -14,7 +14,7 @@ import pathlib
 import platform
 import sys
 
-# The repository contains no Python bytecode.
+# Python must write no bytecode into the repository.
 sys.dont_write_bytecode = sys.pycache_prefix is None
 TOP = pathlib.Path(__file__).resolve().parents[1]
 sys.path.insert(0, str(TOP / "python" / "packing"))

@@ -1,6 +1,6 @@
 #!/usr/bin/env python3
-"""Reports the words that docs/STYLE.md asks to avoid, in documents and in comments, each with its
-line and with what to write instead.
+"""Reports the words that docs/STYLE.md asks to avoid, in documents and in comments. Each word is
+reported with its line and a suggested replacement.
 
     tools/words.py              all documents of the repository, and all code
     tools/words.py docs/MAP.md  only these files
@@ -23,7 +23,7 @@ from pathlib import Path
 TOP = Path(__file__).resolve().parent.parent
 STYLE = TOP / "docs" / "STYLE.md"
 LEXICON = re.compile(r"<!-- lexicon -->\n(.*)<!-- end of lexicon -->", re.DOTALL)
-# Comments of definitions and proofs, and comments of shell scripts.
+# Comments of definitions and proofs begin with dashes, and comments of shell scripts with a hash.
 DASHES = re.compile(r"(?:^|\s)--\s(.*)$")
 HASH = re.compile(r"^\s*#(?!!)(.*)$")
 # the part of JSDoc that describes a type; the names in it are code
@@ -32,7 +32,7 @@ COMMENT = re.compile(r"/\*.*?\*/|//[^\n]*", re.DOTALL)
 STRING = re.compile(r"\"(?:[^\"\\\n]|\\.)*\"|'(?:[^'\\\n]|\\.)'")
 CRATES, END_OF_CRATES = "<!-- crates -->", "<!-- end of crates -->"
 CODE = re.compile(r"`[^`]*`|\]\([^)]*\)|<!--.*?-->|[\w/.-]+\.(?:sh|py|out)\b|\w+/\w[\w/]*")
-# the name and the arguments of a shell function, with which its comment begins
+# the name and the arguments of a shell function, at the beginning of its comment
 USAGE = re.compile(r"^\s*\w+(?: [][A-Z_.]+)*: ")
 
 
@@ -141,7 +141,8 @@ def of_python(text: str) -> Iterator[tuple[int, str]]:
 
 
 def reader_of(path: Path) -> Callable[[str], Iterator[tuple[int, str]]] | None:
-    """Returns the function that reads the English lines of a file."""
+    """Returns the function that yields the English lines of a file of this kind, if there is one.
+    """
     if path.suffix in READERS:
         return READERS[path.suffix]
     with path.open("rb") as file:

@@ -9,7 +9,7 @@
 #include <string.h>
 #include <sys/random.h>
 
-#define NONE 0xffffffffu /* ends a list of handles */
+#define NONE 0xffffffffu /* marks the end of a list of handles */
 
 enum { OWNER = 0x40000001, NULL_HANDLE = 0x40000007, PASSWORD = 0x40000009 };
 enum { LOCKOUT = 0x4000000a, INDEX = 0x01000001 };
@@ -34,8 +34,8 @@ typedef struct {
     uint32_t elapsed_ms;
 } tpm;
 
-/* How the first handle is authorized: with a password, with a policy session and an authorization
-   value as a password, or with a complete entry. */
+/* The authorization for the first handle: a password, a policy session with an authorization value
+   as a password, or a complete entry. */
 typedef struct {
     uint32_t session;
     const char *value;
@@ -67,7 +67,7 @@ static inline uint32_t number_at(const uint8_t *bytes, unsigned size) {
     return number;
 }
 
-/* Ends the program if a condition does not hold that should always hold. */
+/* Ends the program unless a condition holds that should always hold. */
 static inline void need(int holds, const char *what) {
     if (holds) return;
     fprintf(stderr, "%s\n", what);
@@ -117,7 +117,7 @@ static inline text command_of(uint32_t code, const uint32_t *handles, const by *
     return command;
 }
 
-/* Sends the bytes of a command. Returns whether it is accepted. */
+/* Sends the bytes of a command. Returns whether the TPM accepts it. */
 static inline int send_bytes(tpm *it, const text *command, uint32_t code, int has_entry) {
     need(!tpmsim_execute(&it->device, command->bytes, command->size, 0, it->elapsed_ms, it->random,
                          it->response, &it->told),
@@ -138,14 +138,14 @@ static inline int send_bytes(tpm *it, const text *command, uint32_t code, int ha
     return it->code == 0;
 }
 
-/* Sends a command. The last of its handles is NONE. Returns whether it is accepted. */
+/* Sends a command. The last of its handles is NONE. Returns whether the TPM accepts it. */
 static inline int send_command(tpm *it, uint32_t code, const uint32_t *handles, const by *who,
                                const text *parameters) {
     const text command = command_of(code, handles, who, parameters);
     return send_bytes(it, &command, code, who != NULL);
 }
 
-/* Sends a command that must be accepted. */
+/* Sends a command, which the TPM must accept. */
 static inline void must(tpm *it, uint32_t code, const uint32_t *handles, const by *who,
                         const text *parameters) {
     need(send_command(it, code, handles, who, parameters), "a command is refused");
@@ -207,8 +207,8 @@ static inline uint32_t storage_key(tpm *it, const char *owner) {
     return it->handle;
 }
 
-/* Seals data under a storage key, with an authorization value and a policy, and loads the sealed
-   object. */
+/* Seals data in a child of a storage key, with an authorization value and a policy, and loads the
+   sealed object. */
 static inline uint32_t seal(tpm *it, uint32_t parent, const char *value, text policy,
                             const char *data) {
     text sensitive = {0}, public = {0}, parameters = {0}, areas = {0};
@@ -256,7 +256,7 @@ static inline const uint8_t *measure(tpm *it, uint32_t pcr, const char *data) {
     text parameters = {0};
     put_sized(&parameters, data, strlen(data));
     must(it, 0x13c, HANDLES(pcr), BY_PASSWORD(""), &parameters);
-    return it->parameters + 4 + 2 + 20 + 2; /* the number of digests and the SHA-1 digest come first */
+    return it->parameters + 4 + 2 + 20 + 2; /* the count and the SHA-1 digest precede it */
 }
 
 /* Prints a line of an example: the returned buffer, or the code and the check of a refusal. */

@@ -10,7 +10,8 @@ static const char passphrase[] = "kept in a drawer";
 /* The digests of the two branches, as TPM2_PolicyOR needs them. */
 static text branches;
 
-/* The first branch: PCRs 7 and 11 have their present values, and the caller knows the PIN. */
+/* Satisfies the first branch: PCRs 7 and 11 have their present values, and the caller knows the
+ * PIN. */
 static void by_pin(tpm *it, uint32_t session) {
     text pcrs = {0};
     put_zeros(&pcrs, 2);
@@ -19,7 +20,7 @@ static void by_pin(tpm *it, uint32_t session) {
     must(it, 0x18c, HANDLES(session), NULL, NULL);
 }
 
-/* The second branch: TPM2_PolicySecret with the owner's passphrase. */
+/* Satisfies the second branch: TPM2_PolicySecret with the owner's passphrase. */
 static int by_passphrase(tpm *it, uint32_t session, const char *given) {
     const text parameters = {10, {0}};
     return send_command(it, 0x151, HANDLES(OWNER, session), BY_PASSWORD(given), &parameters);

@@ -1,6 +1,6 @@
 /* A session that is bound to the owner encrypts a secret on its way to the TPM. The owner's
-   authorization value is not sent at all. Someone who listens learns neither of them, and cannot
-   send the same bytes again. */
+   authorization value is not sent at all. An eavesdropper learns neither of them, and cannot send
+   the same bytes again successfully. */
 #include "session.h"
 
 static const char secret[] = "a secret of 24 bytes, ok";
@@ -40,7 +40,8 @@ static text names(uint32_t attributes) {
     return both;
 }
 
-/* Sends a command that the owner authorizes, and records its bytes. Returns whether it is accepted. */
+/* Sends a command that the owner authorizes, and records its bytes. Returns whether the TPM accepts
+ * it. */
 static int send_by(tpm *it, session *by_session, uint32_t code, const uint32_t *handles, text names,
                    text parameters, uint8_t attributes) {
     const text entry = entry_of(by_session, code, &names, &parameters, CONTINUES | attributes);

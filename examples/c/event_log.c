@@ -18,7 +18,7 @@ static text values_of(tpm *it) {
     text values = {0}, parameters = {0};
     put_selection(&parameters, 1u << 0 | 1u << 4 | 1u << 7 | 1u << 11);
     must(it, 0x17e, HANDLES(NONE), NULL, &parameters);
-    /* The update counter, the selection and the number of values precede the values. */
+    /* The values follow the update counter, the selection and the number of values. */
     put(&values, it->parameters + 4 + 10 + 4, 4 * (2 + 32));
     return values;
 }

@@ -14,12 +14,12 @@ static uint32_t lowest(tpm *it) {
     return number_at(it->parameters + 2 + 4, 4);
 }
 
-/* TPM2_PolicyNV: asserts that the counter is at most this version. */
+/* Executes TPM2_PolicyNV: the counter is at most this version. */
 static int at_most(tpm *it, uint32_t session, uint32_t version) {
     text parameters = {0};
     put_number(&parameters, 8, 2);
     put_number(&parameters, version, 8);
-    put_number(&parameters, 9, 4); /* offset 0; operation: unsigned, less than or equal */
+    put_number(&parameters, 9, 4); /* offset 0, and the operation: unsigned, less than or equal */
     return send_command(it, 0x149, HANDLES(INDEX, INDEX, session), BY_PASSWORD(""), &parameters);
 }
 

@@ -77,7 +77,7 @@ static inline hash sha256(text message) {
     return digest;
 }
 
-/* HMAC with SHA-256. The key has at most 64 bytes. */
+/* Returns the HMAC-SHA-256 of a message. The key has at most 64 bytes. */
 static inline hash hmac(const text *key, const text *message) {
     text inner = {0}, outer = {0};
     for (size_t at = 0; at < 64; at++) {
@@ -90,7 +90,7 @@ static inline hash hmac(const text *key, const text *message) {
     return sha256(outer);
 }
 
-/* Returns 256 bits that KDFa derives from a key and two nonces. */
+/* Derives 256 bits from a key and two nonces with KDFa. */
 static inline hash kdfa(const text *key, const char *label, const uint8_t *newer,
                         const uint8_t *older) {
     text message = {0};
@@ -165,8 +165,8 @@ static inline void new_nonce(session *it) {
     need(getrandom(it->nonce_caller, NONCE_BYTES, 0) == NONCE_BYTES, "there are no random bytes");
 }
 
-/* Starts a session that is bound to the entity of a handle, whose authorization value is
- * `value`. */
+/* Starts a session that is bound to the entity with a handle. `value` is the authorization value of
+ * that entity. */
 static inline session start_bound(tpm *device, uint32_t bind, const char *value) {
     session it = {.value = value};
     text parameters = {0}, key = {0};
@@ -189,8 +189,8 @@ static inline hash keys_of(const session *it, const uint8_t *newer, const uint8_
     return kdfa(&key, "CFB", newer, older);
 }
 
-/* Returns the HMAC of an entry. `hashed` contains the bytes that precede the parameters in cpHash
- * or rpHash. */
+/* Returns the HMAC of an authorization entry. `hashed` contains the bytes that precede the
+ * parameters in cpHash or rpHash. */
 static inline hash mac_of(const session *it, text hashed, const text *parameters,
                           const uint8_t *newer, const uint8_t *older, uint8_t attributes) {
     text key = {0}, message = {0};
@@ -203,8 +203,8 @@ static inline hash mac_of(const session *it, text hashed, const text *parameters
     return hmac(&key, &message);
 }
 
-/* Returns the entry of a command. `names` contains the Names of its handles. If the attributes
-   require it, encrypts the first parameter. */
+/* Returns the authorization entry of a command. `names` contains the Names of its handles. If the
+   attributes require it, encrypts the first parameter. */
 static inline text entry_of(session *it, uint32_t code, const text *names, text *parameters,
                             uint8_t attributes) {
     text hashed = {0}, entry = {0};

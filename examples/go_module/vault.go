@@ -6,7 +6,7 @@ import (
 	"fmt"
 )
 
-// TPM is the shape of go-tpm's transport.TPM.
+// TPM has the same methods as go-tpm's transport.TPM.
 type TPM interface {
 	Send(command []byte) ([]byte, error)
 }

@@ -1,4 +1,4 @@
-"""Tests a device that the CI has started for the job."""
+"""Tests a device that the CI system has started for the job."""
 
 import os
 

@@ -1,4 +1,4 @@
-"""Each test has its own device, from the fixture `tpm`."""
+"""Tests the vault. Each test gets its own device from the fixture `tpm`."""
 
 import pytest
 from tpmsim.caller import Refused

@@ -1,6 +1,6 @@
 """A session that is bound to the owner encrypts a secret on its way to the TPM. The owner's
-authorization value is not sent at all. Someone who listens learns neither of them, and cannot send
-the same bytes again.
+authorization value is not sent at all. An eavesdropper learns neither of them, and cannot send the
+same bytes again successfully.
 """
 
 from tpmsim.caller import area, BY_OWNER, Caller, Refused
@@ -11,7 +11,7 @@ SECRET, OWNER = b"a secret of 24 bytes, ok", b"the owner's value"
 
 
 class Way:
-    """A connection to a TPM on which somebody listens."""
+    """A connection to a TPM, with an eavesdropper."""
 
     def __init__(self, device: Transport) -> None:
         self.device, self.heard = device, b""

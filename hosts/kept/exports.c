@@ -1,4 +1,5 @@
-/* The kept device for programs in C and in other languages; tpmsim_kept.h documents the calls. */
+/* A device that is kept in a folder, for programs in C and in other languages. tpmsim_kept.h
+ * documents the functions. */
 #include "kept.h"
 #include "past.h"
 #include "told.h"
@@ -7,7 +8,8 @@
 
 _Static_assert((int)TPMSIM_KEPT_REASON_SIZE == (int)REASON_ROOM, "each sentence fits");
 
-/* Returns the number of a call's result. If the call failed, also writes the reason to `text`. */
+/* Returns the number that stands for the result of a call. If the call failed, also writes the
+ * reason to `text`. */
 static uint8_t number_of(bool is_done, const struct reason *reason, char text[REASON_ROOM]) {
     if (is_done) return TPMSIM_DONE;
     memcpy(text, reason->text, strlen(reason->text) + 1);

@@ -24,8 +24,8 @@ int close_file(int file) {
     return -1;
 }
 
-/* Copies a path without the slashes at its end. With a slash at the end, a link would be
- * followed. */
+/* Copies a path without the slashes at its end, because a path that ends with a slash follows a
+ * link. */
 static char *copy_path(const char *path) {
     size_t size = strlen(path);
     while (size > 1 && path[size - 1] == '/') size--;
@@ -41,8 +41,8 @@ static bool set_mode_by_path(const char *path) {
 }
 
 /* Sets the mode of the new folder, because the umask may have removed bits. Opening the folder
- * follows no link and needs no /proc. The path is used only if the umask denies the folder to
- * its own user. */
+ * follows no link and needs no /proc. If the umask denies the folder to its own user, it cannot be
+ * opened, and the path is used instead. */
 static bool set_mode(const char *path) {
     int made = open(path, O_RDONLY | O_DIRECTORY | O_NOFOLLOW | O_CLOEXEC);
     if (made < 0) return errno == EACCES && set_mode_by_path(path);
@@ -132,8 +132,8 @@ int folder_make_file(const struct folder *folder, const char *name, struct reaso
     return close_file(file);
 }
 
-/* Opens the lock file, and makes it if it is missing. It is no fault if another process makes
- * the file after this one found it missing. */
+/* Opens the lock file, and makes it if it is missing. It is not a fault if another process makes
+ * the file after this one found that it was missing. */
 static bool open_lock(struct folder *folder, struct reason *reason) {
     if (folder_look(folder, LOCK_NAME, &folder->lock_status, reason) == 0) {
         int made = folder_make_file(folder, LOCK_NAME, reason);
@@ -149,7 +149,7 @@ static bool open_lock(struct folder *folder, struct reason *reason) {
 
 static void close_lock(struct folder *folder) { folder->lock = close_file(folder->lock); }
 
-/* Waits until no other open file holds the lock, and takes it. */
+/* Waits until no other open file holds the lock, and acquires it. */
 static bool wait_for(int lock) {
     while (flock(lock, LOCK_EX) != 0)
         if (errno != EINTR) return false;
@@ -174,7 +174,7 @@ void folder_unlock(struct folder *folder) {
     if (folder->lock >= 0 && flock(folder->lock, LOCK_UN) != 0) close_lock(folder);
 }
 
-/* Syncs the parent folder. If the user may not read the parent, or its file system does not sync
+/* Syncs the parent folder. If the user may not read the parent, or the file system does not sync
  * folders, syncs the whole file system of this folder instead. */
 static bool force_name(const struct folder *folder, struct reason *reason) {
     int above = openat(folder->descriptor, "..", O_RDONLY | O_DIRECTORY | O_CLOEXEC);

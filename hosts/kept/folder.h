@@ -1,4 +1,4 @@
-/* The folder of a kept device: its files, and its lock.
+/* The folder in which a device is kept, with its files and its lock.
  *
  * Only regular files that belong to the user of the process are opened. Links are not followed.
  * Only the user can access the files and folders that are made here, whatever the umask is. */
@@ -12,13 +12,14 @@
 
 struct folder {
     char *path;
-    /* The open folder, and the open lock file; -1 if there is none. */
+    /* The open folder and the open lock file. -1 stands for none. */
     int descriptor;
     int lock;
     struct stat lock_status;
-    /* Set by the process that opened the lock file. A forked child would share the lock. */
+    /* Set by the process that opened the lock file. A forked child must open the file again,
+     * because it would share the lock. */
     struct fork_mark mark;
-    /* Whether this holder has synced the folder's own name to the disk. */
+    /* Whether this process has synced the folder's own name to the disk. */
     bool name_is_forced;
 };
 
@@ -27,15 +28,15 @@ struct folder {
 /* Closes a file, if it is open. Returns -1, and preserves errno. */
 int close_file(int file);
 
-/* Whether both belong to the same file. */
+/* Whether both statuses belong to the same file. */
 bool is_same_file(const struct stat *one, const struct stat *other);
 
 /* Opens a folder. If it is missing and `makes` is true, makes it first. */
 bool folder_open(struct folder *folder, const char *path, bool makes, struct reason *reason);
 void folder_close(struct folder *folder);
 
-/* Looks up a name. Returns 1 for a regular file of the user, 0 if the name does not exist, and
- * -1 with the reason for anything else. */
+/* Looks up a name. Returns 1 for a regular file of the user, 0 if the name does not exist, and -1
+ * with a reason for anything else. */
 int folder_look(const struct folder *folder, const char *name, struct stat *status,
                 struct reason *reason);
 
@@ -51,12 +52,12 @@ int folder_open_file(const struct folder *folder, const char *name, struct stat 
 /* Makes a missing file. Returns -1 with the reason and errno. */
 int folder_make_file(const struct folder *folder, const char *name, struct reason *reason);
 
-/* Waits until no other holder has the lock, and takes it. Returns false with the reason, or with
- * errno if the file cannot be locked. */
+/* Waits until no other process holds the lock, and acquires it. Returns false with the reason, or
+ * with errno if the file cannot be locked. */
 bool folder_lock(struct folder *folder, struct reason *reason);
 void folder_unlock(struct folder *folder);
 
-/* Syncs the names in the folder to the disk, and once also the folder's own name. */
+/* Syncs the names in the folder to the disk. The first time, also syncs the folder's own name. */
 bool folder_force(struct folder *folder, struct reason *reason);
 
 #endif

@@ -3,7 +3,7 @@
 #include <stddef.h>
 #include <sys/mman.h>
 
-/* The kernel allocates whole pages; the mark is the first byte of one. */
+/* The kernel allocates whole pages. The mark is the first byte of a page. */
 enum { SIZE = 1 };
 
 void fork_mark_begin(struct fork_mark *mark) {

@@ -8,10 +8,10 @@
 #include <stdlib.h>
 #include <unistd.h>
 
-/* Larger than any image. */
+/* The size of a buffer for an image, larger than any image. */
 enum { ROOM = 64 * 1024 };
 
-/* Opens the file if it may be read. Returns -1 with the reason. */
+/* Opens the file if the user may read it. Returns -1 with the reason. */
 static int open_file(const char *path, struct reason *reason) {
     struct stat status;
     if (fstatat(AT_FDCWD, path, &status, AT_SYMLINK_NOFOLLOW) != 0) {
@@ -24,7 +24,7 @@ static int open_file(const char *path, struct reason *reason) {
     return file;
 }
 
-/* Reads an image, and opens its device. */
+/* Reads an image from a file, and opens its device. */
 static bool read_device(tpmsim *device, int file, const char *path, uint8_t *room, size_t *size,
                         struct reason *reason) {
     struct stat status;
@@ -38,7 +38,7 @@ static bool read_device(tpmsim *device, int file, const char *path, uint8_t *roo
     return told == TPMSIM_DONE || refuse_told(reason, path, NULL, told);
 }
 
-/* Returns the bytes of an image, and opens its device. */
+/* Returns the bytes of the image in a file, and opens its device. */
 static uint8_t *open_bytes(tpmsim *device, const char *path, size_t *size, struct reason *reason) {
     int file = open_file(path, reason);
     if (file < 0) return NULL;

@@ -1,13 +1,14 @@
-/* The image from which a new device is made. */
+/* The image of an existing device, from which a new device in a folder is made. */
 #ifndef IMAGE_H
 #define IMAGE_H
 #include "reason.h"
 #include "tpmsim.h"
 
-/* Reads the image in a file of the user. The caller frees it. Returns NULL with the reason. */
+/* Reads the image in a file that belongs to the user. The caller frees it. Returns NULL with the
+ * reason. */
 uint8_t *image_read(const char *path, size_t *size, struct reason *reason);
 
-/* Opens the device of an image. */
+/* Opens the device of the image in a file. */
 bool image_open(tpmsim *device, const char *path, struct reason *reason);
 
 #endif

@@ -32,7 +32,7 @@ static void free_buffer(struct keeping *keeping) {
     keeping->buffer = NULL;
 }
 
-/* Makes the buffer at least this large. Its contents are lost if it grows. */
+/* Makes the buffer at least this large. If the buffer grows, its contents are lost. */
 static bool reserve(struct keeping *keeping, size_t size, struct reason *reason) {
     if (keeping->buffer_size >= size) return true;
     uint8_t *buffer = malloc(size);
@@ -43,7 +43,7 @@ static bool reserve(struct keeping *keeping, size_t size, struct reason *reason)
     return true;
 }
 
-/* Notes in a sentence what a task cuts off the journal, if it cuts anything. */
+/* Describes in a sentence what a task cuts off the journal, if anything. */
 static void note_cut(struct keeping *keeping, const tpmsim_ask *ask) {
     char said[128], place[32] = "last whole record";
     if (keeping->size <= ask->cut) return;
@@ -53,8 +53,8 @@ static void note_cut(struct keeping *keeping, const tpmsim_ask *ask) {
     refuse(&keeping->notice, keeping->folder.path, JOURNAL_NAME ":", said, 0);
 }
 
-/* ---- the tasks. A task that fails sets the reason, or leaves it to the keeper's fault and to
-   errno. */
+/* ---- the tasks. A task that fails sets the reason, or the reason is made later from the keeper's
+   fault and errno. */
 
 static uint8_t look(struct keeping *keeping, struct reason *reason) {
     const struct folder *folder = &keeping->folder;
@@ -103,7 +103,7 @@ static bool put(struct keeping *keeping, const tpmsim_ask *ask, struct reason *r
     return false;
 }
 
-/* Removes the new file, and preserves errno. */
+/* Removes the new journal file, and preserves errno. */
 static void remove_new(struct keeping *keeping) {
     int error = errno;
     unlinkat(keeping->folder.descriptor, NEW_NAME, 0);
@@ -111,14 +111,14 @@ static void remove_new(struct keeping *keeping) {
     errno = error;
 }
 
-/* Writes the new file and syncs it. Returns what failed; NULL if nothing did. */
+/* Writes the new journal file and syncs it. Returns the words for a failure, or NULL. */
 static const char *write_new(struct keeping *keeping, size_t size) {
     if (!transfer_write(keeping->fresh, keeping->buffer, size, 0)) return "cannot be written";
     if (fsync(keeping->fresh) != 0) return "cannot be forced to the disk";
     return fstat(keeping->fresh, &keeping->fresh_status) == 0 ? NULL : "cannot be looked at";
 }
 
-/* Makes the new file. First removes one that a killed process may have left. */
+/* Makes the new journal file. First removes one that a killed process may have left. */
 static bool make(struct keeping *keeping, const tpmsim_ask *ask, struct reason *reason) {
     struct stat status;
     int there = folder_look(&keeping->folder, NEW_NAME, &status, reason);
@@ -149,7 +149,7 @@ static bool name(struct keeping *keeping, struct reason *reason) {
     return true;
 }
 
-/* Does a task of a device in memory. If the keeper dropped the device for lack of memory, the
+/* Performs a task for a device in memory. If the keeper dropped the device for lack of memory, the
    device is lost. */
 static uint8_t do_in_memory(struct keeping *keeping, const tpmsim_ask *ask) {
     switch (ask->task) {
@@ -162,7 +162,7 @@ static uint8_t do_in_memory(struct keeping *keeping, const tpmsim_ask *ask) {
     return TPMSIM_GOT_DONE;
 }
 
-/* Fills the buffer with the keeper's text, does the task, and returns a number of tpmsim_got. */
+/* Fills the buffer with the keeper's text, performs the task, and returns a value of tpmsim_got. */
 static uint8_t do_task(struct keeping *keeping, const tpmsim_ask *ask, struct reason *reason) {
     bool is_done = true;
     if (!keeping->folder.path) return do_in_memory(keeping, ask);
@@ -191,12 +191,13 @@ static bool refuse_damage(struct keeping *keeping, struct reason *reason) {
     if (!read_from(keeping, 0, reason)) return false;
     uint8_t told = tpmsim_journal_open(&device, keeping->buffer, keeping->read, &taken);
     tpmsim_free(&device);
-    /* Another holder may have cut the journal in between. */
+    /* Another process may have cut the journal in the meantime */
     if (told == TPMSIM_DONE) told = TPMSIM_DAMAGED;
     return refuse_told(reason, keeping->folder.path, JOURNAL_NAME, told);
 }
 
-/* Sets the reason why a call failed, in the keeper's words, unless a task has set it already. */
+/* Sets the reason why a call failed to the keeper's text for the fault, unless a task has set it
+ * already. */
 static bool refuse_fault(struct keeping *keeping, uint8_t fault, int error, struct reason *reason) {
     char said[128] = "";
     const char *file = fault == TPMSIM_FAULT_LOCK   ? LOCK_NAME

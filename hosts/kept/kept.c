@@ -21,8 +21,8 @@ static bool tell_now(const struct kept *kept, uint64_t *now_ms, struct reason *r
                   "needs the host's clock, which cannot be read or is before 1970", 0);
 }
 
-/* Provides fresh random bytes. All of them count as drawn until the device reports how many it
- * drew. */
+/* Provides fresh random bytes. All of them count as drawn until the device reports the number that
+ * it drew. */
 static bool renew(struct kept *kept, struct reason *reason) {
     if (!draws_renew(&kept->draws))
         return refuse(reason, keeping_name(&kept->keeping), NULL,
@@ -31,9 +31,9 @@ static bool renew(struct kept *kept, struct reason *reason) {
     return true;
 }
 
-/* Determines the time of a manufacture, restore or power cycle from the host's clock, and a number
- * for the start of the completing layer that no earlier start had. A power cycle does not use the
- * number. The number is combined with the clock, because reproducible runs repeat their random
+/* Determines the time of a manufacture, restore or power cycle from the host's clock. Also
+ * determines a start number for the completing layer that no earlier start had; a power cycle does
+ * not use it. The number is combined with the clock, because reproducible runs repeat their random
  * bytes. */
 static bool tell_start(struct kept *kept, uint64_t *now_ms, uint64_t *start,
                        struct reason *reason) {
@@ -44,7 +44,7 @@ static bool tell_start(struct kept *kept, uint64_t *now_ms, uint64_t *start,
     return true;
 }
 
-/* Does the call that the keeper has begun with this result, and reports what was cut off the
+/* Completes the call that the keeper has begun with this result, and reports what was cut off the
  * journal. */
 static bool run(struct kept *kept, uint8_t told, struct reason *reason) {
     bool is_done = keeping_run(&kept->keeping, told, reason);
@@ -67,7 +67,7 @@ static bool begin(struct kept *kept, const char *image, struct reason *reason) {
     return run(kept, told, reason);
 }
 
-/* Checks that there is a device. After this, tpmsim_keeper_state writes its state text. */
+/* Checks that there is a device. Then tpmsim_keeper_state can write its state text. */
 static bool show(struct kept *kept, struct reason *reason) {
     static const uint8_t none[1];
     return run(kept, tpmsim_keeper_begin(&kept->keeping.keeper, TPMSIM_JOB_SHOW, none, 0), reason);
@@ -125,8 +125,8 @@ bool kept_snapshot(struct kept *kept, uint8_t text[TPMSIM_STATE_SIZE], size_t *s
     return true;
 }
 
-/* tpmsim_restore reports why a text is not a state text; the keeper reports only that it is not
- * one. */
+/* Calls tpmsim_restore as well as the keeper, because only tpmsim_restore reports why a text is not
+ * a state text. */
 bool kept_restore(struct kept *kept, const uint8_t *text, size_t size, struct reason *reason) {
     tpmsim device = {0};
     uint64_t now_ms, start;

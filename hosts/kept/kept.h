@@ -1,15 +1,15 @@
 /* A device that is kept in a folder, based on the library libtpmsim.
  *
- * FOLDER/journal contains the device's state at the start of the journal, followed by a record
- * of each command since then: the command, the random bytes that it drew, its time and its
- * locality. Opening the device executes these commands again. A command's record is in the file
- * before its response is released. Therefore no answered command is lost, even if a process is
- * killed at any moment. FOLDER/lock is locked while a command is executed. Several processes may
- * use the device at once: before its own command, each executes what the others have added. The
- * library's keeper decides what to do when, and keeping.c does it.
+ * FOLDER/journal contains the device's state at the start of the journal, followed by a record of
+ * each command since then: the command, the random bytes that it drew, its time and its locality.
+ * Opening the device executes these commands again. A command's record is in the file before its
+ * response is released. Therefore no answered command is lost, even if a process is killed at any
+ * moment. FOLDER/lock is locked while a command is executed. Several processes may use the device
+ * at once: each of them executes the commands that the others have added before it executes its
+ * own. The library's keeper decides which task comes next, and keeping.c performs it.
  *
- * A call that fails returns false or NULL, with a sentence that names the path. Only one call at
- * a time may use a kept device. There are no global variables, and no call ends the process. */
+ * A call that fails returns false or NULL, with a sentence that names the path. Only one call at a
+ * time may use a `struct kept`. There are no global variables, and no call ends the process. */
 #ifndef KEPT_H
 #define KEPT_H
 #include "reason.h"
@@ -18,19 +18,19 @@
 #include <stddef.h>
 #include <stdint.h>
 
-/* What the caller requests. Zeros request a new device in memory, with the system's random
+/* The caller's options. If all are zero, a new device is made in memory, with the system's random
  * bytes. */
 struct kept_options {
-    /* The folder. NULL: the device is in memory, and is lost at kept_close. */
+    /* The folder. If it is NULL, the device is in memory, and is lost at kept_close. */
     const char *folder;
-    /* The file with the image of a new device. NULL: the new device is manufactured. */
+    /* The file with the image of a new device. If it is NULL, a new device is manufactured. */
     const char *image;
     /* For reproducible runs: 1 to 256 bytes, repeated to 256, which each command gets as its
      * random bytes. If the size is 0, the system's random bytes are used. */
     const uint8_t *random;
     size_t random_size;
-    /* A number of tpmsim_force: when the journal is synced to the disk, for hosts whose power
-     * may fail. */
+    /* A value of tpmsim_force, which says when the journal is synced to the disk. This matters if
+     * the host's power may fail. */
     uint8_t force;
     /* The number of past journals to keep in the folder, 0 to PAST_MOST of past.h. */
     unsigned keep;
@@ -38,10 +38,9 @@ struct kept_options {
     bool completes;
     /* If true, a folder without a device is a fault. Otherwise a new device is made there. */
     bool is_there;
-    /* If true, the rest of a journal from its first damage on is dropped. Otherwise a damaged
-     * journal is refused. */
+    /* If true, a damaged journal is cut off at its first damage. Otherwise it is refused. */
     bool cuts;
-    /* Gets a sentence when something was cut off a journal; may be NULL. */
+    /* Called with a sentence when something was cut off a journal; may be NULL. */
     void (*tell)(const char *sentence);
 };
 
@@ -50,8 +49,8 @@ struct kept;
 /* Opens a device. Returns NULL with the reason. */
 struct kept *kept_open(const struct kept_options *options, struct reason *reason);
 
-/* Executes a command, and writes its response, as tpmsim_execute does. If this fails, the
- * command has no response, and the next call starts from the commands in the journal. */
+/* Executes a command, and writes its response, as tpmsim_execute does. If this fails, there is no
+ * response, and the next call executes the commands in the journal again. */
 bool kept_execute(struct kept *kept, const uint8_t *buffer, size_t size, uint8_t locality,
                   uint8_t response[4096], tpmsim_answered *answered, struct reason *reason);
 
@@ -62,14 +61,15 @@ bool kept_power(struct kept *kept, struct reason *reason);
 bool kept_snapshot(struct kept *kept, uint8_t text[TPMSIM_STATE_SIZE], size_t *size,
                    struct reason *reason);
 
-/* Replaces the device by the one of a state text, for every process that uses it. If the bytes
- * are not a state text, the device is unchanged. */
+/* Replaces the device with that of a state text, for every process that uses it. If the bytes are
+ * not a state text, the device is unchanged. */
 bool kept_restore(struct kept *kept, const uint8_t *text, size_t size, struct reason *reason);
 
 /* Turns the completing layer on or off for the commands of this process. */
 void kept_complete(struct kept *kept, bool completes);
 
-/* Returns a sentence about what the last call cut off the journal; empty if it cut nothing. */
+/* Returns a sentence that describes what the last call cut off the journal; empty if it cut
+ * nothing. */
 const char *kept_notice(const struct kept *kept);
 
 /* Closes the device, which may be NULL. */

@@ -13,7 +13,7 @@ static const char *name_of(unsigned number, char name[32]) {
     return name;
 }
 
-/* Returns the lowest number without a past journal, or `count` if there is none. */
+/* Returns the lowest number that no past journal has, or `count` if there is none below it. */
 static unsigned free_number(const struct folder *folder, unsigned count) {
     struct stat status;
     char name[32];
@@ -24,9 +24,9 @@ static unsigned free_number(const struct folder *folder, unsigned count) {
     return count;
 }
 
-/* Renames the journals before the lowest free number to the next number, so that journal.1 is
- * free. If a process is killed halfway, it leaves a free number, and no further journal is lost
- * later. */
+/* Increments the number of each past journal below the lowest free number, so that journal.1 is
+ * free. If the process is killed halfway, a number is free, which the next call uses without losing
+ * a journal. */
 static bool move_on(const struct folder *folder, unsigned count, struct reason *reason) {
     char name[32], next[32];
     if (count == 1 && unlinkat(folder->descriptor, LAST, 0) != 0 && errno != ENOENT)
@@ -45,7 +45,7 @@ bool past_keep(const struct folder *folder, unsigned count, struct reason *reaso
     if (there != 1) return there == 0;
     int is_last = folder_look(folder, LAST, &last, reason);
     if (is_last < 0) return false;
-    /* A process may have been killed after it linked the journal. */
+    /* An earlier process may have been killed after it linked the journal. */
     if (is_last == 1 && is_same_file(&journal, &last)) return true;
     if (!move_on(folder, count, reason)) return false;
     return linkat(folder->descriptor, JOURNAL, folder->descriptor, LAST, 0) == 0 ||

@@ -5,8 +5,9 @@
 
 enum { PAST_MOST = 99 };
 
-/* Links the current journal, which is about to be replaced, as journal.1. First renames the past
- * journals up to the lowest free number to the next number, so that at most `count` stay. */
+/* Links the current journal, which is about to be replaced, as journal.1. First increments the
+ * numbers of the past journals up to the lowest free number, so that at most `count` journals
+ * stay. */
 bool past_keep(const struct folder *folder, unsigned count, struct reason *reason);
 
 #endif

@@ -4,7 +4,7 @@
 #include <stdio.h>
 #include <string.h>
 
-/* Replaces the control characters, which would break the line. */
+/* Replaces the control characters of a text, which would break its line. */
 static void keep_in_one_line(char *text) {
     for (; *text; text++)
         if ((unsigned char)*text < ' ' || *text == 127) *text = '?';

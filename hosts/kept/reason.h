@@ -1,15 +1,15 @@
-/* Why something failed: one plain sentence, in English in every locale. */
+/* The reason why something failed: one sentence, in English in every locale. */
 #ifndef REASON_H
 #define REASON_H
 #include <stdbool.h>
 #include <stdint.h>
 
-/* Enough for the longest path that Linux accepts, and for the rest of a sentence. */
+/* The size of a buffer for the longest path that Linux accepts and the rest of a sentence. */
 enum { REASON_ROOM = 4608 };
 
 struct reason {
     char text[REASON_ROOM];
-    /* A number of tpmsim_told if the library refused something; else 0. */
+    /* The value of tpmsim_told if the library refused something; otherwise 0. */
     uint8_t told;
 };
 

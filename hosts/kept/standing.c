@@ -5,7 +5,7 @@
 
 static const char LINK[] = "is a link, which is not followed";
 
-/* Whether the file belongs to the user of the process; otherwise sets the reason. */
+/* Whether the file belongs to the user of the process; sets the reason if not. */
 static bool is_own(const struct stat *status, const char *path, const char *name,
                    struct reason *reason) {
     return status->st_uid == geteuid() || refuse(reason, path, name, "belongs to another user", 0);

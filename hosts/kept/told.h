@@ -1,13 +1,14 @@
-/* The library's results, in words. */
+/* The library's return codes, in words. */
 #ifndef TOLD_H
 #define TOLD_H
 #include "reason.h"
 #include "tpmsim.h"
 
-/* Returns the rest of a sentence about a journal or an image, after its path. */
+/* Returns the rest of a sentence about a journal or an image, to follow its path. */
 const char *told_words(uint8_t told);
 
-/* Sets the reason for a result of the library. Returns false, as refuse does. */
+/* Sets the reason to the words for a return code of the library. Returns false, as `refuse`
+ * does. */
 bool refuse_told(struct reason *reason, const char *about, const char *name, uint8_t told);
 
 #endif

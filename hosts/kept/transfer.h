@@ -1,4 +1,4 @@
-/* Writes and reads all requested bytes of a file at an offset. */
+/* Reads and writes any number of bytes at an offset of a file. */
 #ifndef TRANSFER_H
 #define TRANSFER_H
 #include <stdbool.h>
@@ -6,11 +6,12 @@
 #include <stdint.h>
 #include <sys/types.h>
 
-/* Writes all bytes, with one system call if the system accepts them at once. Returns false with
-   errno. */
+/* Writes all bytes at an offset, with one system call if the system accepts them all. Returns false
+   with errno. */
 bool transfer_write(int file, const uint8_t *bytes, size_t size, off_t place);
 
-/* Reads this many bytes, or up to the end of the file. Returns the number; -1 with errno. */
+/* Reads this many bytes, or up to the end of the file. Returns the number of bytes read, or -1 with
+ * errno. */
 ssize_t transfer_read(int file, uint8_t *room, size_t size, off_t place);
 
 #endif

@@ -15,7 +15,7 @@ static bool read_locality(struct words *words, const char *value) {
     return true;
 }
 
-/* Reads a number of one or two digits. */
+/* Reads the value of `keep=`, a number of one or two digits. */
 static bool read_keep(struct words *words, const char *value) {
     size_t size = strlen(value);
     if (size == 0 || size > 2 || strspn(value, "0123456789") != size) return false;
@@ -35,7 +35,7 @@ bool words_force(const char *word, uint8_t *force) {
     return false;
 }
 
-/* Returns the value of a hex digit in either case; 16 if it is not one. */
+/* Returns the value of a hex digit in either case, or 16 for any other character. */
 static unsigned digit_of(char digit) {
     if (digit >= '0' && digit <= '9') return (unsigned)(digit - '0');
     if (digit >= 'a' && digit <= 'f') return (unsigned)(digit - 'a' + 10);
@@ -56,7 +56,7 @@ static bool read_random(struct words *words, const char *value) {
     return true;
 }
 
-/* Reads the value that follows the name of a word. */
+/* Reads the value that follows the name of a word such as `keep=`. */
 static bool read_value(struct words *words, enum word word, const char *value) {
     switch (word) {
     case STATE: words->options.folder = value; return *value != 0;
@@ -77,7 +77,7 @@ static bool refuse_word(const char *text, const char *said, struct reason *reaso
     return refuse(reason, *text ? text : "an empty word", NULL, said, 0);
 }
 
-/* Reads one word. `seen` marks the words that were read before it. */
+/* Reads one word. `seen` marks the words that occurred before it. */
 static bool read_word(struct words *words, bool seen[WORDS], const char *text,
                       struct reason *reason) {
     for (int i = 0; i < WORDS; i++) {
@@ -91,13 +91,13 @@ static bool read_word(struct words *words, bool seen[WORDS], const char *text,
     return refuse_word(text, "is none of the words " WORDS_WANTED, reason);
 }
 
-/* Returns false with the reason if `word`, which needs a folder, was read without state=DIR. */
+/* Returns false with the reason if `word`, which needs a folder, occurred without state=DIR. */
 static bool has_folder(const bool seen[WORDS], enum word word, struct reason *reason) {
     return !seen[word] || seen[STATE] ||
            refuse(reason, NAMES[word], NULL, "is allowed only with state=DIR", 0);
 }
 
-/* Returns false with the reason if the words both request the completing layer and turn it off. */
+/* Returns false with the reason if the words turn the completing layer both on and off. */
 static bool has_one_layer(const bool seen[WORDS], struct reason *reason) {
     return !seen[COMPLETE] || !seen[DEVICE] ||
            refuse(reason, NAMES[COMPLETE], NULL, "cannot be combined with device", 0);

@@ -14,7 +14,7 @@ struct words {
     char *text;
     struct kept_options options;
     uint8_t locality;
-    /* Whether a process flushes, at its end, the objects and sessions that it loaded. */
+    /* Whether a process flushes the objects and sessions that it loaded when it ends. */
     bool flushes;
     uint8_t random[256];
 };

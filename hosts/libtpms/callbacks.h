@@ -1,4 +1,4 @@
-/* The callbacks of swtpm: they store states by name, and report the locality. */
+/* The callbacks of swtpm, which store states by name and report the locality. */
 #ifndef CALLBACKS_H
 #define CALLBACKS_H
 
@@ -6,7 +6,7 @@
 #include <stddef.h>
 #include <stdint.h>
 
-/* Makes swtpm prepare its storage of states and its channel of commands. */
+/* Makes swtpm prepare its storage for states and its channel for commands. */
 bool begin_callbacks(void);
 
 enum kept { KEPT, NOT_KEPT, NOT_READ };
@@ -17,7 +17,7 @@ enum kept load_state(const char *name, uint8_t **bytes, size_t *size);
 /* Makes swtpm store a state by this name. */
 bool store_state(const char *name, const uint8_t *bytes, size_t size);
 
-/* Returns swtpm's current locality, 0 to 4; another number if it reports none. */
+/* Returns swtpm's current locality, 0 to 4, or another number if swtpm reports none. */
 uint32_t locality_now(void);
 
 #endif

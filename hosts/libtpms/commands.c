@@ -1,4 +1,4 @@
-/* Commands, each with its response. */
+/* Executes commands and returns their responses. */
 #include "callbacks.h"
 #include "device.h"
 #include "report.h"
@@ -14,7 +14,7 @@ enum { LOCALITIES = 5 };
 /* TPM_RC_FAILURE, for a command that is not executed. */
 static const uint8_t FAILURE[] = {0x80, 0x01, 0, 0, 0, 10, 0, 0, 0x01, 0x01};
 
-/* Executes a command at swtpm's locality. */
+/* Executes a command at the locality that swtpm reports. */
 static bool execute_here(const uint8_t *command, size_t size, struct response *response) {
     uint32_t locality = locality_now();
     if (!device_is_on()) return false;
@@ -46,5 +46,5 @@ TPM_RESULT TPMLIB_Process(unsigned char **respbuffer, uint32_t *resp_size, uint3
     return TPM_SUCCESS;
 }
 
-/* A command completes before anything can cancel it. */
+/* A command is complete before anything can cancel it. */
 TPM_RESULT TPMLIB_CancelCommand(void) { return TPM_SUCCESS; }

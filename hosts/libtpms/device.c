@@ -1,4 +1,4 @@
-/* The device, and the record of each command, which is written before the command is answered. */
+/* The device and its record. Each command is recorded before it is answered. */
 #include "device.h"
 
 #include "host_clock.h"
@@ -29,7 +29,7 @@ void let_device_complete(bool completes) { completing = completes; }
 
 uint64_t time_of_device(void) { return latest; }
 
-/* Makes the head of the device's journal, and starts a record with it. */
+/* The head of the device's journal, with which a record begins. */
 static uint8_t head[HEAD_MOST];
 
 static bool begin_with_head(size_t size) {
@@ -61,8 +61,8 @@ bool write_last(void) {
     return !is_behind;
 }
 
-/* Executes a command: with its record, if recording was requested; otherwise with the completing
-   layer, if that is on; otherwise by the device alone. */
+/* Executes a command. If recording was requested, also makes its record. The completing layer takes
+   part if it is on. */
 static uint8_t run(const uint8_t *buffer, size_t size, uint8_t locality, uint32_t elapsed,
                    const uint8_t *random, uint8_t *response, tpmsim_answered *answered) {
     if (is_recorded())

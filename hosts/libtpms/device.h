@@ -1,4 +1,4 @@
-/* The device of this process: there is one. */
+/* The only device of this process. */
 #ifndef DEVICE_H
 #define DEVICE_H
 
@@ -23,26 +23,27 @@ bool device_is_on(void);
 /* Switches the completing layer on or off, from now on. */
 void let_device_complete(bool completes);
 
-/* Powers the device on: its completing layer, its clock and its record start. */
+/* Powers the device on. This starts its completing layer, its clock and its record. */
 bool begin_device(void);
 
-/* Continues the device whose last command was executed at this time of a host's clock, and starts its
-   record. */
+/* Continues a device whose last command was executed when the host's clock showed this time, and
+   begins its record. */
 bool resume_device(uint64_t time);
 
-/* The time of the host's clock at the last command. */
+/* The time that the host's clock showed at the last command. */
 uint64_t time_of_device(void);
 
-/* Executes a command from a locality of 0 to 4, writes its record if recording was requested, and has the
-   permanent state written if it changed. If writing either fails, the reason is reported, there is no
-   response, and no other command is executed until both are written. */
+/* Executes a command from a locality of 0 to 4, writes its record if recording was requested, and
+   has the permanent state written if it changed. If one of them cannot be written, the reason is
+   reported, there is no response, and no other command is executed until both are written. */
 bool execute(const uint8_t *buffer, size_t size, uint8_t locality, struct response *response);
 
-/* Whether the last command's record and the permanent state are written, if they have to be. */
+/* Whether the last command's record and the permanent state have been written, if they had to
+ * be. */
 bool last_was_written(void);
 
-/* Writes the record and the permanent state if they must still be written. On failure, the
-   reason is reported. */
+/* Writes the record and the permanent state if they have not been written yet. Reports the reason
+   for a failure. */
 bool write_last(void);
 
 /* Powers the device off. */

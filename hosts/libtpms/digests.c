@@ -32,7 +32,7 @@ static void write_words(const uint32_t *words, size_t count, uint8_t *bytes) {
     for (size_t i = 0; i < 4 * count; i++) bytes[i] = (uint8_t)(words[i / 4] >> (24 - 8 * (i % 4)));
 }
 
-/* The function and the constant of a round of SHA-1. */
+/* Returns the value of the round function of SHA-1 plus the constant of the round. */
 static uint32_t sha1_function(int round, uint32_t b, uint32_t c, uint32_t d) {
     if (round < 20) return ((b & c) | (~b & d)) + 0x5a827999;
     if (round < 40) return (b ^ c ^ d) + 0x6ed9eba1;

@@ -1,4 +1,4 @@
-/* SHA-1 and SHA-256 of one text, which is added in pieces. */
+/* The SHA-1 and SHA-256 digests of one text, which is added in pieces. */
 #ifndef DIGESTS_H
 #define DIGESTS_H
 

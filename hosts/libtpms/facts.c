@@ -1,4 +1,4 @@
-/* The facts about this TPM that do not depend on its state. */
+/* Facts about this TPM that do not depend on its state. */
 #include "device.h"
 #include "report.h"
 
@@ -9,11 +9,11 @@
 #include <stdlib.h>
 #include <string.h>
 
-/* The version of libtpms whose interface this implements. */
+/* The version of libtpms whose interface this library implements. */
 static const uint32_t VERSION = 10 << 8;
 
-/* The supported flags of TPMLIB_GetInfo, in their order; libtpms 0.10 has others, for which nothing is
-   reported. */
+/* The supported flags of TPMLIB_GetInfo, in the order of the output. libtpms 0.10 has other flags,
+   for which nothing is reported. */
 static const struct {
     unsigned flag;
     const char *text;
@@ -27,7 +27,8 @@ static const struct {
 
 uint32_t TPMLIB_GetVersion(void) { return VERSION; }
 
-/* swtpm reports a refused version, and tries every version when it prints its capabilities. */
+/* If a version is refused, swtpm reports that. It tries every version when it prints its
+ * capabilities. */
 TPM_RESULT TPMLIB_ChooseTPMVersion(TPMLIB_TPMVersion ver) {
     return ver == TPMLIB_TPM_VERSION_2 ? TPM_SUCCESS : TPM_FAIL;
 }
@@ -62,7 +63,7 @@ char *TPMLIB_GetInfo(enum TPMLIB_InfoFlags flags) {
     return NULL;
 }
 
-/* A profile selects algorithms and commands; for this device there is only one selection. */
+/* A profile selects algorithms and commands. This device supports only one selection. */
 TPM_RESULT TPMLIB_SetProfile(const char *profile);
 TPM_RESULT TPMLIB_SetProfile(const char *profile) {
     if (profile == NULL) return TPM_SUCCESS;
@@ -70,7 +71,7 @@ TPM_RESULT TPMLIB_SetProfile(const char *profile) {
     return TPM_FAIL;
 }
 
-/* A blob with the first state of a TPM 1.2. */
+/* Decodes a blob with the initial state of a TPM 1.2, which this library does not support. */
 TPM_RESULT TPMLIB_DecodeBlob(const char *data, enum TPMLIB_BlobType type, unsigned char **result,
                              size_t *result_len) {
     (void)data;

@@ -1,11 +1,13 @@
-/* The clock of a device that is on: changes of the time of day do not affect it. */
+/* The clock of a device while its power is on. Changes of the host's time of day do not affect
+ * it. */
 #include "host_clock.h"
 
 #include <time.h>
 
 static uint64_t begun_at, stopwatch_then;
 
-/* Returns a clock of the system in milliseconds; 0 if there is none, so that no time passes. */
+/* Returns the time of a system clock in milliseconds; 0 if the clock cannot be read, so that no
+ * time passes. */
 static uint64_t milliseconds(clockid_t clock) {
     struct timespec told;
     if (clock_gettime(clock, &told) != 0 || told.tv_sec < 0) return 0;

@@ -7,10 +7,10 @@
 /* Returns the host's time of day. */
 uint64_t time_of_day(void);
 
-/* Starts the clock at a time. */
+/* Starts the clock at this time. */
 void begin_host_clock(uint64_t begun);
 
-/* Returns the start time plus the time since then, including time during which the host slept. */
+/* Returns the start time plus the elapsed time, which includes time during which the host slept. */
 uint64_t host_clock(void);
 
 #endif

@@ -1,5 +1,5 @@
-/* A dynamic launch, by commands from locality 4: PCRs 17 to 22 are reset, and PCR 17 is extended by the
-   digests of the hashed data. */
+/* A dynamic launch, executed as commands from locality 4: PCRs 17 to 22 are reset, and PCR 17 is
+   extended by the digests of the hashed data. */
 #include "launch.h"
 
 #include "callbacks.h"
@@ -33,7 +33,7 @@ void tell_launch(bool was_launched) {
 
 bool was_launched(void) { return is_told; }
 
-/* Executes a command from locality 4 that has to succeed. */
+/* Executes a command from locality 4, which must succeed. */
 static bool is_done(const uint8_t *command, size_t size, const char *name) {
     static struct response response;
     static const uint8_t success[HEAD_BYTES - RESPONSE_CODE_AT];

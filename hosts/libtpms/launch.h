@@ -4,10 +4,10 @@
 
 #include <stdbool.h>
 
-/* Whether there was a launch that has not been revoked. */
+/* Whether a dynamic launch took place and has not been revoked. */
 bool was_launched(void);
 
-/* Sets whether there was a launch that has not been revoked. */
+/* Sets whether a dynamic launch took place and has not been revoked. */
 void tell_launch(bool was_launched);
 
 #endif

@@ -1,6 +1,6 @@
-/* The lines of a journal show when its last command was executed, and whether there was a launch that has not
-   been revoked: an empty command from locality 4 marks the start of a launch, and one from locality 3 marks
-   that it was revoked. */
+/* The lines of a journal show when its last command was executed, and whether a dynamic launch took
+   place that has not been revoked. An empty command from locality 4 marks the start of a launch,
+   and an empty command from locality 3 marks that it was revoked. */
 #include "older.h"
 
 #include "report.h"
@@ -17,7 +17,7 @@ bool is_older_state(const uint8_t *text, size_t size) {
     return size >= HEAD_BYTES && memcmp(text, HEAD, HEAD_BYTES) == 0;
 }
 
-/* Returns what follows a word at the start of a line; NULL if the line does not start with the word. */
+/* Returns the rest of a line that starts with a word; NULL if the line does not start with it. */
 static const char *after(const char *word, const char *line) {
     size_t size = strlen(word);
     return strncmp(line, word, size) == 0 ? line + size : NULL;
@@ -32,7 +32,7 @@ static void read_line(const char *line, char *locality, struct moment *moment) {
     if (*locality == '3') moment->was_launched = false;
 }
 
-/* Returns the moment of an opened journal; this splits the lines of the text. */
+/* Reads the moment at which an opened journal ends. Splits the text into lines in place. */
 static void read_moment(char *journal, struct moment *moment) {
     char *left = NULL, locality = '0';
     *moment = (struct moment){0};

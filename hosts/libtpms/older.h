@@ -1,4 +1,5 @@
-/* The volatile state of an older version of this library: the device's journal, and a last line. */
+/* The volatile state of an older version of this library: the device's journal, followed by one
+ * more line. */
 #ifndef OLDER_H
 #define OLDER_H
 
@@ -11,7 +12,8 @@
 
 bool is_older_state(const uint8_t *text, size_t size);
 
-/* Opens its device by executing the journal again. Returns NULL, or why it is refused. */
+/* Opens the device by executing the journal again. Returns NULL, or the reason why the state is
+ * refused. */
 const char *open_older_state(tpmsim *device, const uint8_t *text, size_t size, struct moment *moment);
 
 #endif

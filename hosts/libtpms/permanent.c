@@ -1,4 +1,4 @@
-/* The last stored copy of the state that the device keeps without power. */
+/* A copy of the permanent state as it was last stored. */
 #include "permanent.h"
 
 #include "callbacks.h"
@@ -8,7 +8,7 @@
 #include <stdlib.h>
 #include <string.h>
 
-/* An image is at most 28,361 bytes long, and what is kept without Clock is shorter. */
+/* An image has at most 28,361 bytes, and the state without Clock is shorter. */
 enum { IMAGE_MOST = 32 * 1024 };
 
 struct text {

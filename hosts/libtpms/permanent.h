@@ -1,5 +1,5 @@
-/* The permanent state, which is the device's image. It is written if more than the device's clock has
-   changed. */
+/* The permanent state, which is the device's image. It is stored when it has changed in more than
+   the device's clock. */
 #ifndef PERMANENT_H
 #define PERMANENT_H
 
@@ -11,19 +11,20 @@
 /* Makes the permanent state of a device; the caller has to free the bytes. */
 bool make_permanent_state(tpmsim *device, struct state *state);
 
-/* Opens the device of a permanent state, in the state after power-on. */
+/* Opens the device of a permanent state, as it is after power-on. */
 bool open_permanent_state(tpmsim *device, const struct state *state);
 
-/* Remembers that the image of this device is the stored one. */
+/* Remembers the image of this device as the stored one. */
 void take_as_permanent(tpmsim *device);
 
-/* Whether the stored state is the state that the device keeps without power, except for its clock. */
+/* Whether the stored image has the device's present permanent state, except for the clock. */
 bool is_permanent(tpmsim *device);
 
 /* Makes swtpm store the image of a device. */
 bool store_permanent(tpmsim *device);
 
-/* Makes swtpm store the image of a device if more than the clock differs from the stored one. */
+/* Makes swtpm store the image of a device if it differs from the stored one in more than the
+ * clock. */
 bool keep_permanent(tpmsim *device);
 
 /* Clears the remembered state, which contains secrets. */

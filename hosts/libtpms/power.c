@@ -16,7 +16,7 @@
 /* Whether the last power-on made a new device. */
 static bool was_manufactured;
 
-/* Whether the environment requests the completing layer. */
+/* Returns whether the environment requests the completing layer. */
 static bool read_completing(void) {
     const char *asked = getenv("TPMSIM_COMPLETE");
     if (asked == NULL || *asked == 0 || strcmp(asked, "0") == 0) {
@@ -50,7 +50,7 @@ static bool open_permanent(bool *is_to_be_stored) {
     return is_open;
 }
 
-/* Continues the device where it stopped. Its permanent state must equal the stored one. */
+/* Continues the device from a volatile state. Its permanent state must be the stored one. */
 static bool resume(const struct state *state) {
     struct moment moment;
     if (!open_volatile_state(the_device(), state, &moment)) return false;
@@ -62,7 +62,7 @@ static bool resume(const struct state *state) {
     return resume_device(moment.time);
 }
 
-/* Continues from the volatile state, or powers on if there is none. */
+/* Continues the device from the volatile state if there is one, and otherwise powers it on. */
 static bool open_volatile(void) {
     struct state state;
     enum kept kept = find_state(TPMLIB_STATE_VOLATILE, &state);

@@ -1,4 +1,4 @@
-/* Random bytes from getrandom, to replace those that were drawn. */
+/* Fetches random bytes with getrandom, to replace those that were drawn. */
 #include "randomness.h"
 
 #include "report.h"
@@ -9,7 +9,7 @@
 #include <sys/types.h>
 
 static uint8_t bytes[RANDOM_BYTES];
-/* The number of bytes at the front that are not fresh. */
+/* The number of bytes at the beginning that are not fresh. */
 static size_t stale = RANDOM_BYTES;
 
 const uint8_t *random_bytes(void) {
@@ -20,7 +20,8 @@ const uint8_t *random_bytes(void) {
             report("the system gives no random bytes: %s", strerror(errno));
             return NULL;
         }
-        /* getrandom fills the front, so after a short result the bytes at the end are still stale. */
+        /* getrandom fills the buffer from the beginning. If it returns fewer bytes, those at the
+         * end are still stale. */
         if ((size_t)given == stale) stale = 0;
     }
     return bytes;

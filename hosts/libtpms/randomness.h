@@ -1,4 +1,5 @@
-/* The host's random bytes: each command gets 256, and those that it drew are then replaced. */
+/* The host's random bytes. Each command gets 256 bytes, and those that it drew are then
+ * replaced. */
 #ifndef RANDOMNESS_H
 #define RANDOMNESS_H
 
@@ -7,10 +8,10 @@
 
 enum { RANDOM_BYTES = 256 };
 
-/* Returns RANDOM_BYTES bytes that nothing has drawn yet; NULL if the system provides none. */
+/* Returns RANDOM_BYTES bytes that no command has drawn yet; NULL if the system provides none. */
 const uint8_t *random_bytes(void);
 
-/* Notes that this many of the bytes returned last were drawn, from the front on. */
+/* Notes that the first `count` of the returned bytes were drawn. */
 void random_bytes_were_drawn(size_t count);
 
 /* Clears all random bytes. */

@@ -13,7 +13,7 @@
 enum { PATH_BYTES = 4096, MOST_FILES = 1000 * 1000 };
 
 static int descriptor = -1;
-/* The size of the file, and the size of the complete texts in it. */
+/* The size of the file, and the total size of the complete texts in it. */
 static off_t present, whole;
 
 void end_record(void) {
@@ -48,7 +48,7 @@ bool begin_record(const uint8_t *text, size_t size) {
     return false;
 }
 
-/* Removes the incomplete text at the end. Until that succeeds, nothing is written after it. */
+/* Removes the incomplete text at the end. Until that succeeds, nothing more is written. */
 static bool take_back(void) {
     if (present == whole) return true;
     if (ftruncate(descriptor, whole) != 0 || lseek(descriptor, whole, SEEK_SET) != whole) {

@@ -1,5 +1,6 @@
-/* The record that TPMSIM_RECORD requests: a journal since power-on, or since the device was restored from a
-   volatile state, in a file of the folder that it names. */
+/* The record of a device: a journal since power-on, or since the device was restored from a
+   volatile state. The environment variable TPMSIM_RECORD requests it, and names the folder for its
+   file. */
 #ifndef RECORD_H
 #define RECORD_H
 
@@ -7,11 +8,12 @@
 #include <stddef.h>
 #include <stdint.h>
 
-/* Creates FOLDER/boot-N.tpm, with the first unused N, and writes this text to it, if recording was requested. */
+/* If recording was requested, creates FOLDER/boot-N.tpm, with the first unused N, and writes this
+ * text to it. */
 bool begin_record(const uint8_t *text, size_t size);
 
-/* Appends a whole text, or reports why it could not. An incomplete text is removed, now or by the next call,
-   which fails as long as the removal does. Without a record there is nothing to write. */
+/* Appends a whole text, or reports why it could not. An incomplete text is removed, now or by the
+   next call, which fails if the removal fails again. If there is no record, nothing is written. */
 bool write_record(const uint8_t *text, size_t size);
 
 /* Whether there is a record. */

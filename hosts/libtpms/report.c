@@ -1,4 +1,4 @@
-/* Lines about faults, and the log to which swtpm directs them. */
+/* Reports faults in lines, to the log that swtpm selects. */
 #include "report.h"
 
 #include <errno.h>
@@ -69,7 +69,7 @@ const char *words_of_told(uint8_t told) {
 
 void TPMLIB_SetDebugFD(int fd) { log_descriptor = fd; }
 
-/* Faults are reported at every log level, and nothing else is. */
+/* Faults are reported at every log level. Nothing else is reported. */
 void TPMLIB_SetDebugLevel(unsigned int level) { (void)level; }
 
 TPM_RESULT TPMLIB_SetDebugPrefix(const char *prefix) {

@@ -4,10 +4,10 @@
 
 #include <stdint.h>
 
-/* Writes a line, formatted as by printf. The format has no newline at its end. */
+/* Writes a line, formatted like printf. The format has no newline at its end. */
 void report(const char *format, ...) __attribute__((format(printf, 1, 2)));
 
-/* Returns what a result of the library, tpmsim_told, says about a state. */
+/* Returns the words for a return code of the library (tpmsim_told), about a state. */
 const char *words_of_told(uint8_t told);
 
 #endif

@@ -20,7 +20,7 @@ static const char *const names[TYPES] = {TPM_PERMANENT_ALL_NAME, TPM_VOLATILESTA
                                          TPM_SAVESTATE_NAME};
 static struct state set[TYPES];
 
-/* The index of a type; TYPES if there is no such type. */
+/* Returns the index of a type, or TYPES if there is no such type. */
 static size_t place_of(enum TPMLIB_StateType type) {
     size_t place = 0;
     while (place < TYPES && types[place] != type) place++;
@@ -57,7 +57,7 @@ enum kept find_state(enum TPMLIB_StateType type, struct state *state) {
     return copy(set[place].bytes, set[place].size, &state->bytes) ? KEPT : NOT_READ;
 }
 
-/* Whether a device can be opened from a state. */
+/* Returns whether a device can be opened from a state. */
 static bool is_state(enum TPMLIB_StateType type, const struct state *state) {
     tpmsim scratch = {0};
     struct moment moment;
@@ -97,8 +97,9 @@ TPM_RESULT TPMLIB_SetState(enum TPMLIB_StateType st, const unsigned char *buffer
     return result;
 }
 
-/* The volatile state of the running device. If the last command was not written, swtpm's user may already
-   have an older permanent state. Then there is no volatile state, even if the command is written now. */
+/* Makes the volatile state of the running device. If the last command has not been written, swtpm's
+   user may already have an older permanent state. Then there is no volatile state, even if the
+   command is written now. */
 static bool make_present_volatile_state(struct state *state) {
     struct moment moment = {.time = time_of_device(), .was_launched = was_launched()};
     const char *reason = "the power is off";
@@ -111,7 +112,7 @@ static bool make_present_volatile_state(struct state *state) {
     return false;
 }
 
-/* The state of a running device. */
+/* Returns a state of the running device. */
 static TPM_RESULT present_state(enum TPMLIB_StateType type, struct state *state) {
     bool is_made = true;
     if (type == TPMLIB_STATE_PERMANENT) is_made = make_permanent_state(the_device(), state);

@@ -1,4 +1,4 @@
-/* The states of a device: those that swtpm sets before power-on, and otherwise those that it stores. */
+/* The states of a device: those that swtpm sets before power-on, or else those that it stores. */
 #ifndef STATES_H
 #define STATES_H
 
@@ -16,8 +16,8 @@ struct state {
     bool is_set;
 };
 
-/* Returns the state of a type that is set, or else the stored one; the caller has to free the bytes. A
-   missing state counts as not stored. */
+/* Returns the state of this type that was set, or else the stored one. The caller has to free the
+   bytes. A missing state counts as not stored. */
 enum kept find_state(enum TPMLIB_StateType type, struct state *state);
 
 /* Clears the bytes of a state, and frees them. */

@@ -1,5 +1,6 @@
-/* A state text and a tail of 41 bytes: the time (8), whether there was a launch (1), and a SHA-256 (32) over
-   these and the last 32 bytes of the text, which are the digest of everything before them. */
+/* A state text and a tail of 41 bytes: the time (8), whether there was a launch (1), and a SHA-256
+   digest (32) of these fields and of the last 32 bytes of the text, which are themselves the digest
+   of the rest of the text. */
 #include "volatile.h"
 
 #include "digests.h"
@@ -22,8 +23,8 @@ static void write_tail(uint8_t *tail, const struct moment *moment) {
     end_digests(&digests, sha1, tail + DIGEST_AT);
 }
 
-/* Reads the tail after a text of at least 32 bytes. Returns false for bytes that write_tail would
-   not write. */
+/* Reads the tail after a text of at least 32 bytes. Returns false if write_tail would have written
+   other bytes. */
 static bool read_tail(const uint8_t *tail, struct moment *moment) {
     uint8_t written[SHA256_BYTES + TAIL_BYTES];
     *moment = (struct moment){.was_launched = tail[LAUNCH_AT] != 0};
@@ -45,7 +46,7 @@ bool make_volatile_state(tpmsim *device, const struct moment *moment, struct sta
     return true;
 }
 
-/* Returns why a volatile state is refused; NULL if its device was opened. */
+/* Opens the device of a volatile state. Returns NULL, or the reason why the state is refused. */
 static const char *fault_of(tpmsim *device, const struct state *state, struct moment *moment) {
     size_t size = state->size < TAIL_BYTES ? 0 : state->size - TAIL_BYTES;
     if (is_older_state(state->bytes, state->size))

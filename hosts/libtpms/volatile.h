@@ -1,5 +1,5 @@
-/* The volatile state: the state text of the device with its completing layer, followed by data that are not
-   part of the device. */
+/* The volatile state: the state text of the device with its completing layer, followed by data that
+   belong to the host. */
 #ifndef VOLATILE_H
 #define VOLATILE_H
 
@@ -9,9 +9,10 @@
 #include <stdint.h>
 #include <tpmsim.h>
 
-/* When the device stopped, and whether there was a launch, which swtpm asks for. */
+/* The time at which the device stopped, and whether a dynamic launch took place, which swtpm asks
+ * for. */
 struct moment {
-    /* The host's clock at the last command, in milliseconds. */
+    /* The time that the host's clock showed at the last command, in milliseconds. */
     uint64_t time;
     bool was_launched;
 };
@@ -19,7 +20,7 @@ struct moment {
 /* Makes the volatile state of a device; the caller has to free the bytes. */
 bool make_volatile_state(tpmsim *device, const struct moment *moment, struct state *state);
 
-/* Opens the device of a volatile state, also of one from an older version of the library. */
+/* Opens the device of a volatile state, which an older version of the library may have made. */
 bool open_volatile_state(tpmsim *device, const struct state *state, struct moment *moment);
 
 #endif

@@ -12,7 +12,7 @@ static const uint8_t EXTEND[] = {0x80, 0x02, 0, 0, 0, 87, 0, 0, 0x01, 0x82, 0, 0
                                  0,    9,    0x40, 0, 0, 9, 0, 0, 0,  0,    0, 0, 0, 0,         2};
 static const uint8_t SHA1_ALGORITHM[] = {0, 0x04}, SHA256_ALGORITHM[] = {0, 0x0b};
 
-/* The response TPM_RC_LOCALITY, without a session. */
+/* The response TPM_RC_LOCALITY, without sessions. */
 static const uint8_t WRONG_LOCALITY[] = {0x80, 0x01, 0, 0, 0, 10, 0, 0, 0x09, 0x07};
 
 bool board_execute(struct board *board, const uint8_t *buffer, size_t size, uint8_t locality,
@@ -40,7 +40,8 @@ bool board_reset(struct board *board, struct reason *reason) {
     return !board->is_powered || device_cycle_power(board->device, reason);
 }
 
-/* Executes a command from the hardware's locality, and reports whether it succeeded. */
+/* Executes a command from the locality of the hardware, and reports whether the command
+ * succeeded. */
 static bool execute_from_hardware(struct board *board, const uint8_t *command, size_t size,
                                   bool *succeeded, struct reason *reason) {
     static const uint8_t success[CODE_BYTES];

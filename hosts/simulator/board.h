@@ -8,25 +8,28 @@
 struct board {
     struct device *device;
     bool is_powered;
-    /* A dynamic launch has started, and its code is being hashed. */
+    /* Whether a dynamic launch has started, whose code is being hashed. */
     bool is_launching;
     struct digests launched;
 };
 
-/* Each function returns false with the reason if the device cannot continue; the simulator then ends. */
+/* Each function returns false with the reason if the device cannot continue. The simulator then
+ * ends. */
 
-/* Executes a command. Without power the response is empty; for a locality above 4 it is LOCALITY. */
+/* Executes a command. The response is empty if the power is off, and LOCALITY for a locality above
+ * 4. */
 bool board_execute(struct board *board, const uint8_t *buffer, size_t size, uint8_t locality,
                    struct response *response, struct reason *reason);
 
-/* Turns the power on; if it was off, the device is power-cycled. */
+/* Turns the power on. If it was off, this power-cycles the device. */
 bool board_power_on(struct board *board, struct reason *reason);
 void board_power_off(struct board *board);
 
 /* Power-cycles the device if its power is on. */
 bool board_reset(struct board *board, struct reason *reason);
 
-/* Starts a dynamic launch: resets PCRs 17 to 22. No launch starts without power, or if a reset is refused. */
+/* Starts a dynamic launch, which resets PCRs 17 to 22. It does not start if the power is off, or if
+ * a reset is refused. */
 bool board_begin_launch(struct board *board, struct reason *reason);
 void board_add_to_launch(struct board *board, const uint8_t *text, size_t size);
 

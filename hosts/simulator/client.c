@@ -8,7 +8,7 @@
 #include <sys/socket.h>
 #include <unistd.h>
 
-/* The buffers and counts of a client while a request or its answer is in transit. */
+/* The buffers of a client for the received bytes and for the answer, with their sizes. */
 struct traffic {
     size_t came;
     size_t sent;
@@ -20,9 +20,9 @@ struct client {
     int socket;
     struct board *board;
     bool is_of_platform;
-    /* The next step once the client has received the answer. */
+    /* What happens to the client once it has received the answer. */
     enum outcome next;
-    /* NULL for an idle client. */
+    /* NULL if the client is idle. */
     struct traffic *traffic;
 };
 
@@ -43,14 +43,15 @@ bool client_writes(const struct client *client) {
 
 static bool is_later(int error) { return error == EAGAIN || error == EWOULDBLOCK; }
 
-/* Acknowledges received bytes at once. Clients send a request in pieces, and their hosts wait with each
-   piece for the acknowledgement of the previous one, which a host otherwise delays by 40 ms. */
+/* Acknowledges received bytes at once. Clients send a request in pieces. Before each piece, their
+   hosts wait for the acknowledgement of the previous one, which is otherwise delayed by 40 ms. */
 static void acknowledge(const struct client *client) {
     int on = 1;
     setsockopt(client->socket, IPPROTO_TCP, TCP_QUICKACK, &on, sizeof on);
 }
 
-/* Writes what is left of the answer. GOES_ON: all of it is sent, or the rest is sent later. */
+/* Writes the rest of the answer. GOES_ON means that the answer is sent, or that the rest can be
+ * sent later. */
 static enum outcome write_answer(struct client *client) {
     struct traffic *traffic = client->traffic;
     while (traffic->sent < traffic->answer.size) {
@@ -63,7 +64,8 @@ static enum outcome write_answer(struct client *client) {
     return client->next;
 }
 
-/* Executes the request at the front, if it is complete, and starts to write its answer. */
+/* Executes the first of the received requests, if it is complete, and starts to write its
+ * answer. */
 static enum outcome do_request(struct client *client, bool *is_done, struct reason *reason) {
     struct traffic *traffic = client->traffic;
     size_t size = request_size(traffic->request, traffic->came, client->is_of_platform);
@@ -86,7 +88,7 @@ static enum outcome do_requests(struct client *client, struct reason *reason) {
     return outcome;
 }
 
-/* Reads once. ENDS: the input has ended or failed. */
+/* Reads once. Returns ENDS if the input has ended or failed. */
 static enum outcome read_some(struct client *client) {
     struct traffic *traffic = client->traffic;
     ssize_t moved = recv(client->socket, traffic->request + traffic->came,
@@ -105,7 +107,7 @@ static bool begin_traffic(struct client *client) {
     return client->traffic != NULL;
 }
 
-/* Frees what an idle client does not need. Commands and answers may contain secrets. */
+/* Frees the buffers that an idle client does not need. Commands and answers may contain secrets. */
 static void end_traffic(struct client *client) {
     if (client->traffic) explicit_bzero(client->traffic, sizeof *client->traffic);
     free(client->traffic);
@@ -120,8 +122,8 @@ enum outcome client_go_on(struct client *client, struct reason *reason) {
     return outcome;
 }
 
-/* Reads and discards received bytes. If a socket is closed with unread bytes, its client sees a reset, and
-   may lose the last answer. */
+/* Reads and discards received bytes. If a socket is closed with unread bytes, the client's
+   connection is reset, and it may lose the last answer. */
 static void read_rest(const struct client *client) {
     enum { PARTS = 16 };
     uint8_t unwanted[4096];

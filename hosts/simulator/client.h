@@ -1,5 +1,6 @@
-/* One client: its socket, the bytes received that are not a complete request yet, and the part of an answer
-   that is not sent yet. Nothing is read from a client that does not read its answer. */
+/* One client: its socket, the received bytes that are not a complete request yet, and the part of
+   an answer that has not been sent yet. If a client does not read its answer, nothing more is read
+   from it. */
 #ifndef CLIENT_H
 #define CLIENT_H
 #include "requests.h"
@@ -7,16 +8,18 @@
 
 struct client;
 
-/* Makes a client of a board. NULL if memory is exhausted; the socket then still belongs to the caller. */
+/* Makes a client of a board. Returns NULL if memory is exhausted; the caller then still owns the
+ * socket. */
 struct client *client_of(int socket, struct board *board, bool is_of_platform);
 
 int client_socket(const struct client *client);
 
-/* Whether client_go_on needs the socket to be writable next, and not readable. */
+/* Whether client_go_on must wait until the socket is writable, rather than readable. */
 bool client_writes(const struct client *client);
 
-/* Reads and writes what is possible now. ENDS: the client closed the connection, or must be closed.
-   STOPS: it asked to stop the simulator. FAILS, with the reason: a device cannot continue. */
+/* Reads and writes as much as is possible now. Returns ENDS if the client closed the connection or
+   must be closed, STOPS if it asked to stop the simulator, and FAILS with the reason if a device
+   cannot continue. */
 enum outcome client_go_on(struct client *client, struct reason *reason);
 
 /* Closes the socket. */

@@ -3,7 +3,7 @@
 #include "host.h"
 #include <time.h>
 
-/* Returns the milliseconds of the clock that never goes back. */
+/* Reads the milliseconds of a clock that never goes back. */
 static bool read_passed(uint64_t *passed_ms) {
     struct timespec now;
     if (clock_gettime(CLOCK_MONOTONIC, &now) != 0) return false;

@@ -13,7 +13,7 @@
 #include <sys/stat.h>
 
 struct device {
-    /* The device in a folder; if NULL, the device is in memory, and uses the fields that follow. */
+    /* The device in a folder, or NULL. A device in memory uses the following fields. */
     struct kept *kept;
     tpmsim handle;
     struct clock clock;
@@ -108,7 +108,8 @@ static void tell_line(const char *sentence) {
     fprintf(stderr, "tpmsim-simulator: %s\n", sentence);
 }
 
-/* The folder of a device: the named folder, or one of several within it. */
+/* Writes the path of a device's folder: the named folder, or a folder in it if there are several
+ * devices. */
 static bool name_folder(const struct options *options, unsigned number, char folder[PATH_MAX],
                         struct reason *reason) {
     int size = options->devices == 1 ? snprintf(folder, PATH_MAX, "%s", options->folder)

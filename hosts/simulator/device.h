@@ -1,5 +1,5 @@
-/* One device of the simulator. A device in memory may save its image to a file and record what it
-   executes; the other kind is kept in a folder. */
+/* One device of the simulator. It is either kept in a folder, or in memory. A device in memory may
+   save its image to a file, and record its commands. */
 #ifndef DEVICE_H
 #define DEVICE_H
 #include "options.h"
@@ -17,19 +17,20 @@ struct response {
 
 struct device;
 
-/* Opens the device with this number, 0 or more. NULL with the reason. The options must exist as long as
-   the device. */
+/* Opens the device with this number, 0 or more. Returns NULL with the reason. The options must
+   exist as long as the device. */
 struct device *device_open(const struct options *options, unsigned number, struct reason *reason);
 
-/* Executes a command from a locality of 0 to 4. What must be kept of the command is stored when
-   this returns. False with the reason if there is no response. */
+/* Executes a command from a locality of 0 to 4. When this returns, the effects of the command are
+   saved, if they have to be. Returns false with the reason if there is no response. */
 bool device_execute(struct device *device, const uint8_t *buffer, size_t size, uint8_t locality,
                     struct response *response, struct reason *reason);
 
-/* Power-cycles the device. False with the reason. */
+/* Power-cycles the device. Returns false with the reason. */
 bool device_cycle_power(struct device *device, struct reason *reason);
 
-/* Ends the device, which may be NULL; its image then contains its clock. False with the reason. */
+/* Ends the device, which may be NULL. Its image then contains the current clock. Returns false with
+ * the reason. */
 bool device_close(struct device *device, struct reason *reason);
 
 #endif

@@ -13,10 +13,10 @@
 #include <sys/file.h>
 #include <unistd.h>
 
-/* Larger than any image. */
+/* The size of a buffer for an image, larger than any image. */
 enum { IMAGE_MOST = 64 * 1024 };
 
-/* Appends `end` to the path. False if the result is too long. */
+/* Appends `end` to the path. Returns false if the result is too long. */
 static bool path_with(char room[PATH_MAX], const char *path, const char *end,
                       struct reason *reason) {
     int size = snprintf(room, PATH_MAX, "%s%s", path, end);

@@ -1,6 +1,7 @@
-/* The file with the image of a device in memory. The file is replaced as a whole: a new one, FILE.new, is
-   written next to it, synced to the disk, and renamed. FILE.lock is locked as long as the file is in use,
-   as `tpmsim run --image` does, so that only one program at a time uses the image. */
+/* The file with the image of a device in memory. The file is replaced as a whole: a new one,
+   FILE.new, is written next to it, synced to the disk, and renamed. While the file is in use,
+   FILE.lock is locked, as by `tpmsim run --image`, so that only one program at a time uses the
+   image. */
 #ifndef IMAGE_FILE_H
 #define IMAGE_FILE_H
 #include "reason.h"
@@ -12,7 +13,7 @@
 struct image_file {
     const char *path;
     int lock;
-    /* The last written state that the device keeps without power, except its clock. */
+    /* The permanent state that was last written, except its clock. */
     uint8_t *kept;
     size_t kept_size;
     /* Memory for the current value of that state, and for an image. */
@@ -20,12 +21,13 @@ struct image_file {
     uint8_t *image;
 };
 
-/* Locks the file. `is_there` reports whether it contains an image. False with the reason. */
+/* Locks the file. `is_there` reports whether it contains an image. Returns false with the
+ * reason. */
 bool image_file_open(struct image_file *file, const char *path, bool *is_there,
                      struct reason *reason);
 
-/* Writes the image if what the device keeps differs from what was last written, or if `always` is true.
-   False with the reason. */
+/* Writes the image if the device's permanent state differs from the last written one, or if
+   `always` is true. Returns false with the reason. */
 bool image_file_keep(struct image_file *file, tpmsim *device, bool always, struct reason *reason);
 
 void image_file_close(struct image_file *file);

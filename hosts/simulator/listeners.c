@@ -8,7 +8,8 @@
 #include <sys/socket.h>
 #include <unistd.h>
 
-/* The number of clients that may wait to be accepted, and how often two free ports are searched for. */
+/* The maximum number of clients that wait to be accepted, and of attempts to find two free
+ * ports. */
 enum { MOST_WAITING = 100, TRIES = 100 };
 
 union address {
@@ -35,7 +36,7 @@ static uint16_t port_of(const union address *address) {
     return ntohs(address->any.sa_family == AF_INET ? address->four.sin_port : address->six.sin6_port);
 }
 
-/* Returns a listening socket, or -1 with errno. `port` is set to its port. */
+/* Returns a listening socket, or -1 with errno. Sets `port` to the socket's port. */
 static int listen_at(const char *text, uint16_t *port) {
     union address address;
     socklen_t size = address_of(text, *port, &address);
@@ -54,7 +55,7 @@ static int listen_at(const char *text, uint16_t *port) {
     return -1;
 }
 
-/* Opens two sockets with consecutive ports. False with errno. */
+/* Opens two sockets with consecutive ports. Returns false with errno. */
 static bool listen_at_two(const char *text, uint16_t port, int sockets[2]) {
     uint16_t first = port;
     sockets[0] = listen_at(text, &first);
@@ -69,7 +70,7 @@ static bool listen_at_two(const char *text, uint16_t port, int sockets[2]) {
     return false;
 }
 
-/* Opens a port and the next one, as listen_at_two does. If the port is 0, opens two free ports. */
+/* Like listen_at_two, but if the port is 0, opens two consecutive free ports. */
 static bool open_pair(const char *text, uint16_t port, int sockets[2]) {
     int tries = port == 0 ? TRIES : 1;
     while (tries-- > 0)

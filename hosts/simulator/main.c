@@ -18,7 +18,7 @@ static bool open_devices(struct board *boards, const struct options *options,
     return true;
 }
 
-/* Ends all devices. False with the reason for the first one that cannot be saved. */
+/* Ends all devices. Returns false with the reason for the first one that cannot be saved. */
 static bool close_devices(struct board *boards, unsigned count, struct reason *reason) {
     bool is_done = true;
     struct reason other;
@@ -29,7 +29,7 @@ static bool close_devices(struct board *boards, unsigned count, struct reason *r
     return is_done;
 }
 
-/* Serves until the end, and then ends the devices, before the clients notice. */
+/* Serves clients until the simulator ends. Then ends the devices before the clients see the end. */
 static bool serve(struct board *boards, const struct options *options,
                   const struct listeners *listeners, struct reason *reason) {
     struct server *server = server_of(listeners, boards, reason);

@@ -43,7 +43,7 @@ static const char HELP_TEXT[] =
     "request to stop end it. The status is 2 for wrong words, and 3 if it cannot listen, or if the\n"
     "device cannot be had or kept.\n";
 
-/* Prints what is wrong with the words. */
+/* Prints what is wrong with the command line. */
 static enum options_read wrong(const char *said) {
     fprintf(stderr, "tpmsim-simulator: %s\n", said);
     return OPTIONS_WRONG;
@@ -62,7 +62,7 @@ static bool is_address(const char *text) {
     return inet_pton(AF_INET, text, room) == 1 || inet_pton(AF_INET6, text, room) == 1;
 }
 
-/* Returns the value of a hex digit in either case; 16 if it is not one. */
+/* Returns the value of a hex digit in either case, or 16 for any other character. */
 static unsigned digit_of(char digit) {
     static const char DIGITS[] = "0123456789abcdef0123456789ABCDEF";
     const char *found = digit ? strchr(DIGITS, digit) : NULL;
@@ -114,7 +114,7 @@ static bool read_value(struct options *options, enum word word, const char *text
     }
 }
 
-/* Returns which options cannot be combined, or NULL. */
+/* Returns a message about options that cannot be combined, or NULL. */
 static const char *clash_in(const struct options *options, bool has_force, bool has_keep) {
     if (options->folder && (options->image || options->record || options->is_timeless))
         return "--state goes without --image, --record and --clock commands";

@@ -1,5 +1,6 @@
-/* The random bytes of a device: fresh ones from the system or, for reproducible runs, bytes from a seed: for
-   each block the SHA-256 of the seed and the block's number. */
+/* The random bytes of a device: fresh ones from the system or, for reproducible runs, bytes that
+   are computed from a seed. Each block of these is the SHA-256 digest of the seed and the block's
+   number. */
 #ifndef RANDOM_H
 #define RANDOM_H
 #include <stdbool.h>
@@ -15,11 +16,11 @@ struct random {
     uint8_t bytes[RANDOM_BYTES];
 };
 
-/* Initializes `random`. `seed` must exist as long as `random`; size 0 selects the system's bytes.
-   Devices with the same seed must have different numbers `stream`. */
+/* Initializes `random`. `seed` must exist as long as `random`; the size 0 selects the system's
+   random bytes. Devices with the same seed must have different numbers `stream`. */
 void random_begin(struct random *random, const uint8_t *seed, size_t seed_size, unsigned stream);
 
-/* Replaces all bytes. False if the system provides none. */
+/* Replaces all bytes. Returns false if the system provides none. */
 bool random_renew(struct random *random);
 
 #endif

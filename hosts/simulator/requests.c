@@ -1,7 +1,8 @@
 #include "requests.h"
 #include <string.h>
 
-/* The numbers of the requests for commands, and of those for the platform. */
+/* The numbers of the requests at the port for commands, and of those at the port for the
+ * platform. */
 enum command_request {
     HASH_START = 5,
     HASH_DATA = 6,
@@ -24,14 +25,14 @@ enum platform_request {
     RESET = 17,
     RESTART = 18
 };
-/* The requests at both ports. */
+/* The numbers of the requests that both ports accept. */
 enum either_request { SESSION_END = 20, STOP = 21 };
 
 /* The version that a handshake returns, and its features: commands are sent unchanged, and there is a
    platform. */
 enum { VERSION = 1, FEATURES = 5 };
 
-/* The numbers at the end of answers. */
+/* The results at the end of answers. */
 enum { DONE = 0, UNKNOWN = 1 };
 
 enum { NUMBER = 4, LOCALITY_AT = NUMBER, COMMAND_SIZE_AT = NUMBER + 1, COMMAND_AT = COMMAND_SIZE_AT + NUMBER };
@@ -50,8 +51,8 @@ static enum outcome done(struct answer *answer) {
     return GOES_ON;
 }
 
-/* Returns the end of a request whose size field is at an offset. If the request is too long, only
-   the head of a command is read, and none of the data of HASH_DATA. */
+/* Returns the end of a request with a size field at this offset. If the request is too long, only
+   the header of its command is read, or none of its data in HASH_DATA. */
 static size_t sized_end(const uint8_t *bytes, size_t size, size_t size_at, size_t most_head) {
     size_t start = size_at + NUMBER;
     if (size < start) return start;
@@ -123,7 +124,7 @@ static enum outcome do_command(struct board *board, uint32_t request, const uint
     }
 }
 
-/* Physical presence, cancelling, NV and the cache of keys do not concern the device. */
+/* Physical presence, cancelling, NV memory and the cache of keys do not affect the device. */
 static enum outcome do_platform(struct board *board, uint32_t request, struct answer *answer,
                                 struct reason *reason) {
     switch (request) {

@@ -9,14 +9,14 @@
 #include <stdint.h>
 
 enum {
-    /* A number, a locality, a size, and a command. */
+    /* The parts are a number, a locality, a size, and a command. */
     REQUEST_MOST = 4 + 1 + 4 + COMMAND_MOST,
-    /* A size, a response, and the number that ends each answer. */
+    /* The parts are a size, a response, and the number that ends each answer. */
     ANSWER_MOST = 4 + RESPONSE_MOST + 4
 };
 
-/* Returns the size of the request at the front of these bytes, as far as they show it. If it is larger than
-   `size`, more bytes have to arrive first. */
+/* Returns the size of the first request in these bytes, or a lower bound. If the result is larger
+   than `size`, more bytes have to arrive first. */
 size_t request_size(const uint8_t *bytes, size_t size, bool is_of_platform);
 
 /* The effect of a request on the connection, or on the simulator, after the answer. */
@@ -27,7 +27,8 @@ struct answer {
     uint8_t bytes[ANSWER_MOST];
 };
 
-/* Executes a complete request, and writes its answer. FAILS, with the reason: the device cannot continue. */
+/* Executes a complete request, and writes its answer. Returns FAILS with the reason if the device
+ * cannot continue. */
 enum outcome request_do(struct board *board, const uint8_t *bytes, bool is_of_platform,
                         struct answer *answer, struct reason *reason);
 

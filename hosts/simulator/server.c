@@ -9,11 +9,11 @@
 #include <sys/socket.h>
 #include <unistd.h>
 
-/* The number of descriptors reserved for the devices; for how long no client is accepted after the system
-   refuses one; and how many sockets are served in one turn. */
+/* The number of descriptors reserved for the devices; the time for which no client is accepted
+   after the system refused one; and the maximum number of sockets that are served in one turn. */
 enum { FILES_LEFT = 8, MILLISECONDS_TO_NEXT_TRY = 1000, MOST_IN_A_TURN = 64 };
 
-/* The source of an event: a listener, by its number, or a client. */
+/* The source of an event: a listener, which has a number, or a client. */
 struct source {
     struct client *client;
     size_t number;
@@ -26,11 +26,11 @@ struct server {
     struct board *boards;
     int epoll;
     struct source *of_listeners;
-    /* The sources that are clients, each by its number. */
+    /* The sources that are clients, in an array. */
     struct source **of_clients;
     size_t count;
     size_t room;
-    /* No client is accepted for a while. */
+    /* Whether no client is accepted for a while. */
     bool is_full;
 };
 
@@ -61,7 +61,7 @@ static bool watch(const struct server *server, int how, int socket, uint32_t eve
 
 /* ---- clients that come and go */
 
-/* Ensures memory for one more client. */
+/* Ensures that there is memory for one more client. */
 static bool has_room(struct server *server) {
     if (server->count < server->room) return true;
     size_t room = server->room ? 2 * server->room : 16;
@@ -72,7 +72,8 @@ static bool has_room(struct server *server) {
     return true;
 }
 
-/* A new descriptor has the lowest free number, so it shows how many are left. */
+/* Returns whether too few descriptors are left. A new descriptor has the lowest free number, which
+ * shows this. */
 static bool is_one_too_many(int socket) {
     struct rlimit most;
     return getrlimit(RLIMIT_NOFILE, &most) == 0 && most.rlim_cur != RLIM_INFINITY &&
@@ -94,7 +95,7 @@ static bool add_client(struct server *server, int socket, size_t listener) {
     return true;
 }
 
-/* The last client takes the number of the removed one. */
+/* Removes a client from the array. The last client takes its place. */
 static void remove_client(struct server *server, struct source *source) {
     struct source *last = server->of_clients[--server->count];
     server->of_clients[source->number] = last;
@@ -111,7 +112,7 @@ static bool wait_for(const struct server *server, struct source *source) {
     return watch(server, EPOLL_CTL_MOD, client_socket(source->client), events, source);
 }
 
-/* A client that stops the simulator stays until the simulator ends. */
+/* Serves a client. If it stops the simulator, it is not removed before the simulator ends. */
 static enum outcome serve_client(struct server *server, struct source *source,
                                  struct reason *reason) {
     enum outcome outcome = client_go_on(source->client, reason);
@@ -122,7 +123,7 @@ static enum outcome serve_client(struct server *server, struct source *source,
 
 /* ---- listeners */
 
-/* Whether an error of accept concerns only that client, and others can connect. */
+/* Returns whether an error of `accept` concerns only one client, so that others can connect. */
 static bool is_of_client(int error) {
     return error == EINTR || error == ECONNABORTED || error == EAGAIN || error == EWOULDBLOCK;
 }
@@ -161,7 +162,7 @@ static enum outcome fail(const char *said, struct reason *reason) {
     return FAILS;
 }
 
-/* One turn: waits, and serves the sockets that are ready. */
+/* Performs one turn: waits, and serves the sockets that are ready. */
 static enum outcome turn(struct server *server, struct reason *reason) {
     struct epoll_event events[MOST_IN_A_TURN];
     bool was_full = server->is_full;

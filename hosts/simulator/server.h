@@ -5,21 +5,22 @@
 #include "listeners.h"
 #include "reason.h"
 
-/* Makes SIGTERM and SIGINT end the wait of server_run. Before this call they end the process. */
+/* Makes SIGTERM and SIGINT end the wait of server_run. Before this call, they end the process. */
 bool server_take_signals(struct reason *reason);
 
 struct server;
 
-/* Makes a server for these boards, one for each two listeners; they must exist as long as the server. NULL
-   with the reason. */
+/* Makes a server for these boards. There is one board for every two listeners, and all of them must
+   exist as long as the server. Returns NULL with the reason. */
 struct server *server_of(const struct listeners *listeners, struct board *boards,
                          struct reason *reason);
 
-/* Serves until the end. False with the reason if a device cannot continue. */
+/* Serves until a signal or a client ends it. Returns false with the reason if a device cannot
+ * continue. */
 bool server_run(struct server *server, struct reason *reason);
 
-/* Closes all connections of a server, which may be NULL. This shows the end to the client that requested it,
-   so close the devices first. */
+/* Closes all connections of a server, which may be NULL. The client that stopped the simulator sees
+   the end now, so close the devices first. */
 void server_end(struct server *server);
 
 #endif

@@ -4,13 +4,13 @@
 
 enum { CODE_AT = 6, HANDLES_AT = 10, HANDLE_SIZE = 4, HANDLE_TYPE_SHIFT = 24 };
 
-/* A command or a response. */
+/* The bytes of a command or a response. */
 struct bytes {
     const uint8_t *first;
     size_t size;
 };
 
-/* Returns the number in some bytes from an offset on; 0 beyond the end. */
+/* Returns the number of this size at an offset; 0 if it is beyond the end. */
 static uint32_t number_at(struct bytes bytes, size_t at, size_t size) {
     uint32_t number = 0;
     if (at > bytes.size || size > bytes.size - at) return 0;
@@ -30,13 +30,13 @@ static void forget(struct loaded *loaded, uint32_t handle) {
     loaded->count = left;
 }
 
-/* A handle that is used again is listed once. */
+/* Adds a handle to the list, where a handle that is used again must be only once. */
 static void remember(struct loaded *loaded, uint32_t handle) {
     forget(loaded, handle);
     if (loaded->count < LOADED_MOST) loaded->handles[loaded->count++] = handle;
 }
 
-/* Returns the number of a command's handles, as in Part 3 of the standard. */
+/* Returns the number of handles in a command, according to Part 3 of the standard. */
 static size_t handles_of(uint32_t code) {
     switch (code) {
     case TPM2_CC_GetRandom:
@@ -66,7 +66,8 @@ static size_t handles_of(uint32_t code) {
     }
 }
 
-/* Forgets the session of an entry that does not continue it. Returns the offset after the entry. */
+/* Forgets the session of an authorization entry if the entry ends the session. Returns the offset
+ * after the entry. */
 static size_t follow_entry(struct loaded *loaded, struct bytes command, size_t at) {
     size_t attributes = at + HANDLE_SIZE + 2 + number_at(command, at + HANDLE_SIZE, 2);
     if (!(number_at(command, attributes, 1) & TPMA_SESSION_CONTINUESESSION))
@@ -74,7 +75,7 @@ static size_t follow_entry(struct loaded *loaded, struct bytes command, size_t a
     return attributes + 1 + 2 + number_at(command, attributes + 1, 2);
 }
 
-/* Forgets the sessions that end with the command. */
+/* Forgets the sessions that the command ends. */
 static void follow_entries(struct loaded *loaded, struct bytes command, uint32_t code) {
     if (number_at(command, 0, 2) != TPM2_ST_SESSIONS) return;
     size_t at = HANDLES_AT + HANDLE_SIZE * handles_of(code);
@@ -113,7 +114,7 @@ void loaded_follow(struct loaded *loaded, const uint8_t *command, size_t size,
     }
 }
 
-/* Writes TPM2_FlushContext of a handle. */
+/* Writes the TPM2_FlushContext command for a handle. */
 static void flush_command(uint8_t command[14], uint32_t handle) {
     static const uint8_t head[] = {0x80, 0x01, 0, 0, 0, 14, 0, 0, 0x01, 0x65};
     memcpy(command, head, sizeof head);

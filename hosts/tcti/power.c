@@ -1,6 +1,6 @@
-/* tpmsim-power DIR [--cut] [--keep N]: power-cycles the device that is kept in a folder. With --cut,
- * the records of a damaged journal from the damage on are dropped first. With --keep N the last N
- * journals stay in the folder. */
+/* tpmsim-power DIR [--cut] [--keep N]: power-cycles the device that is kept in a folder. With
+ * --cut, a damaged journal is first cut off at the damage. With --keep N, the last N journals stay
+ * in the folder. */
 #include "kept.h"
 #include <stdio.h>
 #include <stdlib.h>
@@ -19,7 +19,7 @@ static bool read_keep(const char *word, unsigned *keep) {
     return *end == 0 && number <= MOST_KEPT;
 }
 
-/* Reads the words after the folder. */
+/* Reads the arguments after the folder. */
 static bool read_words(struct kept_options *options, char **words) {
     for (; *words; words++) {
         if (strcmp(*words, "--cut") == 0)

@@ -1,6 +1,7 @@
-/* libtss2-tcti-tpmsim: a device for libtss2, in the process that loads this module, or kept in a
- * folder. The module is a TCTI of version 2, as the TCG's "TSS 2.0 TPM Command Transmission
- * Interface" defines it. A fault is reported as a line on standard error, and as a return code defined there. */
+/* libtss2-tcti-tpmsim: a module for libtss2 with a device, which is either in the memory of the
+ * process that loads the module, or kept in a folder. The module is a TCTI of version 2, as the
+ * TCG's "TSS 2.0 TPM Command Transmission Interface" defines it. A fault is reported as a line on
+ * standard error, and as a return code defined there. */
 #define _GNU_SOURCE
 #include "loaded.h"
 #include "words.h"
@@ -10,7 +11,7 @@
 
 #define EXPORTED __attribute__((visibility("default")))
 
-/* The start of a context of this module: "TPMSIM", and its version. */
+/* The first bytes of a context of this module: "TPMSIM" and a version. */
 static const uint64_t MAGIC = 0x54504d53494d0001;
 
 enum { RESPONSE_ROOM = 4096 };
@@ -19,11 +20,11 @@ struct context {
     TSS2_TCTI_CONTEXT_COMMON_V2 common;
     struct kept *kept;
     uint8_t locality;
-    /* Whether the objects and sessions that this process loaded are flushed at the end; and these
-       objects and sessions. */
+    /* The objects and sessions that this process loaded, and whether they are flushed when the
+       context is finalized. */
     bool flushes;
     struct loaded loaded;
-    /* Whether a response is ready to be received, and its bytes. */
+    /* Whether a response is ready to be received, its size and its bytes. */
     bool waits;
     size_t size;
     uint8_t response[RESPONSE_ROOM];
@@ -41,7 +42,7 @@ static TSS2_RC tell(const struct reason *reason, TSS2_RC code) {
     return code;
 }
 
-/* Executes the command: its response is ready when this returns. */
+/* Executes the command. When this returns, its response is ready. */
 static TSS2_RC transmit(TSS2_TCTI_CONTEXT *handed, size_t size, const uint8_t *command) {
     struct context *context = context_of(handed);
     struct reason reason;
@@ -59,7 +60,7 @@ static TSS2_RC transmit(TSS2_TCTI_CONTEXT *handed, size_t size, const uint8_t *c
     return TSS2_RC_SUCCESS;
 }
 
-/* Writes the response, or its size if the buffer is too small. No timeout can expire, since the
+/* Writes the response, or its size if the buffer is too small. No timeout can expire, because the
  * response is ready. */
 static TSS2_RC receive(TSS2_TCTI_CONTEXT *handed, size_t *size, uint8_t *response,
                        int32_t timeout) {
@@ -77,7 +78,7 @@ static TSS2_RC receive(TSS2_TCTI_CONTEXT *handed, size_t *size, uint8_t *respons
     return TSS2_RC_SUCCESS;
 }
 
-/* Flushes what this process has loaded and not flushed. */
+/* Flushes the objects and sessions that this process has loaded and not flushed. */
 static void flush(struct context *context) {
     struct reason reason;
     if (!loaded_flush(&context->loaded, context->kept, context->locality, &reason))
@@ -94,7 +95,7 @@ static void finalize(TSS2_TCTI_CONTEXT *handed) {
     TSS2_TCTI_MAGIC(handed) = 0;
 }
 
-/* A transmitted command has already been executed, so it is too late to cancel it: its response is
+/* A transmitted command has already been executed, so it cannot be cancelled. Its response can be
  * received as usual. */
 static TSS2_RC cancel(TSS2_TCTI_CONTEXT *handed) {
     struct context *context = context_of(handed);
@@ -119,7 +120,7 @@ static TSS2_RC set_locality(TSS2_TCTI_CONTEXT *handed, uint8_t locality) {
     return TSS2_RC_SUCCESS;
 }
 
-/* There is no resource manager in between, so handles are the device's own. */
+/* There is no resource manager in between, so the handles are the device's own. */
 static TSS2_RC make_sticky(TSS2_TCTI_CONTEXT *handed, TPM2_HANDLE *handle, uint8_t sticky) {
     (void)sticky;
     if (!context_of(handed)) return TSS2_TCTI_RC_BAD_CONTEXT;

@@ -1,9 +1,10 @@
-// Checks of a program's arguments: each throws BadArgument, which names the argument.
+// Checks of arguments. Each of them throws BadArgument, which names the argument.
 
 import { BadArgument } from "./errors.js";
 
 /**
- * Returns the argument, if it is a Uint8Array (as node's Buffer is), of this window or another one.
+ * Returns the argument if it is a Uint8Array (as node's Buffer is), from this window or another
+ * one.
  * @param {string} name
  * @param {unknown} given
  * @returns {Uint8Array}

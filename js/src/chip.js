@@ -1,4 +1,4 @@
-// One device of the proved module, with its exports for devices.
+// One device of the proved module, and the module's exports for devices.
 
 import { BadArgument, BadImage, BadJournal, BadState, DeviceEnded } from "./errors.js";
 
@@ -6,8 +6,9 @@ import { BadArgument, BadImage, BadJournal, BadState, DeviceEnded } from "./erro
 /** @typedef {import("./module.js").Blocks} Blocks */
 
 /**
- * The result of a command. `check` is `ok`, or the check that refused the command, such as `G9`; `code` is
- * the command's number, 0 for none; `drawn` is the number of random bytes that it drew, from their front.
+ * The result of a command. `check` is `ok`, or the check that refused the command, such as `G9`;
+ * `code` is the command code, or 0 if there is none; `drawn` is the number of random bytes that the
+ * command drew, from the first one on.
  * @typedef {{response: Uint8Array, code: number, check: string, drawn: number, trace: string}} Answer
  */
 
@@ -15,8 +16,8 @@ const HOLDER_SIZE = 8;
 const TEXT_FAULTS = ["Short", "Magic", "Version", "Length", "Digest", "Body"];
 const JOURNAL_FAULTS = ["NoJournal", "Damaged", "Otherwise"];
 
-// The first number that calls return for each kind of invalid bytes. The smaller numbers report a missing
-// device and a bad locality.
+// The first return code for each kind of invalid bytes. The smaller codes report a missing device
+// and an invalid locality.
 const IMAGE_FROM = 4;
 const JOURNAL_FROM = 10;
 const STATE_FROM = 13;
@@ -29,7 +30,7 @@ const checkText = (number) => {
 };
 
 /**
- * Throws the error for a number that is not 0.
+ * Throws the error for a return code other than 0.
  * @param {number} told
  */
 const mustBeDone = (told) => {
@@ -66,7 +67,7 @@ export class Chip {
     calls.device_manufacture(...[this.#holder, this.#place.at, at.random].map(BigInt));
   }
 
-  /** The address of the holder, as a parameter. */
+  /** Returns the address of the handle, as a parameter. */
   get #device() {
     return BigInt(this.#holder);
   }
@@ -111,13 +112,13 @@ export class Chip {
     return this.#memory.output((at, size) => this.#calls.device_save(this.#device, at, size));
   }
 
-  /** Returns what the device keeps without power, except its clock. */
+  /** Returns everything that the device keeps without power, except its clock. */
   kept() {
     return this.#memory.output((at, size) => this.#calls.device_kept(this.#device, at, size));
   }
 
   /**
-   * Makes this the device of an image. If it throws BadImage, the device is unchanged.
+   * Opens an image in this device. If it throws BadImage, the device is unchanged.
    * @param {Uint8Array} image
    */
   open(image) {
@@ -137,7 +138,7 @@ export class Chip {
     mustBeDone(this.#calls.device_restore(this.#device, ...this.#memory.input(text)));
   }
 
-  /** Frees the memory. This is the last call. */
+  /** Frees the memory. No other call may follow. */
   release() {
     this.#calls.device_release(this.#device);
     this.#memory.free(this.#holder, HOLDER_SIZE);
@@ -165,8 +166,8 @@ export class Chip {
   }
 
   /**
-   * Makes this the device of a journal, and returns the size of its head and complete entries. If it throws
-   * BadJournal, BadImage or BadState, the device is unchanged.
+   * Opens a journal in this device. Returns the size of the journal's head and complete entries. If
+   * it throws BadJournal, BadImage or BadState, the device is unchanged.
    * @param {Uint8Array} text
    */
   openJournal(text) {
@@ -176,9 +177,9 @@ export class Chip {
   }
 
   /**
-   * Executes the entries of a later part of the journal, and returns the size of the complete
-   * entries. Throws BadJournal if an entry is damaged or its response differs; the entries before
-   * it have then been executed.
+   * Executes the entries of a later part of the journal, and returns the size of the complete ones.
+   * Throws BadJournal if an entry is damaged or its response differs; the entries before it have
+   * then been executed.
    * @param {Uint8Array} text
    */
   followJournal(text) {
@@ -206,7 +207,7 @@ export class Chip {
   }
 
   /**
-   * Returns the parameters for a command's event, from the holder to the random bytes.
+   * Returns the parameters of a call that executes a command, from the handle to the random bytes.
    * @param {Uint8Array} command
    * @param {number} locality
    * @param {number} elapsed

@@ -1,4 +1,4 @@
-// A TPM 2.0 in this process: the proved device, for programs in JavaScript.
+// A TPM 2.0 in this process: the proved device with an interface for JavaScript.
 
 import { bytes, bytesOf, number, options, truth } from "./arguments.js";
 import { BadArgument, DeviceEnded } from "./errors.js";
@@ -25,8 +25,9 @@ import { Words } from "./words.js";
  */
 
 /**
- * The circumstances of a command: its locality (default 0); the milliseconds since the last command (default
- * 0); 256 random bytes for it alone; whether the completing layer is above the device.
+ * The circumstances of a command: its locality (default 0); the milliseconds since the last command
+ * (default 0); 256 random bytes for only this command; and whether the completing layer is above
+ * the device.
  * @typedef {{
  *   locality?: number,
  *   elapsed?: number,
@@ -36,8 +37,8 @@ import { Words } from "./words.js";
  */
 
 /**
- * What a device is made from: a seed, for the same random bytes in each run; its 256 bytes of secrets; an
- * image or a state text of another device; and a module, if the package should not look for one.
+ * What a device is made from: a seed, for the same random bytes in each run; the 256 bytes of its
+ * secrets; an image or a state text; and a module, if the package should not search for one.
  * @typedef {{
  *   seed?: string | Uint8Array,
  *   manufactured?: Uint8Array,
@@ -47,7 +48,7 @@ import { Words } from "./words.js";
  * }} Making
  */
 
-/** The key of the constructor: only `Device.create` has access to it. */
+/** The key that the constructor requires. Only `Device.create` has access to it. */
 const KEY = Symbol("Device.create");
 
 // The memory of a device is also freed if the device is garbage-collected.
@@ -87,7 +88,7 @@ export class Device {
   }
 
   /**
-   * Makes a new device, which has just been powered on, or the device of an image or a state text.
+   * Makes a new device, which has just been powered on, or a device from an image or a state text.
    * @param {Making} [making]
    * @returns {Promise<Device>}
    */
@@ -145,7 +146,8 @@ export class Device {
   }
 
   /**
-   * Executes a command in words, such as `GetRandom 4`. Throws BadLine if the words encode no command.
+   * Executes a command in words, such as `GetRandom 4`. Throws BadLine if the words do not encode a
+   * command.
    * @param {string} line
    * @param {Event} [event]
    * @returns {Answer}
@@ -155,7 +157,8 @@ export class Device {
   }
 
   /**
-   * Plays a script line by line, as its events are iterated over. A bad line throws BadLine with its `line`.
+   * Plays a script line by line, while its events are iterated over. Throws BadLine, with the
+   * number `line`, at an invalid line.
    * @param {string | Uint8Array} script
    * @returns {Generator<Played, void, undefined>}
    */
@@ -170,7 +173,8 @@ export class Device {
   }
 
   /**
-   * The image: what the device keeps without power, with its secrets.
+   * Returns the image, which contains everything that the device keeps without power, including its
+   * secrets.
    * @returns {Uint8Array}
    */
   save() {
@@ -178,7 +182,8 @@ export class Device {
   }
 
   /**
-   * What the device keeps without power, except its clock. If it has changed, the image should be saved.
+   * Returns everything that the device keeps without power, except its clock. If this has changed,
+   * the image should be saved.
    * @returns {Uint8Array}
    */
   kept() {
@@ -186,7 +191,8 @@ export class Device {
   }
 
   /**
-   * Makes this the device of an image, as after a power cycle. If it throws BadImage, nothing changes.
+   * Replaces the device with that of an image, in the state after a power cycle. If it throws
+   * BadImage, nothing changes.
    * @param {Uint8Array} image
    */
   open(image) {
@@ -194,7 +200,7 @@ export class Device {
   }
 
   /**
-   * The state text: the whole state of the device, with its sessions and its secrets.
+   * Returns the state text: the whole state of the device, with its sessions and its secrets.
    * @returns {Uint8Array}
    */
   snapshot() {
@@ -209,7 +215,7 @@ export class Device {
     this.#live.restore(bytes("state", state));
   }
 
-  /** Frees the device's memory, cleared of secrets. Each later call throws DeviceEnded. */
+  /** Frees the device's memory after clearing it. Each later call throws DeviceEnded. */
   dispose() {
     if (this.#chip === null) return;
     forgotten.unregister(this);

@@ -1,7 +1,7 @@
-// The errors that this package throws. The `name` of each is that of its class, so that errors can be
-// distinguished by `instanceof` as well as by `name`.
+// The errors that this package throws. The `name` of an error is the name of its class, so that
+// programs can use either `instanceof` or `name`.
 
-/** An argument has a wrong type or is out of range. The call had no effect. */
+/** Thrown if an argument has a wrong type or is out of range. The call had no effect. */
 export class BadArgument extends TypeError {
   /**
    * @param {string} argument its name
@@ -14,7 +14,7 @@ export class BadArgument extends TypeError {
   }
 }
 
-/** A text is invalid; `fault` names its first fault. */
+/** The base class of errors about an invalid text. `fault` is the first fault of the text. */
 export class BadText extends Error {
   /**
    * @param {string} name
@@ -27,7 +27,7 @@ export class BadText extends Error {
   }
 }
 
-/** Bytes are not an image: Short, Magic, Version, Length, Digest or Body. */
+/** Thrown if bytes are not an image. The fault is Short, Magic, Version, Length, Digest or Body. */
 export class BadImage extends BadText {
   /** @param {string} fault */
   constructor(fault) {
@@ -35,7 +35,8 @@ export class BadImage extends BadText {
   }
 }
 
-/** Bytes are not a state text: Short, Magic, Version, Length, Digest or Body. */
+/** Thrown if bytes are not a state text. The fault is Short, Magic, Version, Length, Digest or
+ * Body. */
 export class BadState extends BadText {
   /** @param {string} fault */
   constructor(fault) {
@@ -44,8 +45,8 @@ export class BadState extends BadText {
 }
 
 /**
- * A text is not a journal (NoJournal), an entry is invalid (Damaged), or the device's response to an
- * entry differs from the recorded one (Otherwise).
+ * Thrown if a text is not a journal (NoJournal), an entry is invalid (Damaged), or the device's
+ * response to an entry differs from the recorded one (Otherwise).
  */
 export class BadJournal extends BadText {
   /** @param {string} fault */
@@ -54,7 +55,7 @@ export class BadJournal extends BadText {
   }
 }
 
-/** A line has a fault: BadName, BadField, Missing, Range or TooLong. */
+/** Thrown if a line is invalid. The fault is BadName, BadField, Missing, Range or TooLong. */
 export class BadLine extends BadText {
   /**
    * @param {string} fault
@@ -72,7 +73,7 @@ export class BadLine extends BadText {
   }
 }
 
-/** The device was disposed of. */
+/** Thrown if the device has been disposed of. */
 export class DeviceEnded extends Error {
   constructor() {
     super("the device was disposed of");
@@ -80,7 +81,7 @@ export class DeviceEnded extends Error {
   }
 }
 
-/** There is no module, or the module is not of this version. */
+/** Thrown if there is no module, or if the module is not of this version. */
 export class NoModule extends Error {
   /**
    * @param {string} reason

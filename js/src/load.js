@@ -9,13 +9,14 @@ const IN_CLONE = "../../dist/tpmsim.wasm";
 /** @typedef {{process?: {getBuiltinModule?: (name: string) => any}}} Host */
 const host = /** @type {Host} */ (/** @type {unknown} */ (globalThis));
 
-// The modules, by their source: all devices with the same source share one module.
+// The loaded modules, by their source. All devices with the same source share one module.
 /** @type {WeakMap<object, Promise<Module>>} */
 const kept = new WeakMap();
 const BESIDE_PACKAGE = {};
 
 /**
- * Returns a file's bytes. No import names node's file module, so a bundler for browsers does not look for it.
+ * Returns a file's bytes. No import names node's file module, so that bundlers for browsers do not
+ * search for it.
  * @param {URL} place
  */
 async function bytesAt(place) {

@@ -1,4 +1,4 @@
-// The memory that the proved module works on: blocks of it, and the bytes in them.
+// The memory of the proved module: its blocks, and the bytes in them.
 
 const PAGE = 65_536;
 const ALIGNMENT = 16;
@@ -8,7 +8,7 @@ const decoder = new TextDecoder();
 /** @param {number} size */
 const aligned = (size) => Math.ceil(size / ALIGNMENT) * ALIGNMENT;
 
-/** The memory from the heap's base up. Each block contains zeros at first. */
+/** The module's memory above the base of its heap. New blocks contain zeros. */
 export class Memory {
   #memory;
   #end;
@@ -31,7 +31,7 @@ export class Memory {
     this.#output = { at: this.lend(PAGE), size: PAGE };
   }
 
-  /** Makes the views of the current memory; growing the memory invalidates them. */
+  /** Creates the views of the current memory. They become invalid when the memory grows. */
   #look() {
     this.#bytes = new Uint8Array(this.#memory.buffer);
     this.#view = new DataView(this.#memory.buffer);
@@ -67,7 +67,7 @@ export class Memory {
   }
 
   /**
-   * Replaces a block that is too small by one of at least `needed` bytes.
+   * Replaces a block that is too small with one of at least `needed` bytes.
    * @param {{at: number, size: number}} block
    * @param {number} needed
    */
@@ -79,7 +79,8 @@ export class Memory {
   }
 
   /**
-   * Stores bytes for a call, until the next bytes are stored; returns the two parameters for them.
+   * Stores bytes for a call, and returns the two parameters for them. They are valid until other
+   * bytes are stored.
    * @param {Uint8Array} bytes
    */
   input(bytes) {
@@ -89,8 +90,8 @@ export class Memory {
   }
 
   /**
-   * Returns the bytes that a call writes to a buffer. The call returns the size. If the bytes do not fit, it
-   * writes nothing, and is called again with a larger buffer.
+   * Returns the bytes that a call writes to a buffer. The call returns their number. If they do not
+   * fit, it writes nothing, and is repeated with a larger buffer.
    * @param {(at: bigint, size: bigint) => bigint} call
    */
   output(call) {

@@ -1,20 +1,21 @@
-// The proved module: how it is loaded, and its exports for words. The exports for devices are in chip.js; no
-// other file uses an export. Nothing here checks arguments: device.js and words.js do.
+// The proved module: how it is loaded, and its exports for words. chip.js uses the exports for
+// devices, and no other file uses an export. The functions here do not check arguments: device.js
+// and words.js check them.
 
 import { Chip } from "./chip.js";
 import { NoModule } from "./errors.js";
 import { Memory } from "./memory.js";
 
 /**
- * A parsed line. `fault` is empty, or the fault's name. `column` is counted from 1, and is 0 without a
- * fault; `wanted` says what is expected there.
+ * A parsed line. `fault` is empty, or the fault's name. `column` is counted from 1, and is 0 if
+ * there is no fault; `wanted` is what is expected there.
  * @typedef {{bytes: Uint8Array, fault: string, column: number, wanted: string}} Read
  */
 
 /**
- * A line of a script: `number` is the locality, the milliseconds of a wait, or those that passed
- * before a command; `waited` is what has passed since the last command. The kind is empty for an empty
- * line, a comment and a bad line.
+ * A line of a script. `number` is the locality, the milliseconds of a wait, or the milliseconds
+ * that passed before a command. `waited` is the time since the last command. The kind is empty for
+ * an empty line, a comment and an invalid line.
  * @typedef {"" | "cmd" | "do" | "loc" | "wait" | "entropy" | "power"} Kind
  * @typedef {Read & {kind: Kind, number: number, waited: number}} ScriptLine
  */
@@ -26,7 +27,7 @@ import { Memory } from "./memory.js";
  */
 
 /**
- * The addresses of the blocks with fixed sizes.
+ * The addresses of the blocks that have fixed sizes.
  * @typedef {Record<keyof typeof SIZES, number>} Blocks
  */
 
@@ -34,7 +35,7 @@ export const RANDOM_SIZE = 256;
 export const MOST_MILLISECONDS = 0xffff_ffff;
 export const LOCALITIES = 5;
 
-// The sizes of the structures, and of the buffers of fixed size that calls write to.
+// The sizes of the structures and buffers of fixed size to which calls write.
 const SIZES = {
   random: RANDOM_SIZE,
   response: 4096,
@@ -93,14 +94,15 @@ const decoder = new TextDecoder();
 /** @param {Uint8Array} bytes */
 const textOf = (bytes) => decoder.decode(bytes);
 
-/** The module, with any number of devices. */
+/** The module, which can contain any number of devices. */
 export class Module {
   /** @type {any} */ #calls;
   #memory;
   #at;
 
   /**
-   * Compiles a module, if it is not compiled yet, and makes its memory. Throws NoModule for a different one.
+   * Compiles a module, if it is not compiled yet, and makes its memory. Throws NoModule if it is
+   * not the module of this version.
    * @param {BufferSource | WebAssembly.Module} source
    * @returns {Promise<Module>}
    */
@@ -133,7 +135,7 @@ export class Module {
   }
 
   /**
-   * Makes a new device, with these bytes as its secrets.
+   * Makes a new device, whose secrets are made from these bytes.
    * @param {Uint8Array} random
    */
   manufacture(random) {
@@ -161,8 +163,8 @@ export class Module {
   }
 
   /**
-   * Returns what the report on a script says about the line with this number, with a newline; empty for a good
-   * line.
+   * Returns the text about the line with this number in the report on a script, with a newline. It
+   * is empty for a valid line.
    * @param {number} number
    * @param {string | Uint8Array} line
    * @param {number} waited milliseconds since the last command
@@ -191,7 +193,7 @@ export class Module {
   }
 
   /**
-   * Returns a line in words that encodes the buffer; empty if there is none.
+   * Returns a line in words that encodes the buffer, or an empty text if there is none.
    * @param {Uint8Array} command
    */
   spell(command) {
@@ -200,7 +202,7 @@ export class Module {
   }
 
   /**
-   * Returns the number of the command with this name, 0 if there is none.
+   * Returns the number of the command with this name, or 0 if there is none.
    * @param {string} name
    */
   commandNumber(name) {
@@ -208,7 +210,8 @@ export class Module {
   }
 
   /**
-   * Returns the form of a command in words, such as `NV_Write @Entity Index Buffer u16`; empty if there is none.
+   * Returns the form of a command in words, such as `NV_Write @Entity Index Buffer u16`, or an
+   * empty text if there is none.
    * @param {number} number
    */
   commandForm(number) {
@@ -217,7 +220,7 @@ export class Module {
   }
 
   /**
-   * Returns an example of what follows the name of a command.
+   * Returns an example of the words that follow the name of a command.
    * @param {number} number
    */
   commandExample(number) {
@@ -226,7 +229,7 @@ export class Module {
   }
 
   /**
-   * Returns the meaning of a response code; null if there is no such code.
+   * Returns the meaning of a response code, or null if there is no such code.
    * @param {number} code
    * @returns {Meaning | null}
    */

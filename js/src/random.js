@@ -9,7 +9,8 @@ const encoder = new TextEncoder();
  * @typedef {{secrets(): Uint8Array, next(): Uint8Array, spend(drawn: number): void}} Source
  */
 
-/** The system's bytes. Those that a command did not draw are used for the next one. @implements {Source} */
+/** Random bytes from the system. The next command gets those again that a command did not draw.
+ * @implements {Source} */
 export class SystemBytes {
   #bytes = new Uint8Array(RANDOM_SIZE);
 
@@ -31,7 +32,8 @@ export class SystemBytes {
   }
 }
 
-/** The same bytes in each run, as in Python's `Device(seed=..)`. @implements {Source} */
+/** Random bytes from a seed, which are the same in each run, and in Python's `Device(seed=..)`.
+ * @implements {Source} */
 export class SeededBytes {
   #seed;
   #drawings = 0;

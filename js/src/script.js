@@ -31,7 +31,7 @@ function* lines(text) {
 }
 
 /**
- * Returns a text, repeated to the size of a command's random bytes.
+ * Repeats a text up to the number of random bytes of a command.
  * @param {Uint8Array} text
  */
 const repeated = (text) => Uint8Array.from({ length: RANDOM_SIZE }, (_, at) => text[at % text.length]);

@@ -1,14 +1,15 @@
-// SHAKE256 of FIPS 202, computed synchronously: the digests of the web platform are asynchronous.
+// SHAKE256 of FIPS 202, computed synchronously, unlike the digests of the web platform.
 
 const RATE = 136;
 const ROUNDS = 24;
 
-// Along one path through the lanes 1, 10, 7 .., rho rotates each lane, and pi moves it to the position of the
-// next lane.
+// On a path through the lanes 1, 10, 7 .., rho rotates each lane, and pi moves it to the position
+// of the next lane on the path.
 const PATH = [10, 7, 11, 17, 18, 3, 5, 16, 8, 21, 24, 4, 15, 23, 19, 13, 12, 2, 20, 14, 22, 9, 6, 1];
 const TURNS = [1, 3, 6, 10, 15, 21, 28, 36, 45, 55, 2, 14, 27, 41, 56, 8, 25, 43, 62, 18, 39, 61, 20, 44];
 
-/** What iota adds to lane 0 in each round: the low word and the high word. */
+/** Returns the constants that iota adds to lane 0 in each round, each as a low word and a high
+ * word. */
 function roundConstants() {
   const constants = new Int32Array(2 * ROUNDS);
   let register = 1;
@@ -22,7 +23,8 @@ function roundConstants() {
 
 const CONSTANTS = roundConstants();
 
-// The five columns of a plane, in reading order: each lane is two words.
+// The indexes of the next column, and of the one after it, in a plane of five lanes. Each lane
+// consists of two words.
 const NEXT = [2, 3, 4, 5, 6, 7, 8, 9, 0, 1];
 const AFTER_NEXT = [4, 5, 6, 7, 8, 9, 0, 1, 2, 3];
 const BEFORE = [8, 9, 0, 1, 2, 3, 4, 5, 6, 7];
@@ -47,7 +49,7 @@ function rhoAndPi(state) {
   for (let step = 0; step < PATH.length; step++) {
     const at = 2 * PATH[step];
     const left = TURNS[step] & 31;
-    // A rotation by 32 bits or more swaps the words.
+    // A rotation by 32 bits or more also swaps the two words.
     const places = at ^ (TURNS[step] >> 5);
     const turnedLow = (low << left) | (high >>> (32 - left));
     const turnedHigh = (high << left) | (low >>> (32 - left));
@@ -88,7 +90,7 @@ function add(state, at, byte) {
 }
 
 /**
- * Returns the first bytes of the SHAKE256 of a text.
+ * Returns the first bytes of the SHAKE256 output for a text.
  * @param {Uint8Array} text
  * @param {number} size
  */

@@ -45,7 +45,8 @@ export class Words {
   }
 
   /**
-   * Returns the buffer of a command in words, such as `GetRandom 4`. Throws BadLine if the words encode no command.
+   * Returns the buffer of a command in words, such as `GetRandom 4`. Throws BadLine if the words do
+   * not encode a command.
    * @param {string} line
    * @returns {Uint8Array}
    */
@@ -56,7 +57,7 @@ export class Words {
   }
 
   /**
-   * Returns a line in words that encodes exactly these bytes; null if there is none.
+   * Returns a line in words that encodes exactly these bytes, or null if there is none.
    * @param {Uint8Array} command
    * @returns {string | null}
    */
@@ -65,7 +66,7 @@ export class Words {
   }
 
   /**
-   * Returns the meaning of a response or a response code; null if there is no such code.
+   * Returns the meaning of a response or a response code, or null if there is no such code.
    * @param {Uint8Array | number} given
    * @returns {Meaning | null}
    */
@@ -75,7 +76,7 @@ export class Words {
   }
 
   /**
-   * Returns the number of the command with this name; null if there is none.
+   * Returns the number of the command with this name, or null if there is none.
    * @param {string} name
    * @returns {number | null}
    */
@@ -84,7 +85,7 @@ export class Words {
   }
 
   /**
-   * Returns the name of the command with this number; null if there is none.
+   * Returns the name of the command with this number, or null if there is none.
    * @param {number} code
    * @returns {string | null}
    */
@@ -93,7 +94,8 @@ export class Words {
   }
 
   /**
-   * Returns the form of a command in words, such as `NV_Write @Entity Index Buffer u16`; null if there is none.
+   * Returns the form of a command in words, such as `NV_Write @Entity Index Buffer u16`, or null if
+   * there is none.
    * @param {number} code
    * @returns {string | null}
    */
@@ -102,7 +104,7 @@ export class Words {
   }
 
   /**
-   * Returns a whole line for a command, as an example; null if there is none.
+   * Returns a complete line for a command, as an example, or null if there is none.
    * @param {number} code
    * @returns {string | null}
    */

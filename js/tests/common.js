@@ -1,6 +1,6 @@
 // Constants and functions that several tests use.
 
-/** The bytes with which a script's device is manufactured. */
+/** The random bytes with which the device of a script is manufactured. */
 export const ZERO_TO_FF = Uint8Array.from({ length: 256 }, (_, at) => at);
 
 /** @param {Uint8Array} bytes */

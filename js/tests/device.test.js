@@ -1,4 +1,4 @@
-// A device: executing, keeping, saving and restoring.
+// Tests how a device executes commands, and how it is kept, saved and restored.
 
 import assert from "node:assert/strict";
 import { test } from "node:test";
@@ -19,7 +19,7 @@ async function started(making) {
   return tpm;
 }
 
-/** Executes a GetRandom, and returns its eight bytes in hex. */
+/** Executes TPM2_GetRandom, and returns its eight random bytes in hex. */
 const drawn = (tpm, event) => hex(tpm.do("GetRandom 8", event).response).slice(-16);
 
 test("a command in words and in bytes", async () => {

@@ -1,4 +1,5 @@
-// The package exports what index.d.ts declares, and each export is tested here.
+// Checks that the package exports what index.d.ts declares, and that the tests here use each
+// export.
 
 import assert from "node:assert/strict";
 import { readFile, readdir } from "node:fs/promises";

@@ -1,4 +1,5 @@
-// The package as a page loads it: its files come from a server, and the module through `fetch`.
+// Tests the package as a web page loads it: a server serves its files, and `fetch` loads the
+// module.
 
 import assert from "node:assert/strict";
 import { execFile } from "node:child_process";
@@ -12,7 +13,7 @@ const TYPES = { js: "text/javascript", wasm: "application/wasm" };
 const FLAG = "--experimental-network-imports";
 const IN_CLONE = "../../dist/";
 
-/** Serves the package, and also a clone's dist/, which is next to it. */
+/** Serves the package, and also the folder dist/ next to it, as in a clone. */
 async function served() {
   const server = createServer(async (request, response) => {
     const path = request.url.slice(1);

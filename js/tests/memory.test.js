@@ -1,4 +1,4 @@
-// Memory: what devices allocate and free.
+// Tests the memory that devices allocate and free.
 
 import assert from "node:assert/strict";
 import { readFile } from "node:fs/promises";

@@ -1,4 +1,4 @@
-// The examples of README.md print the output below them.
+// Checks that the examples of README.md print the output that is shown below them.
 
 import assert from "node:assert/strict";
 import { execFileSync } from "node:child_process";

@@ -1,4 +1,4 @@
-// Wrong arguments: each error names its argument, and nothing changes.
+// Tests wrong arguments. Each error must name the argument, and nothing may change.
 
 import assert from "node:assert/strict";
 import { test } from "node:test";
@@ -10,7 +10,7 @@ const tpm = await Device.create({ seed: "mine" });
 const command = tpm.words.assemble("Startup 0");
 const zeros = new Uint8Array(256);
 
-/** Returns a check that an error is about this argument. */
+/** Returns a function that checks whether an error is about this argument. */
 const refused = (argument) => (it) =>
   it instanceof BadArgument && it instanceof TypeError && it.name === "BadArgument" && it.argument === argument;
 
@@ -85,7 +85,7 @@ test("constructors", () => {
 });
 
 test("modules", async () => {
-  // A module with no exports, and one with an import.
+  // A module without exports, and a module with an import.
   const empty = Uint8Array.of(0, 0x61, 0x73, 0x6d, 1, 0, 0, 0);
   for (const module of [zeros, new Uint8Array(), empty, empty.buffer, await WebAssembly.compile(empty), "tpmsim.wasm", 7]) {
     await assert.rejects(Device.create({ module }), (it) => it instanceof NoModule && it.name === "NoModule");

@@ -1,4 +1,4 @@
-// The scripts of the repository get the same responses and traces as from the program.
+// Checks that the scripts of the repository get the same responses and traces as from the program.
 
 import assert from "node:assert/strict";
 import { existsSync, readFileSync, readdirSync } from "node:fs";
@@ -10,7 +10,7 @@ import { BadLine, Device } from "tpmsim";
 
 import { hex, ZERO_TO_FF } from "./common.js";
 
-// The folder of the repository, if the package is not in it.
+// The repository's folder. The environment variable names it if the package is installed elsewhere.
 const top = process.env.TPMSIM_REPOSITORY ?? fileURLToPath(new URL("../..", import.meta.url));
 
 /** @returns {Promise<Device>} a new device, as a script expects it */
@@ -24,7 +24,7 @@ function* scripts(folder) {
   }
 }
 
-/** Returns what the program prints for a script, without and with traces, and its fault. */
+/** Plays a script. Returns what the program would print without and with traces, and the fault. */
 async function played(path) {
   const tpm = await fresh();
   const [answers, traced] = [[], []];

@@ -1,4 +1,4 @@
-// Commands and response codes in words.
+// Tests commands and response codes in words.
 
 import assert from "node:assert/strict";
 import { readFile } from "node:fs/promises";

@@ -1,5 +1,5 @@
-// Copies the module into this folder for `npm pack`, which packs no file from elsewhere, and removes it
-// afterwards: the repository contains it only in dist/.
+// Copies the module into this folder for `npm pack`, which cannot pack files from other folders.
+// Removes it afterwards, because the repository contains the module only in dist/.
 //
 //   node tools/module.js take|leave
 

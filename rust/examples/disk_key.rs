@@ -1,5 +1,6 @@
-//! A disk's key is sealed to PCRs 7 and 11 and a PIN. It is refused after PCR 11 has changed, and recovered
-//! with a second branch of its policy, which requires the owner's passphrase.
+//! A disk's key is sealed to PCRs 7 and 11 and a PIN. After PCR 11 has changed, the TPM no longer
+//! releases it. The second branch of its policy, which requires the owner's passphrase, recovers
+//! it.
 
 mod commands;
 
@@ -13,25 +14,26 @@ const DISK_KEY: &[u8] = b"the key of a disk, of 32 bytes..";
 const PIN: &[u8] = b"7391";
 const PASSPHRASE: &[u8] = b"kept in a drawer";
 
-/// The first branch: the current values of the PCRs, and the PIN.
+/// Satisfies the first branch: the current values of the PCRs, and the PIN.
 fn by_pin(tpm: &mut Device, session: u32) -> Result<(), Refusal> {
     let pcrs = [vec![0, 0], selection(&[7, 11])].concat();
     send(tpm, 0x17f, &[session], None, &pcrs)?;
     send(tpm, 0x18c, &[session], None, &[]).map(|_| ())
 }
 
-/// The second branch: TPM2_PolicySecret of the owner.
+/// Satisfies the second branch: TPM2_PolicySecret of the owner.
 fn by_passphrase(tpm: &mut Device, session: u32, passphrase: &[u8]) -> Result<(), Refusal> {
     send(tpm, 0x151, &[OWNER, session], Some(By::Password(passphrase)), &[0; 10]).map(|_| ())
 }
 
-/// TPM2_PolicyOR of the branches.
+/// Executes TPM2_PolicyOR of the branches.
 fn either(tpm: &mut Device, session: u32, branches: &[Vec<u8>; 2]) -> Result<(), Refusal> {
     let digests = [vec![0, 0, 0, 2], sized(&branches[0]), sized(&branches[1])].concat();
     send(tpm, 0x171, &[session], None, &digests).map(|_| ())
 }
 
-/// The digests of the branches, for the current values of the PCRs, and the digest of the policy.
+/// Returns the digests of the branches, for the current values of the PCRs, and the digest of the
+/// policy.
 fn policy(tpm: &mut Device) -> Result<([Vec<u8>; 2], Vec<u8>), Refusal> {
     let trial = start_session(tpm, TRIAL)?;
     by_pin(tpm, trial)?;
@@ -44,7 +46,7 @@ fn policy(tpm: &mut Device) -> Result<([Vec<u8>; 2], Vec<u8>), Refusal> {
     Ok((branches, digest_of(tpm, trial)?))
 }
 
-/// Returns the disk's key, with the first branch that holds, or the reason for the refusal.
+/// Returns the disk's key if one of the branches is satisfied, or the reason for the refusal.
 fn opened(
     tpm: &mut Device,
     disk: u32,

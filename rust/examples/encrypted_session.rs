@@ -1,5 +1,6 @@
-//! A secret is sent to the TPM encrypted, in a session that is bound to the owner, whose authorization value
-//! is not sent either. An eavesdropper learns neither of them, and cannot replay the commands.
+//! A secret is sent to the TPM in encrypted form. The session is bound to the owner, whose
+//! authorization value is not sent at all. An eavesdropper learns neither of them, and cannot
+//! replay the commands.
 
 mod commands;
 mod session;
@@ -11,22 +12,23 @@ use tpmsim::{Device, Refusal};
 const SECRET: &[u8] = b"a secret of 24 bytes, ok";
 const OWNERS_VALUE: &[u8] = b"the owner's value";
 
-/// An NV index that the owner writes and reads; the device adds that it is written.
+/// The attributes of an NV index that the owner writes and reads, and the one that the device adds
+/// when it is written.
 const BY_OWNER: u32 = 0x0002_0002;
 const WRITTEN: u32 = 0x2000_0000;
 
-/// The public area of the index.
+/// Returns the public area of the index.
 fn area(attributes: u32) -> Vec<u8> {
     [&number(INDEX)[..], &[0, 0x0b], &number(attributes), &[0, 0], &[0, SECRET.len() as u8]]
         .concat()
 }
 
-/// The Names of the owner and of the index, which are part of cpHash.
+/// Returns the Names of the owner and of the index, which are part of cpHash.
 fn names(attributes: u32) -> Vec<u8> {
     [&number(OWNER)[..], &[0, 0x0b], &sha256(&area(attributes))].concat()
 }
 
-/// A TPM, and an eavesdropper between it and its caller.
+/// A connection to a TPM, with an eavesdropper.
 struct Way {
     tpm: Device,
     heard: Vec<u8>,
@@ -34,7 +36,7 @@ struct Way {
 }
 
 impl Way {
-    /// Sends a command that the owner authorizes; returns the decrypted parameters of its response.
+    /// Sends a command that the owner authorizes. Returns the decrypted parameters of its response.
     fn send(
         &mut self,
         session: &mut Session,

@@ -1,6 +1,6 @@
-//! A measured boot: each piece of software is measured into a PCR before it runs, and its digest is logged. A
-//! verifier with the log and the PCRs replays the log on another TPM, and trusts it if this leads to the same
-//! values.
+//! A measured boot: each piece of software is measured into a PCR before it runs, and its digest is
+//! logged. A verifier that gets the log and the PCR values replays the log on another TPM, and
+//! trusts it if the values are the same.
 
 mod commands;
 
@@ -23,10 +23,10 @@ fn boot(tpm: &mut Device) -> Result<Log, Refusal> {
     BOOT.iter().map(|(pcr, data)| Ok((*pcr, measure(tpm, *pcr, data)?))).collect()
 }
 
-/// The values of the PCRs.
+/// Returns the values of the PCRs.
 fn values(tpm: &mut Device) -> Result<Vec<Vec<u8>>, Refusal> {
     let answer = send(tpm, 0x17e, &[], None, &selection(&PCRS))?;
-    // The update counter, the selection and the number of values come before the values.
+    // The values follow the update counter, the selection and the number of values.
     let values = &answer.parameters[4 + 10 + 4..];
     Ok(values.chunks_exact(2 + 32).map(|it| it[2..].to_vec()).collect())
 }

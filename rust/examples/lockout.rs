@@ -1,5 +1,5 @@
-//! Wrong PINs are counted. After three of them the TPM checks no more PINs until an hour of device time has
-//! passed, or until the lockout is reset with lockoutAuth.
+//! Wrong PINs are counted. After three of them the TPM checks no more PINs until an hour of device
+//! time has passed, or until the lockout is reset with lockoutAuth.
 
 mod commands;
 
@@ -7,14 +7,14 @@ use commands::{define, number, send, sized, tell, By, INDEX, LOCKOUT};
 use std::time::Duration;
 use tpmsim::{Device, Refusal};
 
-/// An index that is written and read with its own authorization value.
+/// The attributes of an index that is written and read with its own authorization value.
 const BY_VALUE: u32 = 0x0004_0004;
 
 const PIN: &[u8] = b"7391";
 const WRONG: &[u8] = b"1234";
 const HOUR: u32 = 3_600;
 
-/// Returns the data of the index for a PIN, or the reason for the refusal.
+/// Reads the index with a PIN. Returns the data, or the reason for the refusal.
 fn read(tpm: &mut Device, pin: &[u8]) -> Result<String, Refusal> {
     let by = Some(By::Password(pin));
     let data = send(tpm, 0x14e, &[INDEX, INDEX], by, &[0, 8, 0, 0])?.buffers(1).remove(0);

@@ -1,4 +1,4 @@
-//! A device in five lines: random bytes.
+//! The shortest example: draws random bytes from a new device.
 
 use tpmsim::Device;
 

@@ -1,5 +1,6 @@
-//! A counter contains the lowest version that may be started. A key that is sealed for a version is released
-//! while the counter is not above that version. The counter never decreases, whatever happens to its index.
+//! A counter contains the lowest version that may be started. A key that is sealed for a version is
+//! released as long as the counter does not exceed that version. The counter never decreases, even
+//! if its index is deleted and defined again.
 
 mod commands;
 
@@ -9,7 +10,8 @@ use commands::{
 };
 use tpmsim::{Device, Refusal};
 
-/// A counter that is written and read with its own authorization value or with the owner's.
+/// The attributes of a counter that is written and read with its own authorization value or with
+/// the owner's.
 const COUNTER: u32 = 0x0006_0016;
 
 const KEY: &[u8] = b"the key of this version.";
@@ -24,7 +26,7 @@ fn lowest(tpm: &mut Device) -> Result<u64, Refusal> {
     Ok(data.iter().fold(0, |sum, byte| sum << 8 | u64::from(*byte)))
 }
 
-/// TPM2_PolicyNV: the counter is at most this version.
+/// Executes TPM2_PolicyNV: the counter is at most this version.
 fn at_most(tpm: &mut Device, session: u32, version: u64) -> Result<(), Refusal> {
     let parameters = [sized(&version.to_be_bytes()), vec![0, 0, 0, 9]].concat();
     send(tpm, 0x149, &[INDEX, INDEX, session], Some(By::Password(b"")), &parameters).map(|_| ())

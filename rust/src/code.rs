@@ -1,16 +1,16 @@
-//! Response codes, places and checks in words.
+//! Response codes and checks, and their names.
 
 use crate::names::{name_of, CODES};
 use std::fmt;
 
-/// The handle, parameter or entry that a response code is about.
+/// The handle, parameter or authorization entry to which a response code refers.
 #[derive(Clone, Copy, Debug, PartialEq, Eq, Hash)]
 pub enum Place {
-    /// A handle, by its number from 1.
+    /// A handle, with its number from 1.
     Handle(u8),
-    /// A parameter, by its number from 1.
+    /// A parameter, with its number from 1.
     Parameter(u8),
-    /// An entry of the authorization area, by its number from 1.
+    /// An entry of the authorization area, with its number from 1.
     Session(u8),
 }
 
@@ -41,15 +41,17 @@ pub struct ResponseCode(
 );
 
 impl ResponseCode {
-    /// The code of a success.
+    /// The response code of a command that succeeded.
     pub const SUCCESS: ResponseCode = ResponseCode(0);
 
-    /// The code without the number of a handle, parameter or session, if it is a format-one code.
+    /// If this is a format-one code, returns it without the number of a handle, parameter or
+    /// session.
     fn with_a_place(self) -> Option<u32> {
         (self.0 & 0x080 != 0 && self.0 >> 8 != 0).then_some(self.0 & 0x0bf)
     }
 
-    /// The name without its place, such as `AUTH_FAIL`; none for a code that this device never returns.
+    /// Returns the name without its place, such as `AUTH_FAIL`, or `None` for a code that this
+    /// device never returns.
     pub fn name(self) -> Option<&'static str> {
         match self {
             ResponseCode::SUCCESS => Some("SUCCESS"),
@@ -57,7 +59,7 @@ impl ResponseCode {
         }
     }
 
-    /// The handle, parameter or entry that the code is about.
+    /// Returns the handle, parameter or entry to which the code refers.
     pub fn place(self) -> Option<Place> {
         self.with_a_place()?;
         let number = (self.0 >> 8 & 0x0f) as u8;
@@ -106,7 +108,7 @@ pub enum Check {
 }
 
 impl Check {
-    /// The check for a number that the library returns.
+    /// Returns the check for a number that the library returns.
     pub(crate) fn of(number: u8) -> Check {
         match number {
             0 => Check::Passed,

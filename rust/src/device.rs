@@ -8,7 +8,8 @@ use crate::response::Response;
 use std::fmt;
 use std::time::Duration;
 
-/// The numbers of the first fault of an image, and of a state text, in the library's header.
+/// The numbers in the library's header of the first fault of an image, and of the first fault of a
+/// state text.
 const FIRST_IMAGE_FAULT: u8 = 4;
 const FIRST_STATE_FAULT: u8 = 13;
 
@@ -18,10 +19,11 @@ const LAST_LOCALITY: u8 = 4;
 /// TPM2_Startup(CLEAR).
 const STARTUP: [u8; 12] = [0x80, 1, 0, 0, 0, 12, 0, 0, 1, 0x44, 0, 0];
 
-/// A TPM in this process. It takes 82 KB of memory, shares nothing, and is freed when it is dropped.
+/// A TPM in this process. It needs 82 KB of memory, shares nothing, and is freed when it is
+/// dropped.
 ///
-/// It may move between threads, but only one of them uses it at a time: it is [`Send`], but not [`Sync`]. A
-/// call takes 96 KB of stack.
+/// It may move between threads, but only one thread can use it at a time: it is [`Send`], but not
+/// [`Sync`]. A call needs 96 KB of stack.
 ///
 /// ```compile_fail
 /// fn shared<T: Sync>(_: T) {}
@@ -36,8 +38,8 @@ pub struct Device {
 }
 
 impl Device {
-    /// Makes a new device, with secrets and random bytes from the system. It has just been powered on, and
-    /// expects TPM2_Startup.
+    /// Makes a new device, with secrets and random bytes from the system. It has just been powered
+    /// on, and expects TPM2_Startup.
     ///
     /// # Errors
     ///
@@ -46,8 +48,8 @@ impl Device {
         Device::manufactured(None, Source::system().map_err(Error::Random)?)
     }
 
-    /// Makes a new device whose secrets and random bytes are derived from a seed, and are the same in each run.
-    /// A device in Python or Go with the same seed is the same device.
+    /// Makes a new device whose secrets and random bytes are derived from a seed, and are therefore
+    /// the same in each run. In Python and Go, the same seed results in the same device.
     ///
     /// # Errors
     ///
@@ -68,7 +70,7 @@ impl Device {
     ///
     /// # Errors
     ///
-    /// [`Error::Image`] for other bytes, [`Error::Memory`], [`Error::Random`].
+    /// [`Error::Image`] if the bytes are not an image, [`Error::Memory`], [`Error::Random`].
     ///
     /// ```
     /// use tpmsim::{Device, Error, Fault};
@@ -93,7 +95,8 @@ impl Device {
     ///
     /// # Panics
     ///
-    /// If the system provides no more random bytes: the next command would draw the same bytes again.
+    /// If the system provides no more random bytes, because the next command would draw the same
+    /// bytes again.
     ///
     /// ```
     /// # fn main() -> tpmsim::Result<()> {
@@ -108,8 +111,9 @@ impl Device {
         self.executed(Executor::Device, buffer)
     }
 
-    /// Executes a command with the completing layer above the device, which answers saved contexts and
-    /// other things that the device by design does not. The check of the response is that of the device.
+    /// Executes a command with the completing layer above the device, which answers commands on
+    /// saved contexts, and other commands that the device by design does not support. The check of
+    /// the response is still that of the device.
     ///
     /// # Panics
     ///
@@ -139,7 +143,7 @@ impl Device {
         Ok(())
     }
 
-    /// The locality of the next commands, initially 0.
+    /// Returns the locality of the next commands, initially 0.
     pub fn locality(&self) -> u8 {
         self.locality
     }
@@ -158,8 +162,8 @@ impl Device {
         Ok(())
     }
 
-    /// Lets time pass before the next command, in whole milliseconds. It returns at once, since the caller sets
-    /// the time of a device.
+    /// Lets time pass before the next command, in whole milliseconds. The call returns at once: it
+    /// only advances the device's time.
     ///
     /// # Errors
     ///
@@ -177,22 +181,26 @@ impl Device {
         self.logged(|| "power".into());
     }
 
-    /// Returns the image, which is what the device keeps without power; [`Device::open`] opens it.
+    /// Returns the image, which contains everything that the device keeps without power.
+    /// [`Device::open`] opens it.
     pub fn save(&self) -> Vec<u8> {
         self.native.image()
     }
 
-    /// Returns the state text: the whole state, with sessions, objects, PCRs and times. It contains all
-    /// secrets in the clear. It does not contain the locality, or elapsed time that no command has followed yet.
+    /// Returns the state text: the whole state, with sessions, objects, PCRs and times. It contains
+    /// all secrets in plain text. It does not contain the locality, nor the time that has elapsed
+    /// since the last command.
     pub fn snapshot(&self) -> Vec<u8> {
         self.native.state_text()
     }
 
-    /// Replaces the state by that of a state text, of any device in any process. The log restarts.
+    /// Replaces the state with that in a state text, which may come from any device in any process.
+    /// The log restarts.
     ///
     /// # Errors
     ///
-    /// [`Error::State`] for other bytes, and [`Error::Memory`]: the device is then unchanged.
+    /// [`Error::State`] if the bytes are not a state text, and [`Error::Memory`]. In both cases the
+    /// device is unchanged.
     ///
     /// ```
     /// # fn main() -> tpmsim::Result<()> {
@@ -218,7 +226,7 @@ impl Device {
         }
     }
 
-    /// Starts a log from the current state of the device. Before that, no log is kept.
+    /// Starts a log from the current state of the device. Without this call, there is no log.
     pub fn begin_log(&mut self) {
         let mut log = Log::of_state(&self.native.state_text());
         if self.locality > 0 {
@@ -230,13 +238,14 @@ impl Device {
         self.log = Some(log);
     }
 
-    /// Returns the log, a script with the responses as comments. `tpmsim-explain FILE` reports why each command
-    /// in it was refused. It is empty without [`Device::begin_log`]. It contains all secrets.
+    /// Returns the log, a script with the responses as comments. `tpmsim-explain FILE` reports why
+    /// each command in it was refused. The log is empty without [`Device::begin_log`]. It contains
+    /// all secrets.
     pub fn log(&self) -> &str {
         self.log.as_ref().map_or("", Log::text)
     }
 
-    /// Returns a value that holds no device yet.
+    /// Returns a value that contains no device yet.
     fn holding_none(source: Source) -> Device {
         Device { native: Native::empty(), source, locality: 0, elapsed: 0, log: None }
     }

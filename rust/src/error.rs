@@ -4,12 +4,12 @@ use crate::response::Refusal;
 use std::fmt;
 use std::io;
 
-/// Why bytes are not an image or a state text, in the order of the checks.
+/// The reason why bytes are not an image or a state text, in the order of the checks.
 #[derive(Clone, Copy, Debug, PartialEq, Eq, Hash)]
 pub enum Fault {
     /// There are fewer than 42 bytes.
     Short,
-    /// They do not start like an image or a state text.
+    /// They do not begin like an image or a state text.
     Magic,
     /// Their version is unknown.
     Version,
@@ -21,7 +21,7 @@ pub enum Fault {
     Body,
 }
 
-/// The faults in the order of the header's numbers.
+/// The faults, in the order of their numbers in the header.
 const FAULTS: [Fault; 6] =
     [Fault::Short, Fault::Magic, Fault::Version, Fault::Length, Fault::Digest, Fault::Body];
 
@@ -38,7 +38,7 @@ impl fmt::Display for Fault {
     }
 }
 
-/// Why a call to this package failed.
+/// The reason why a call to this package failed.
 #[derive(Debug)]
 #[non_exhaustive]
 pub enum Error {
@@ -62,8 +62,8 @@ pub enum Error {
 pub type Result<T> = std::result::Result<T, Error>;
 
 impl Error {
-    /// Converts the result of a library call that failed, given the number of the first fault that the call
-    /// checks.
+    /// Converts the return code of a library call that failed. `first` is the code of the first
+    /// fault for which the call checks.
     pub(crate) fn of(told: u8, first: u8, kind: fn(Fault) -> Error) -> Error {
         match told.checked_sub(first).and_then(|at| FAULTS.get(usize::from(at))) {
             Some(fault) => kind(*fault),

@@ -12,12 +12,13 @@
 //! # }
 //! ```
 //!
-//! A [`Device`] is made by libtpmsim, which is linked statically and proved to respond as its specification
-//! says. Each test has its own device: devices share no file, lock or variable, so tests can run in
-//! parallel. [`Transport`] and [`DeviceFile`] are the interfaces that TPM libraries expect.
+//! A [`Device`] is implemented by libtpmsim, which is linked statically, and proved to respond as
+//! its specification requires. Each test has its own device: devices share no file, lock or
+//! variable, so tests can run in parallel. [`Transport`] and [`DeviceFile`] are the interfaces that
+//! TPM libraries expect.
 //!
-//! The error for a refused command says in words what was refused. `tpmsim-explain` reads [`Device::log`],
-//! and explains the whole reason:
+//! The error for a refused command describes in words what was refused. `tpmsim-explain` reads
+//! [`Device::log`], and explains the whole reason:
 //!
 //! ```
 //! # fn main() -> tpmsim::Result<()> {
@@ -31,8 +32,8 @@
 //! # }
 //! ```
 //!
-//! The library is the one in the folder `TPMSIM_LIB_DIR`, or else the one in this package, which is for Linux
-//! on x86-64 and on ARM64.
+//! The library is the one in the folder `TPMSIM_LIB_DIR`, or else the one in this package, which is
+//! for Linux on x86-64 and on ARM64.
 #![deny(missing_docs, unsafe_op_in_unsafe_fn, unsafe_code)]
 
 mod code;

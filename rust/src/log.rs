@@ -1,4 +1,4 @@
-//! The log of a device: what `tpmsim-explain` and `tpmsim-audit` read.
+//! The log of a device, which `tpmsim-explain` and `tpmsim-audit` read.
 
 use std::fmt::Write;
 
@@ -8,7 +8,7 @@ pub(crate) struct Log {
 }
 
 impl Log {
-    /// Starts a log with a device's state text.
+    /// Starts a log that begins with a device's state text.
     pub(crate) fn of_state(state_text: &[u8]) -> Log {
         let mut log = Log { text: String::new() };
         log.bytes("# state ", state_text);
@@ -35,7 +35,7 @@ impl Log {
         self.bytes("# ", response);
     }
 
-    /// Adds a word and bytes in hex.
+    /// Adds a word followed by bytes in hex.
     fn bytes(&mut self, word: &str, bytes: &[u8]) {
         self.text.push_str(word);
         for byte in bytes {

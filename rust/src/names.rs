@@ -1,6 +1,7 @@
 //! The names of response codes and of commands.
 
-/// The response codes without their places (TPM 2.0 Library, Part 2, section 6.6.3), by number.
+/// The response codes without the number of a handle, parameter or session (TPM 2.0 Library, Part
+/// 2, section 6.6.3), by number.
 pub(crate) const CODES: &[(u32, &str)] = &[
     (0x01e, "BAD_TAG"),
     (0x082, "ATTRIBUTES"),
@@ -104,7 +105,7 @@ pub(crate) const COMMANDS: &[(u32, &str)] = &[
     (0x18f, "PolicyNvWritten"),
 ];
 
-/// Returns the name of a number in a table.
+/// Returns the name for a number in a table.
 pub(crate) fn name_of(table: &[(u32, &'static str)], number: u32) -> Option<&'static str> {
     table.iter().find(|(of, _)| *of == number).map(|(_, name)| *name)
 }

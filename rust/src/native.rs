@@ -1,27 +1,28 @@
 //! The calls of libtpmsim and of `getrandom`. This is the only unsafe code of the package.
 //!
-//! These types ensure the library's preconditions. A [`Native`] is the only owner of its handle, which moves
-//! with it and is never copied. Every call except one on `&self` takes `&mut self`, and a `Native` is not
-//! `Sync`, so only one call at a time uses a handle. Each buffer has the size that its call reads or writes.
+//! These types ensure the library's preconditions. A [`Native`] is the only owner of its handle,
+//! which moves with it and is never copied. Every call except one on `&self` takes `&mut self`, and
+//! a `Native` is not `Sync`, so only one call at a time uses a handle. Each buffer has the size
+//! that its call reads or writes.
 #![allow(unsafe_code)]
 
 use std::io;
 use std::os::raw::{c_uint, c_void};
 use std::ptr::null_mut;
 
-/// The result of a call that succeeded.
+/// The return code of a call that succeeded.
 pub(crate) const DONE: u8 = 0;
 
-/// The number of random bytes that a call takes.
+/// The number of random bytes that the library expects in a call.
 pub(crate) const RANDOM_BYTES: usize = 256;
 
 /// The size of the longest response.
 const RESPONSE_BYTES: usize = 4096;
 
-/// A buffer size that is enough for every image and every state text.
+/// The size of a buffer that is large enough for every image and every state text.
 const TEXT_BYTES: usize = 36_195;
 
-/// The type `tpmsim` of the header. It is not `Sync`, since a pointer is not.
+/// The type `tpmsim` of the header. It is not `Sync`, because a pointer is not.
 #[repr(C)]
 struct Holder(*mut c_void);
 
@@ -107,23 +108,24 @@ pub(crate) struct Outcome {
 /// A handle of the library, with or without a device.
 pub(crate) struct Native(Holder);
 
-// SAFETY: the library has no variables and no thread-local locks, and a device is reached only through its
-// handle, which moves with the `Native`.
+// SAFETY: the library has no global or thread-local state, and a device is reachable only through
+// its handle, which moves with the `Native`.
 unsafe impl Send for Native {}
 
 impl Native {
-    /// A handle without a device.
+    /// Returns a handle without a device.
     pub(crate) fn empty() -> Native {
         Native(Holder(null_mut()))
     }
 
-    /// Makes a new device here; returns whether this succeeded.
+    /// Makes a new device in this handle. Returns the library's return code.
     pub(crate) fn manufacture(&mut self, random: &[u8; RANDOM_BYTES]) -> u8 {
         // SAFETY: the handle is one of the library, and `random` points to 256 bytes.
         unsafe { tpmsim_manufacture(&mut self.0, random.as_ptr()) }
     }
 
-    /// Executes a command. Returns nothing for a handle without a device, or a locality above 4.
+    /// Executes a command. Returns `None` for a handle without a device, and for a locality above
+    /// 4.
     pub(crate) fn execute(
         &mut self,
         by: Executor,
@@ -136,8 +138,8 @@ impl Native {
         };
         let mut room = [0; RESPONSE_BYTES];
         let mut answered = Answered::default();
-        // SAFETY: the handle is one of the library; `buffer` has its size, `random` 256 bytes and `room`
-        // 4,096; and none of these overlap.
+        // SAFETY: the handle is one of the library; `buffer` has its size, `random` 256 bytes and
+        // `room` 4,096; and none of these overlap.
         let done = unsafe {
             call(
                 &mut self.0,
@@ -174,28 +176,28 @@ impl Native {
         self.written(tpmsim_snapshot)
     }
 
-    /// Opens the device of an image; returns the library's result.
+    /// Opens the device of an image. Returns the library's return code.
     pub(crate) fn open(&mut self, image: &[u8]) -> u8 {
         self.read(tpmsim_open, image)
     }
 
-    /// Restores a device from a state text; returns the library's result.
+    /// Restores a device from a state text. Returns the library's return code.
     pub(crate) fn restore(&mut self, text: &[u8]) -> u8 {
         self.read(tpmsim_restore, text)
     }
 
-    /// Returns the text that a call writes; the call does not change the device.
+    /// Returns the text that a call writes. The call does not change the device.
     fn written(&self, call: Write) -> Vec<u8> {
         let mut room = vec![0; TEXT_BYTES];
         let holder = std::ptr::addr_of!(self.0) as *mut Holder;
-        // SAFETY: the handle is one of the library, the two calls of this type do not write to it, and no
-        // other thread uses it, since a `Native` is not `Sync`; `room` has its size.
+        // SAFETY: the handle is one of the library, the two calls of this type do not write to it,
+        // and no other thread uses it, because a `Native` is not `Sync`; and `room` has its size.
         let size = unsafe { call(holder, room.as_mut_ptr(), room.len()) };
         room.truncate(size);
         room
     }
 
-    /// Returns the result of a call that reads a text.
+    /// Makes a call that reads a text. Returns the library's return code.
     fn read(&mut self, call: Read, text: &[u8]) -> u8 {
         // SAFETY: the handle is one of the library, and `text` has its size.
         unsafe { call(&mut self.0, text.as_ptr(), text.len()) }
@@ -209,13 +211,13 @@ impl Drop for Native {
     }
 }
 
-/// The version of the linked library: its three numbers, one byte each.
+/// Returns the version of the linked library: its three numbers, one byte each.
 pub(crate) fn version() -> u32 {
-    // SAFETY: the call takes nothing, and reads no memory.
+    // SAFETY: the function has no arguments, and reads no memory.
     unsafe { tpmsim_version() }
 }
 
-/// Fills a buffer with random bytes of the system.
+/// Fills a buffer with the system's random bytes.
 pub(crate) fn draw(mut buffer: &mut [u8]) -> io::Result<()> {
     while !buffer.is_empty() {
         // SAFETY: `buffer` has its size.

@@ -6,9 +6,10 @@ use std::io;
 
 /// The random bytes that a command may draw.
 pub(crate) enum Source {
-    /// Bytes of the system. Those that no command has drawn are used again.
+    /// Bytes from the system. The next command gets those again that no command has drawn.
     System([u8; RANDOM_BYTES]),
-    /// Bytes derived from a seed: the bytes, the seed, and how many commands have received theirs.
+    /// Bytes that are derived from a seed. The fields are the bytes, the seed, and the number of
+    /// commands that have received their bytes.
     Seed([u8; RANDOM_BYTES], Vec<u8>, u64),
 }
 
@@ -25,7 +26,7 @@ impl Source {
         Source::Seed([0; RANDOM_BYTES], seed.to_vec(), 0)
     }
 
-    /// The bytes that the next command may draw.
+    /// Returns the bytes that the next command may draw.
     pub(crate) fn next(&mut self) -> &[u8; RANDOM_BYTES] {
         if let Source::Seed(bytes, seed, count) = self {
             *count += 1;
@@ -34,7 +35,8 @@ impl Source {
         self.bytes()
     }
 
-    /// The bytes that the last command could draw, some of which may have been replaced since.
+    /// Returns the bytes that the last command could draw. Some of them may have been replaced
+    /// since.
     pub(crate) fn bytes(&self) -> &[u8; RANDOM_BYTES] {
         match self {
             Source::System(bytes) | Source::Seed(bytes, ..) => bytes,
@@ -50,7 +52,7 @@ impl Source {
     }
 }
 
-/// The random bytes from which a new device is made: its seeds and its proofs.
+/// Returns the random bytes from which a new device derives its seeds and its proofs.
 pub(crate) fn of_new_device(seed: Option<&[u8]>) -> io::Result<[u8; RANDOM_BYTES]> {
     let mut bytes = [0; RANDOM_BYTES];
     match seed {

@@ -23,12 +23,12 @@ impl Response {
         Response { bytes, command, check: Check::of(check) }
     }
 
-    /// The whole response, with its header.
+    /// Returns the whole response, with its header.
     pub fn bytes(&self) -> &[u8] {
         &self.bytes
     }
 
-    /// The whole response, with its header.
+    /// Returns the whole response, with its header.
     pub fn into_bytes(self) -> Vec<u8> {
         self.bytes
     }
@@ -39,12 +39,12 @@ impl Response {
         ResponseCode(code.fold(0, |number, byte| number << 8 | u32::from(*byte)))
     }
 
-    /// The check that refused the command.
+    /// Returns the check that refused the command.
     pub fn check(&self) -> Check {
         self.check
     }
 
-    /// The bytes after the header.
+    /// Returns the bytes after the header.
     ///
     /// # Errors
     ///
@@ -82,7 +82,7 @@ pub struct Refusal {
 }
 
 impl Refusal {
-    /// The number of the command, TPM_CC; 0 if none was found.
+    /// Returns the command code (TPM_CC) of the refused command, or 0 if the buffer had none.
     pub fn command(&self) -> u32 {
         self.command
     }
@@ -92,7 +92,7 @@ impl Refusal {
         self.code
     }
 
-    /// The check that refused the command.
+    /// Returns the check that refused the command.
     pub fn check(&self) -> Check {
         self.check
     }

@@ -27,7 +27,8 @@ const ROUND_CONSTANTS: [u64; 24] = [
     0x8000000080008008,
 ];
 
-/// The steps rho and pi, lane by lane: the target of each lane, and the number of bits of its rotation.
+/// The steps rho and pi, lane by lane: the target of each lane, and the number of bits by which it
+/// is rotated.
 const MOVES: [(usize, u32); 24] = [
     (10, 1),
     (7, 3),
@@ -84,7 +85,7 @@ fn mix_rows(lanes: &mut [u64; 25]) {
     }
 }
 
-/// Keccak-f of 1,600 bits.
+/// Applies the permutation Keccak-f[1600].
 fn permute(lanes: &mut [u64; 25]) {
     for constant in ROUND_CONSTANTS {
         mix_columns(lanes);
@@ -99,7 +100,7 @@ fn add(lanes: &mut [u64; 25], at: usize, byte: u8) {
     lanes[at / 8] ^= u64::from(byte) << (at % 8 * 8);
 }
 
-/// The first 256 bytes of SHAKE256 of a text.
+/// Returns the first 256 bytes of the SHAKE256 output for a text.
 pub(crate) fn shake256(text: &[u8]) -> [u8; 256] {
     let mut lanes = [0; 25];
     for (at, byte) in text.iter().enumerate() {
@@ -125,7 +126,7 @@ pub(crate) fn shake256(text: &[u8]) -> [u8; 256] {
 mod tests {
     use super::shake256;
 
-    /// The first bytes of SHAKE256 of a text, in hex.
+    /// Returns the first bytes of the SHAKE256 output for a text, in hex.
     fn front(text: &[u8]) -> String {
         shake256(text)[..8].iter().map(|byte| format!("{byte:02x}")).collect()
     }
@@ -142,6 +143,6 @@ mod tests {
         assert_eq!(ends, ENDS);
     }
 
-    /// The results of Python's hashlib.
+    /// The expected values are from Python's hashlib.
     const ENDS: [u8; 3] = [145, 73, 22];
 }

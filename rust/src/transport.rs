@@ -1,20 +1,21 @@
-//! A device with the TPM interfaces that libraries expect.
+//! Devices with the interfaces that TPM libraries expect.
 
 use crate::device::Device;
 use std::io::{self, Read, Write};
 
 /// A transport to a TPM: sends a command and returns its response.
 ///
-/// If a library is generic over its own trait, implement that trait with this one.
+/// If a TPM library has its own trait for transports, implement that trait with this one.
 pub trait Transport {
-    /// The error of a transmission.
+    /// The type of error for a failed transmission.
     type Error;
 
     /// Sends a command and returns its response.
     ///
     /// # Errors
     ///
-    /// The transmission failed. A command that the TPM refuses has a response.
+    /// An error means that the transmission failed. If the TPM refuses a command, there is a
+    /// response.
     fn transmit(&mut self, command: &[u8]) -> Result<Vec<u8>, Self::Error>;
 }
 
@@ -26,8 +27,8 @@ impl Transport for Device {
     }
 }
 
-/// A device that behaves like the file `/dev/tpm0`: each write is a command, and the reads after it return its
-/// response.
+/// A device that behaves like the file `/dev/tpm0`: each write is a command, and the reads after it
+/// return its response.
 ///
 /// ```
 /// use std::io::{Read, Write};
@@ -47,12 +48,12 @@ pub struct DeviceFile {
 }
 
 impl DeviceFile {
-    /// Makes the file of a device.
+    /// Makes a file for a device.
     pub fn new(device: Device) -> DeviceFile {
         DeviceFile { device, response: Vec::new(), taken: 0 }
     }
 
-    /// The device, to change its locality, time or power.
+    /// Returns the device, so that its locality, time or power can be changed.
     pub fn device(&mut self) -> &mut Device {
         &mut self.device
     }

@@ -1,10 +1,10 @@
-//! Devices as a user uses them.
+//! Tests the package's devices through its public interface.
 
 use std::io::{Read, Write};
 use std::time::Duration;
 use tpmsim::{Check, Device, DeviceFile, Error, Fault, ResponseCode, Transport};
 
-/// A command without sessions: its code, and the bytes after the header.
+/// Returns a command without sessions. `rest` contains the bytes after the header.
 fn command(code: u32, rest: &[u8]) -> Vec<u8> {
     let size = u32::try_from(10 + rest.len()).expect("a command is short");
     [&[0x80, 1], &size.to_be_bytes()[..], &code.to_be_bytes(), rest].concat()
@@ -14,7 +14,7 @@ fn get_random(count: u16) -> Vec<u8> {
     command(0x17b, &count.to_be_bytes())
 }
 
-/// TPM2_StartAuthSession for a SHA-256 HMAC session, neither bound nor salted.
+/// Returns TPM2_StartAuthSession for a SHA-256 HMAC session, neither bound nor salted.
 fn start_auth_session() -> Vec<u8> {
     let nonce = [[0, 16].to_vec(), vec![1; 16]].concat();
     let rest = [vec![0x40, 0, 0, 7, 0x40, 0, 0, 7], nonce, vec![0, 0, 0, 0, 0x10, 0, 0x0b]];

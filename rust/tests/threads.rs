@@ -1,4 +1,4 @@
-//! A thousand tests, each with its own device, on all threads of the machine.
+//! Runs a thousand tests, each with its own device, on all processors of the machine.
 
 use std::sync::atomic::{AtomicUsize, Ordering};
 use std::thread;
@@ -20,7 +20,7 @@ fn test(number: usize) -> Vec<u8> {
     device.execute(&read).accepted().expect("PCR 7 may be read")[4..].to_vec()
 }
 
-/// Measures the time that all devices take, on all threads of the machine.
+/// Measures the time for a round of all tests, on all processors of the machine.
 fn a_round() -> Duration {
     let began = Instant::now();
     let next = AtomicUsize::new(0);
@@ -45,7 +45,8 @@ fn a_round() -> Duration {
     took
 }
 
-/// Other work on the machine may slow down a round, so the fastest of ten counts.
+/// Other processes on the machine may slow down a round. Therefore only the fastest of ten rounds
+/// counts.
 #[test]
 fn a_thousand_devices_take_less_than_half_a_second() {
     let is_quick = (0..10).any(|_| a_round() < Duration::from_millis(500));

@@ -1,6 +1,6 @@
-/* Opens a device with the module's configuration string and uses it: `ask WORDS ACT..`. An ACT is
- * one of these: a command in hex, whose response is printed; `power` for a power cycle; or
- * `locality N`. A fault is printed, and ends the program. */
+/* Opens a device with the module's configuration string and uses it. The usage is `ask WORDS
+ * ACT..`; each ACT is one of these: a command in hex, whose response is printed; `power` for a
+ * power cycle; or `locality N`. The program prints the first fault, and ends. */
 #include "common.h"
 #include "words.h"
 

@@ -1,4 +1,5 @@
-# Tests a kept device while the host's clock runs, stops, goes back and jumps. See attached/clock.c.
+# Tests a device that is kept in a folder while the host's clock runs, stops, goes back and jumps. See
+# attached/clock.c.
 tests=$(cd "$(dirname "$0")/.." && pwd -P)
 . "$tests/common/cases.sh"
 . "$tests/common/library.sh"

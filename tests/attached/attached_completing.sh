@@ -1,6 +1,7 @@
-# Tests the completing layer of a kept device. Until the next power cycle, a process can load a context that
-# another process saved: a session's context once, an object's context any number of times, even after the
-# object was flushed. A process that disables the layer uses only the device. See attached/ask.c.
+# Tests the completing layer of a device that is kept in a folder. Until the next power cycle, a process can
+# load a context that another process saved: a session's context once, an object's context any number of times,
+# even after the object was flushed. If a process disables the layer, the device alone answers the process. See
+# attached/ask.c.
 tests=$(cd "$(dirname "$0")/.." && pwd -P)
 . "$tests/common/cases.sh"
 . "$tests/common/library.sh"
@@ -20,14 +21,14 @@ save_object=80010000000e0000016280000000
 flush_object=80010000000e0000016580000000
 command_count=8001000000160000017a000000060000012900000001
 
-# loading SAVE: executes the command SAVE, which saves a context, and prints the command that loads it.
+# loading SAVE: executes SAVE, a command that saves a context, and prints the command that loads that context.
 loading() {
     "$room/ask" state=state "$1" >"$room/saved"
     context=$(cut -c 21- "$room/saved")
     printf '8001%08x00000161%s' "$((10 + ${#context} / 2))" "$context"
 }
 
-# ask LABEL WORDS ACT..: uses a device, and prints the result.
+# ask LABEL WORDS ACT..: runs attached/ask.c on a device, and prints the result.
 ask() {
     label=$1
     shift

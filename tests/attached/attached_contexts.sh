@@ -1,6 +1,6 @@
-# Tests contexts that tpm2-tools save and load through the module for libtss2. Twelve children of one parent
-# are loaded, saved and flushed in turn, as a resource manager does, and then used in turn. No ninth object
-# can be loaded while eight are loaded. After TPM2_Clear and after a TPM Reset the contexts are refused.
+# Tests contexts that tpm2-tools save and load through the module for libtss2. Twelve children of one parent are
+# loaded, saved and flushed in turn, as a resource manager does, and then used in turn. No ninth object can be
+# loaded while eight are loaded. The device refuses the contexts after TPM2_Clear, and after a TPM Reset.
 tests=$(cd "$(dirname "$0")/.." && pwd -P)
 . "$tests/common/cases.sh"
 . "$tests/common/library.sh"
@@ -12,13 +12,14 @@ export LD_LIBRARY_PATH="$room/made" TPM2TOOLS_TCTI="tpmsim:state=$room/state"
 children='1 2 3 4 5 6 7 8 9 10 11 12'
 back='12 11 10 9 8 7 6 5 4 3 2 1'
 
-# tool WORDS..: runs a tool. If it fails, prints its exit status and the TSS function that failed.
+# tool WORDS..: runs one of tpm2-tools. If the tool fails, prints its exit status and the TSS function that
+# failed.
 tool() {
     tpm2 "$@" >output 2>error && return
     echo "tpm2 $1: status $?, $(grep -o 'ContextLoad(0x[0-9A-F]*)\|StartAuthSession(0x[0-9A-F]*)' error | head -1)"
 }
 
-# flushed WORDS..: runs a tool, and then flushes all objects.
+# flushed WORDS..: runs one of tpm2-tools, and then flushes all objects.
 flushed() {
     tool "$@"
     tpm2_flushcontext -t

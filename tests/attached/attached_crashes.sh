@@ -1,4 +1,4 @@
-# Before each system call in turn, kills a process that holds a device with force=always. Then the host
+# Kills a process that uses a device with force=always, before each of its system calls in turn. Then the host
 # crashes, and its disk contains only what was synced. See attached/crashes.c.
 tests=$(cd "$(dirname "$0")/.." && pwd -P)
 . "$tests/common/cases.sh"

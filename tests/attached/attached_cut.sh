@@ -1,4 +1,4 @@
-# Checks which part of a journal is cut off, and what is reported about it. See attached/cut.c.
+# Checks which part of a damaged journal is cut off, and what is reported about it. See attached/cut.c.
 tests=$(cd "$(dirname "$0")/.." && pwd -P)
 . "$tests/common/cases.sh"
 . "$tests/common/library.sh"

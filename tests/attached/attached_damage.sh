@@ -1,4 +1,5 @@
-# Changes or cuts the bytes of journals; removes, duplicates and swaps their records. See attached/damage.c.
+# Tests damaged journals: bytes are changed or cut off; records are removed, duplicated and swapped. See
+# attached/damage.c.
 tests=$(cd "$(dirname "$0")/.." && pwd -P)
 . "$tests/common/cases.sh"
 . "$tests/common/library.sh"

@@ -1,4 +1,5 @@
-# Uses a kept device through the public header tpmsim_kept.h. See attached/exported.c.
+# Uses a device that is kept in a folder, through the public header tpmsim_kept.h. The calling program is
+# attached/exported.c.
 tests=$(cd "$(dirname "$0")/.." && pwd -P)
 . "$tests/common/cases.sh"
 . "$tests/common/library.sh"

@@ -1,5 +1,5 @@
-# Checks that `hosts/build.sh tcti` makes the same bytes each time, and which names the module exports. Also
-# checks the script's message if something is missing.
+# Checks that `hosts/build.sh tcti` produces the same bytes each time, and which names the module exports. It
+# must report whatever it needs and does not find.
 tests=$(cd "$(dirname "$0")/.." && pwd -P)
 . "$tests/common/cases.sh"
 . "$tests/common/library.sh"

@@ -1,6 +1,6 @@
-# Uses a kept device on a full disk. Its journal stays unchanged. When there is space again, the device
-# continues from there. See attached/ask.c. The disk is mounted only for this test, by root or by a user who
-# may be root in a namespace.
+# Uses a device that is kept in a folder on a full disk. Its journal stays unchanged. When there is space again,
+# the device continues from that state. The calling program is attached/ask.c. The disk is mounted only for this
+# test, by root or by a user who may be root in a namespace.
 if [ -z "${own_mounts:-}" ]; then
     for user in '' '--user --map-root-user'; do
         # shellcheck disable=SC2086 # word splitting is intended
@@ -21,7 +21,7 @@ attach ask ask
 
 startup=80010000000c000001440000
 get_random=80010000000c0000017b0000
-# TPM2_PCR_Event of PCR 16 with 1,024 bytes. Its record has more than 2,048 bytes.
+# TPM2_PCR_Event of PCR 16 with 1,024 bytes. Its record in the journal has more than 2,048 bytes.
 event=80020000041d0000013c00000010000000094000000900000000000400$(printf '%02048d' 0)
 
 # ask LABEL ACT..: uses the device on the disk.

@@ -1,4 +1,5 @@
-# Checks that journals that have grown are restarted, with and without keep=N. See attached/grown.c.
+# Checks that a device's journal is restarted after it has grown, with and without the option keep=N. See
+# attached/grown.c.
 tests=$(cd "$(dirname "$0")/.." && pwd -P)
 . "$tests/common/cases.sh"
 . "$tests/common/library.sh"

@@ -1,4 +1,4 @@
-# Kills processes that hold a kept device, 300 times at random moments. See attached/kills.c.
+# Kills processes that use a device in a folder, 300 times at random moments. See attached/kills.c.
 tests=$(cd "$(dirname "$0")/.." && pwd -P)
 . "$tests/common/cases.sh"
 . "$tests/common/library.sh"

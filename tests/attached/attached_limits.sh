@@ -1,4 +1,5 @@
-# Tests a kept device on a full disk, and in a process without free file descriptors. See attached/limits.c.
+# Tests a device that is kept in a folder: on a full disk, and in a process without free file descriptors. See
+# attached/limits.c.
 tests=$(cd "$(dirname "$0")/.." && pwd -P)
 . "$tests/common/cases.sh"
 . "$tests/common/library.sh"

@@ -1,4 +1,4 @@
-# Checks that only the user of a kept device may access its files, whatever the umask. See attached/ask.c.
+# Checks that only a device's user may access its files, whatever the umask. See attached/ask.c.
 tests=$(cd "$(dirname "$0")/.." && pwd -P)
 . "$tests/common/cases.sh"
 . "$tests/common/library.sh"

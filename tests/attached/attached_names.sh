@@ -1,4 +1,4 @@
-# Checks which file names are synced to the disk before a command is answered, if other processes were killed
+# Checks which file names a process syncs to the disk before it answers a command. Other processes were killed
 # before they synced these names. See attached/names.c.
 tests=$(cd "$(dirname "$0")/.." && pwd -P)
 . "$tests/common/cases.sh"

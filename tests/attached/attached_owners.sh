@@ -1,5 +1,5 @@
-# Puts files of another user at each path of a kept device. They are refused, and stay unchanged. Only root
-# can give files to another user. See attached/ask.c.
+# Puts files of another user at each path of a device that is kept in a folder. They are refused, and stay
+# unchanged. Only root can give files to another user. The calling program is attached/ask.c.
 tests=$(cd "$(dirname "$0")/.." && pwd -P)
 . "$tests/common/cases.sh"
 . "$tests/common/library.sh"
@@ -13,7 +13,7 @@ startup=80010000000c000001440000
 get_random=80010000000c0000017b0000
 other=65534
 
-# ask LABEL WORDS ACT..: uses a device, and prints the result.
+# ask LABEL WORDS ACT..: runs attached/ask.c on a device, and prints the result.
 ask() {
     label=$1
     shift
@@ -28,8 +28,8 @@ listed() {
     find . -type f -exec sha256sum {} + | LC_ALL=C sort
 }
 
-# refused PATH WORDS ACT..: makes another user the owner of a path, and uses the device. Prints whether
-# everything stays unchanged.
+# refused PATH WORDS ACT..: makes another user the owner of a path, and then tries to use the device. Prints
+# whether all files stay unchanged.
 refused() {
     path=$1
     shift

@@ -1,5 +1,5 @@
-# Puts links, pipes, folders and sockets at the paths of a kept device. They are refused, and stay unchanged.
-# See attached/ask.c.
+# Puts links, pipes, folders and sockets at the paths of a device that is kept in a folder. They are refused,
+# and stay unchanged. See attached/ask.c.
 tests=$(cd "$(dirname "$0")/.." && pwd -P)
 . "$tests/common/cases.sh"
 . "$tests/common/library.sh"
@@ -12,7 +12,7 @@ attach ask ask $sanitizers
 startup=80010000000c000001440000
 get_random=80010000000c0000017b0000
 
-# ask LABEL WORDS ACT..: uses a device for at most ten seconds, and prints the result.
+# ask LABEL WORDS ACT..: runs attached/ask.c on a device for at most ten seconds, and prints the result.
 ask() {
     label=$1
     shift
@@ -21,7 +21,7 @@ ask() {
     echo "$label: status $status, $(tail -n 1 "$room/asked")"
 }
 
-# Makes a kept device in the folder `state`, and starts it.
+# Makes a device in the folder `state`, and starts it.
 renew() {
     rm -rf state
     timeout 10 "$room/ask" state=state "$startup" >"$room/asked" || echo 'there is no state'
@@ -45,8 +45,8 @@ put() {
     esac
 }
 
-# refused KIND PATH WORDS ACT..: puts something of this kind at a path, and uses the device. Prints whether
-# everything stays unchanged.
+# refused KIND PATH WORDS ACT..: creates something of this kind at a path, and then tries to use the device.
+# Prints whether all files stay unchanged.
 refused() {
     kind=$1
     path=$2

@@ -1,5 +1,5 @@
-# Tests a kept device of a user who is not root. The umask denies the user access to the folder, or the parent
-# folder is unreadable. See attached/ask.c.
+# Tests a device in a folder as a user who is not root. Either the umask denies the user access to the folder,
+# or the parent folder is unreadable. See attached/ask.c.
 tests=$(cd "$(dirname "$0")/.." && pwd -P)
 . "$tests/common/cases.sh"
 . "$tests/common/library.sh"
@@ -8,7 +8,7 @@ tests=$(cd "$(dirname "$0")/.." && pwd -P)
 
 attach ask ask
 
-# plain WORDS..: runs a command as a user who is not root.
+# plain WORDS..: runs a command as an ordinary user, even if the test runs as root.
 plain() {
     if [ "$(id -u)" -eq 0 ]; then
         setpriv --reuid=65534 --regid=65534 --clear-groups "$@"

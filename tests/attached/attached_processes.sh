@@ -1,4 +1,4 @@
-# Has several processes hold one device at once. See attached/processes.c.
+# Uses one device in several processes at once. See attached/processes.c.
 tests=$(cd "$(dirname "$0")/.." && pwd -P)
 . "$tests/common/cases.sh"
 . "$tests/common/library.sh"

@@ -1,4 +1,4 @@
-# Checks the random bytes of a kept device. See attached/random.c.
+# Checks the random bytes of a device that is kept in a folder. See attached/random.c.
 tests=$(cd "$(dirname "$0")/.." && pwd -P)
 . "$tests/common/cases.sh"
 . "$tests/common/library.sh"

@@ -1,5 +1,5 @@
-# Tests tpm2-tools with the module's option `rm`. Many commands without tpm2_flushcontext leave nothing
-# loaded, and do not run out of slots.
+# Tests tpm2-tools with the module's option `rm`. Many commands without tpm2_flushcontext do not run out of
+# slots, and leave nothing loaded.
 tests=$(cd "$(dirname "$0")/.." && pwd -P)
 . "$tests/common/cases.sh"
 . "$tests/common/library.sh"
@@ -9,7 +9,7 @@ needs tss2/tss2_tcti.h tpm2_startup
 TPMSIM_ARCHIVE=$archive "$hosts/build.sh" tcti "$room/made" || exit 1
 export LD_LIBRARY_PATH="$room/made" TPM2TOOLS_TCTI="tpmsim:state=$room/state,rm"
 
-# tool WORDS..: runs a tool, and prints its exit status.
+# tool WORDS..: runs one of tpm2-tools, and prints its exit status.
 tool() {
     tpm2 "$@" >output 2>error
     echo "tpm2 $1: status $?"

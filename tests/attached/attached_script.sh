@@ -1,4 +1,4 @@
-# Checks that `tpmsim replay` prints the same responses for a kept device's journal as the device. See
+# Checks that `tpmsim replay` of a device's journal prints the responses that the device returned. See
 # attached/ask.c.
 tests=$(cd "$(dirname "$0")/.." && pwd -P)
 . "$tests/common/cases.sh"
@@ -14,7 +14,8 @@ words() {
     "$shipped" asm "$1"
 }
 
-# replay LABEL: plays the journal as a script, and compares the responses with the file `asked`.
+# replay LABEL: plays the journal as a script, and compares the responses with those of the device, in the file
+# `asked`.
 replay() {
     "$shipped" replay state/journal | grep '^80' >answers
     cmp asked answers && echo "$1: $(grep -c . answers) answers, and the journal has the same"

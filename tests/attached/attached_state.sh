@@ -1,4 +1,4 @@
-# The program `tpmsim` and the kept device in C use one folder at the same time. Each executes the commands
+# The program `tpmsim` and the host in C use one device's folder at the same time. Each executes the commands
 # that the other added to the journal. Both report the same errors. See attached/ask.c.
 tests=$(cd "$(dirname "$0")/.." && pwd -P)
 . "$tests/common/cases.sh"

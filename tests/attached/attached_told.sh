@@ -1,5 +1,5 @@
-# Checks the message of a kept device about a damaged journal, for each fault number that the library can
-# return. See attached/told.c.
+# Checks the host's message about a damaged journal, for each fault number that the library can return. See
+# attached/told.c.
 tests=$(cd "$(dirname "$0")/.." && pwd -P)
 . "$tests/common/cases.sh"
 . "$tests/common/library.sh"

@@ -1,4 +1,4 @@
-# Tests valid and invalid configuration strings for a kept device. See attached/ask.c.
+# Tests valid and invalid configuration strings for a device that is kept in a folder. See attached/ask.c.
 tests=$(cd "$(dirname "$0")/.." && pwd -P)
 . "$tests/common/cases.sh"
 . "$tests/common/library.sh"
@@ -13,7 +13,7 @@ get_random=80010000000c0000017b0010
 stir=80010000000e0000014600020102
 extend=80020000004100000182000000140000000940000009000000000000000001000b$(printf '%064d' 0)
 
-# ask LABEL WORDS ACT..: uses a device, and prints the result.
+# ask LABEL WORDS ACT..: runs attached/ask.c on a device, and prints the result.
 ask() {
     label=$1
     shift

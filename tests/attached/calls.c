@@ -1,16 +1,16 @@
-/* Makes each system call in turn fail with which a kept device accesses its files, the clock and
- * random bytes. Also makes each call transfer only half of its bytes, interrupts each call, and
+/* Makes each system call fail in turn with which a device in a folder accesses its files, the clock
+ * and random bytes. Also makes each call transfer only half of its bytes, interrupts each call, and
  * makes each allocation fail. The arguments are the file with the expected PCR values, and an
  * image. */
 #include "calls.h"
 #include <dirent.h>
 
-/* The number of times that the PCR was extended before each trial. */
+/* The number of times that the PCR is extended before each trial. */
 enum { EXTENDS = 2 };
 
 static const char FOLDER[] = "state";
 
-/* The result of a trial: whether everything succeeded, and otherwise the message. */
+/* The result of a trial: whether everything succeeded, and the message if not. */
 struct outcome {
     bool is_done;
     struct reason reason;
@@ -40,7 +40,7 @@ static void remove_state(void) {
     must(access(FOLDER, F_OK) != 0, "there is more in the folder than a state");
 }
 
-/* Writes the files with which a trial begins. */
+/* Writes the files that exist at the beginning of a trial. */
 static void put_state(void) {
     remove_state();
     must(mkdir(FOLDER, 0700) == 0, "there is no folder");
@@ -75,8 +75,8 @@ static bool nothing(struct kept *kept, struct reason *reason) {
     return true;
 }
 
-/* A kind of trial: whether a device exists already, and whether it is already open; the image of a
- * new device; and the action. */
+/* A kind of trial: whether a device exists and is open before it; the image of a new device; and
+ * the action to try. */
 struct trial {
     const char *label;
     bool has_state, is_open_before;
@@ -94,7 +94,7 @@ static const struct trial TRIALS[] = {
 };
 
 /* Opens the device after a trial, in a process without faults. Returns how often its PCR was
- * extended, or -2 if the device was power-cycled and needs TPM2_Startup. */
+ * extended, or -2 if the device needs TPM2_Startup after a power cycle. */
 static long extends_there(struct kept *kept, const struct values *values) {
     uint8_t response[RESPONSE_BYTES];
     size_t size = answered_by(kept, PCR_READ, sizeof PCR_READ, response);
@@ -112,7 +112,8 @@ static struct outcome outcome_of(const struct trial *trial, struct kept **kept) 
 }
 
 /* Returns whether the device has an expected state after a trial. If the sync of a power cycle or
- * an extend failed, the change may still be in the file: it is unknown what is on the disk. */
+ * an extend failed, the change may still be in the file, because it is unknown what is on the
+ * disk. */
 static bool is_right(const struct trial *trial, const struct outcome *outcome, long there) {
     if (!trial->has_state) return there == -2;
     if (!outcome->is_done && strcmp(name_of_it, "fdatasync") == 0 && there == EXTENDS + 1)
@@ -164,7 +165,8 @@ static bool try_one(const struct trial *trial, enum fault kind, const struct val
     return name_of_it != NULL;
 }
 
-/* Makes a trial with a fault at each call, and prints at which calls the fault did no harm. */
+/* Repeats a trial with a fault at each call in turn, and prints the calls whose fault did no
+ * harm. */
 static void try_all(const struct trial *trial, enum fault kind, const struct values *values) {
     static const char *const labels[] = {"", "fails", "is interrupted", "moves half", "refused"};
     struct outcome outcome;
@@ -181,14 +183,13 @@ static void try_all(const struct trial *trial, enum fault kind, const struct val
            told && borne ? "; borne:" : borne ? "borne:" : "", names);
 }
 
-/* Prints how often an operation on the device synced. */
+/* Prints how often the files were synced during an operation on the device. */
 static void tell_forced(const char *label) {
     printf("; %s %u and %u", label, forced, forced_data);
     forced = forced_data = 0;
 }
 
-/* For each value of the option `force`, counts how often fsync is called, and how often
- * fdatasync. */
+/* Counts the calls of fsync and of fdatasync for each value of the option `force`. */
 static void count_forced(void) {
     static const char *const labels[] = {"power", "never", "always"};
     static const uint8_t forces[] = {TPMSIM_FORCE_POWER, TPMSIM_FORCE_NEVER, TPMSIM_FORCE_ALWAYS};

@@ -1,5 +1,5 @@
-/* A layer between the parts of a kept device and the C library, linked with --wrap. The call with a
- * chosen number fails or transfers half of its bytes, or the process is killed before it. */
+/* A layer between the host in C and the C library, linked with --wrap. The call with a chosen
+ * number fails or transfers half of its bytes, or the process is killed before it. */
 #ifndef CALLS_H
 #define CALLS_H
 #include "common.h"
@@ -12,15 +12,15 @@
 #include <sys/stat.h>
 #include <time.h>
 
-/* The fault of the chosen call. It fails with EIO or with EINTR; it transfers half of its bytes; it
- * fails to allocate memory; or the process is killed before it. */
+/* The fault of the chosen call: the call fails with EIO; it fails with EINTR; it transfers half of
+ * its bytes; it fails to allocate memory; or the process is killed before it. */
 enum fault { NO_FAULT, FAILS, IS_INTERRUPTED, MOVES_HALF, HAS_NO_MEMORY, IS_KILLED };
 
 static enum fault fault;
 static unsigned counted, number;
 static const char *name_of_it;
 
-/* How often files and folders were synced to the disk, with fsync and with fdatasync. */
+/* The numbers of syncs of files and folders, by fsync and by fdatasync. */
 static unsigned forced, forced_data;
 
 /* A function that is called for each file or folder that is synced, or NULL. */
@@ -29,7 +29,7 @@ static void (*when_forced)(int file);
 /* The number of pages that are mapped at present. */
 static int mapped;
 
-/* Returns whether this call is of a counted kind, and is the one that must fail. */
+/* Counts a call if it is of a counted kind. Returns whether it is the one that must fail. */
 static bool is_the_one(const char *name, bool is_counted) {
     if (fault == NO_FAULT || !is_counted || ++counted != number) return false;
     name_of_it = name;
@@ -37,7 +37,7 @@ static bool is_the_one(const char *name, bool is_counted) {
     return true;
 }
 
-/* Returns whether a system call must fail; `again` says whether it can be interrupted. */
+/* Returns whether a system call must fail; `again` says whether EINTR can interrupt it. */
 static bool fails(const char *name, bool again) {
     bool is_counted = fault == FAILS || fault == IS_KILLED;
     if (!is_the_one(name, is_counted || (fault == IS_INTERRUPTED && again))) return false;
@@ -148,7 +148,7 @@ int __wrap_fdatasync(int file) {
     return 0;
 }
 
-/* Pretends that the user does not own the files. */
+/* Pretends to the device that another user owns its files. */
 uid_t __real_geteuid(void);
 uid_t __wrap_geteuid(void);
 uid_t __wrap_geteuid(void) { return __real_geteuid() + (fails("geteuid", false) ? 1 : 0); }

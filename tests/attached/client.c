@@ -1,6 +1,6 @@
 /* A client of the module for libtss2. It loads the module's file as libtss2 does, and calls its
- * function Tss2_Tcti_Info. The argument is the module's path. Each printed line shows the result of
- * a call. */
+ * function Tss2_Tcti_Info. The argument is the module's path. Each line of its output is the result
+ * of one call. */
 #include "common.h"
 #include <dlfcn.h>
 #include <tss2/tss2_tcti.h>
@@ -79,7 +79,7 @@ static void try_init(void) {
     ended(context);
 }
 
-/* Makes calls in the wrong order and with wrong arguments, before any command. */
+/* Makes calls in the wrong order and with wrong arguments, before the first command. */
 static void try_before(TSS2_TCTI_CONTEXT *context) {
     uint8_t response[RESPONSE_BYTES];
     size_t size = sizeof response;
@@ -88,7 +88,7 @@ static void try_before(TSS2_TCTI_CONTEXT *context) {
     told("transmit without a command", Tss2_Tcti_Transmit(context, 12, NULL));
 }
 
-/* Receives a response step by step. */
+/* Receives the size of a response first, and then the response. */
 static void try_receive(TSS2_TCTI_CONTEXT *context) {
     uint8_t response[RESPONSE_BYTES];
     size_t size = 0;
@@ -110,7 +110,7 @@ static void try_receive(TSS2_TCTI_CONTEXT *context) {
     told("receive once more", Tss2_Tcti_Receive(context, &size, response, -1));
 }
 
-/* Extends PCR 20 from each locality. Localities 2 to 4 may do that. */
+/* Extends PCR 20 from each locality. Only localities 2 to 4 may extend this PCR. */
 static void try_localities(TSS2_TCTI_CONTEXT *context) {
     uint8_t command[sizeof EXTEND], response[RESPONSE_BYTES];
     memcpy(command, EXTEND, sizeof EXTEND);
@@ -127,7 +127,7 @@ static void try_localities(TSS2_TCTI_CONTEXT *context) {
     printf("    an extend of PCR 20: %02x%02x\n", response[8], response[9]);
 }
 
-/* Sends buffers that are not commands. Even they get a response: COMMAND_SIZE. */
+/* Sends buffers that are not commands. The device responds to each of them with COMMAND_SIZE. */
 static void try_sizes(TSS2_TCTI_CONTEXT *context) {
     static const size_t sizes[] = {0, 1, 9, 4096, 4097, 60000};
     static uint8_t command[60000];
@@ -175,7 +175,8 @@ static void try_null(TSS2_TCTI_CONTEXT *context) {
     TSS2_TCTI_FINALIZE(context)(NULL);
 }
 
-/* Opens one device in two contexts. A response that was not received is lost with its context. */
+/* Opens one device in two contexts. If a response was not received, it is lost when its context is
+ * finalized. */
 static void try_two(void) {
     uint8_t response[RESPONSE_BYTES];
     TSS2_TCTI_CONTEXT *one = begun("state=state,force=never,random=5a");

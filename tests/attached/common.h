@@ -1,4 +1,4 @@
-/* Functions that the test programs of the kept device share. */
+/* Functions that the test programs of the host in C share. */
 #ifndef COMMON_H
 #define COMMON_H
 #define _GNU_SOURCE
@@ -34,7 +34,7 @@ static inline void must(bool holds, const char *what) {
     _Exit(1);
 }
 
-/* Opens a kept device in a folder. Its journal is never synced to the disk. */
+/* Opens a device that is kept in a folder, with force=never. */
 static inline struct kept *opened(const char *folder) {
     struct kept_options options = {.folder = folder, .force = TPMSIM_FORCE_NEVER};
     struct reason reason;
@@ -43,7 +43,7 @@ static inline struct kept *opened(const char *folder) {
     return kept;
 }
 
-/* Executes a command that must be answered, and returns the size of its response. */
+/* Executes a command, which must get a response, and returns the size of the response. */
 static inline size_t answered_by(struct kept *kept, const uint8_t *buffer, size_t size,
                                  uint8_t response[RESPONSE_BYTES]) {
     tpmsim_answered answered;
@@ -53,7 +53,7 @@ static inline size_t answered_by(struct kept *kept, const uint8_t *buffer, size_
     return answered.size;
 }
 
-/* Executes a command that the device has to accept. */
+/* Executes a command, which the device must accept. */
 static inline size_t accepted(struct kept *kept, const uint8_t *buffer, size_t size,
                               uint8_t response[RESPONSE_BYTES]) {
     size_t all = answered_by(kept, buffer, size, response);
@@ -71,7 +71,8 @@ static inline void extend(struct kept *kept) {
     accepted(kept, EXTEND, sizeof EXTEND, response);
 }
 
-/* The values of the PCR after 0, 1, 2 extends and so on, from a file that another program wrote. */
+/* The expected values of the PCR after 0, 1, 2 .. extends, from a file that another program
+ * wrote. */
 struct values {
     uint8_t *bytes;
     size_t count;
@@ -95,7 +96,8 @@ static inline struct values values_of(const char *path) {
     return values;
 }
 
-/* Returns how often the PCR was extended, found from its value; -1 for an unknown value. */
+/* Returns how often the PCR was extended, according to its value; -1 if the value is not an
+ * expected one. */
 static inline long extends_of(struct kept *kept, const struct values *values) {
     uint8_t response[RESPONSE_BYTES];
     size_t size = accepted(kept, PCR_READ, sizeof PCR_READ, response);

@@ -1,16 +1,16 @@
-/* Kills processes that hold a device, and crashes the host. With force=always no answered command
- * is lost. With force=power the device has one of its states since power came on. `crashes VALUES`
- * kills a process before each system call in turn. Then the host crashes, in half of the runs after
- * another process has continued. `crashes VALUES SECONDS SEED` kills processes at random, makes
- * calls fail and forks children as well, and prints the counts to standard error. VALUES is the
- * file with the expected PCR values. */
+/* Kills processes that use a device, and crashes the host. With force=always, no answered command
+ * is lost. With force=power, the device is in one of its states since power came on. `crashes
+ * VALUES` kills a process before each system call in turn. Then the host crashes; in half of the
+ * runs, another process continues before the crash. `crashes VALUES SECONDS SEED` kills processes
+ * at random, makes calls fail and forks children as well, and prints the counts to standard error.
+ * VALUES is the file with the expected PCR values. */
 #include "disk.h"
 #include <stdatomic.h>
 #include <sys/prctl.h>
 #include <sys/wait.h>
 
-/* The commands that were answered since the last power-on, as recorded by the processes that hold
- * the device. Also the commands that were sent and not answered. */
+/* The numbers of commands since the last power-on that were answered, and of those that were sent
+ * and not answered. The processes that use the device store them here. */
 static struct {
     atomic_long extends, asked;
     atomic_bool is_started, is_starting, is_cycling;
@@ -26,7 +26,8 @@ static struct {
 
 enum { AWAITS_STARTUP = -2 };
 
-/* The value of the option `force`, and whether the host has crashed since the last check. */
+/* The value of the device's option `force`, and whether the host has crashed since the last
+ * check. */
 static uint8_t force = TPMSIM_FORCE_ALWAYS;
 static bool has_crashed;
 
@@ -43,7 +44,8 @@ static void note_answer(void) {
     told->answers++;
 }
 
-/* Executes a command, and returns whether it was answered. Otherwise the caller gets a fault. */
+/* Executes a command, and returns whether it was answered. If not, the call has returned a
+ * fault. */
 static bool is_answered(struct kept *kept, const uint8_t *buffer, size_t size) {
     uint8_t response[RESPONSE_BYTES];
     tpmsim_answered answered;
@@ -81,7 +83,7 @@ static bool cycle_telling(struct kept *kept) {
     return true;
 }
 
-/* Returns how often the PCR was extended, or AWAITS_STARTUP. */
+/* Returns how often the PCR was extended, or AWAITS_STARTUP if the device needs TPM2_Startup. */
 static long extends_there(struct kept *kept, const struct values *values) {
     uint8_t response[RESPONSE_BYTES];
     size_t size = answered_by(kept, PCR_READ, sizeof PCR_READ, response);
@@ -130,8 +132,8 @@ static void crash_and_check(const struct values *values) {
     check(values, "crashed");
 }
 
-/* Runs a function in a process, and waits until that process and its children have ended. Returns
- * whether the process was killed. */
+/* Runs a function in a process with a fault, and waits until that process and its children have
+ * ended. Returns whether the process was killed. */
 static bool is_killed(void (*run)(void), enum fault kind, unsigned at) {
     int status, first = 0;
     pid_t child = fork();
@@ -160,7 +162,7 @@ static void run_once(void) {
     kept_close(kept);
 }
 
-/* Checks the device, and executes more commands. */
+/* Checks the device after a kill, and executes more commands. */
 static void go_on(const struct values *values) {
     check(values, "killed");
     struct kept *kept = opened_so();
@@ -169,8 +171,8 @@ static void go_on(const struct values *values) {
     kept_close(kept);
 }
 
-/* Kills a process before each call, then crashes the host. In the second round, another process
-   continues before the crash. */
+/* Kills a process before each call in turn, and then crashes the host. In the second round, another
+   process continues before the crash. */
 static void kill_at_each(const struct values *values) {
     for (int goes_on = 0; goes_on < 2; goes_on++) {
         unsigned at = 1;
@@ -186,7 +188,7 @@ static void kill_at_each(const struct values *values) {
     }
 }
 
-/* Executes random commands until a command is not answered. A forked child does so too. */
+/* Executes random commands until a command is not answered. Forks a child that does so too. */
 static void run_at_random(void) {
     struct kept *kept = opened_so();
     if (!kept || (!told->is_started && !start_telling(kept))) return;

@@ -1,6 +1,6 @@
-/* The next record or a power cycle cuts off an incomplete record at the end of a journal. If the
- * caller requests it, the next call drops damage and restarts the journal. A message reports each
- * cut. The argument is the file with the expected PCR values. */
+/* Tests journals that end with an incomplete record: the next record or the next power cycle cuts
+ * it off. At the caller's request, the next call also drops damaged records, and restarts the
+ * journal. A message reports each cut. The argument is the file with the expected PCR values. */
 #include "old_journal.h"
 #include <inttypes.h>
 
@@ -63,7 +63,7 @@ static struct kept *cutting(void) {
     return kept;
 }
 
-/* Writes a journal with this many extends. */
+/* Writes an undamaged journal with this many extends. */
 static void write_whole(size_t extends) {
     struct kept *kept = opened(FOLDER);
     must(kept_power(kept, &(struct reason){0}), "the power cycle failed");
@@ -95,8 +95,8 @@ static void must_be_refused(bool cuts) {
     must_be_told("");
 }
 
-/* Opens the device after a byte at offset `place` was changed. It then has the effects of the
- * records before the changed one. Opening the device restarts its journal. */
+/* Opens the device after the byte at offset `place` was changed. The device has the effects of the
+ * records before the changed one. Opening it restarts its journal. */
 static void cut_at(size_t place, const struct values *values) {
     size_t record = record_at(place), size = whole.ends[record - 1];
     uint8_t response[RESPONSE_BYTES];
@@ -114,7 +114,7 @@ static void cut_at(size_t place, const struct values *values) {
     kept_close(kept);
 }
 
-/* Changes each byte after the head, and some bytes of the head, which is never cut. */
+/* Changes each byte after the journal's head, and some bytes of the head, which is never cut. */
 static void turn(const struct values *values) {
     size_t tried = 0;
     for (size_t place = 0; place < whole.size; place++, tried++) {
@@ -130,7 +130,8 @@ static void turn(const struct values *values) {
     puts("each byte of the head turned: refused");
 }
 
-/* Writes incomplete records. The next record or a power cycle cuts each of them off. */
+/* Writes incomplete records of each length. The next record or the next power cycle cuts them
+ * off. */
 static void cut_fronts(const struct values *values) {
     size_t last = whole.ends[whole.records - 2];
     for (size_t size = last + 1; size < whole.size; size++) {

@@ -1,12 +1,12 @@
-/* Opens journals whose bytes are changed or cut, in the working folder. The argument is the file
- * with the expected PCR values. */
+/* Opens journals in which bytes are changed or cut off, in the working folder. The argument is the
+ * file with the expected PCR values. */
 #include "common.h"
 
 enum { EXTENDS = 3 };
 
 static const char FOLDER[] = "state", JOURNAL[] = "state/journal";
 
-/* The bytes of a journal: either the original bytes or the present content of the file. */
+/* The bytes of a journal: the original ones, or the present content of the file. */
 struct text {
     uint8_t *bytes;
     size_t size;
@@ -43,7 +43,7 @@ static void refuse_opening(size_t counts[4]) {
     must(false, reason.text);
 }
 
-/* Changes each byte of the journal, first one bit and then all bits. */
+/* Changes each byte of the journal, first one of its bits and then all of them. */
 static void turn(const struct text *whole) {
     static const uint8_t masks[] = {0x01, 0xff};
     size_t counts[4] = {0}, tried = 0;
@@ -65,8 +65,8 @@ static void turn(const struct text *whole) {
 }
 
 /* Opens a journal that is cut within its last record. The device has the effects of the records
- * before that one. The file stays unchanged until the next command. After that command it has only
- * whole records. */
+ * before that one. The file stays unchanged until the next command. That command leaves only whole
+ * records. */
 static void open_cut(const struct text *cut, const struct values *values) {
     put_bytes(JOURNAL, cut->bytes, cut->size);
     struct kept *kept = opened(FOLDER);
@@ -79,7 +79,7 @@ static void open_cut(const struct text *cut, const struct values *values) {
     kept_close(kept);
 }
 
-/* Cuts the journal at each byte of its head and of its last record. */
+/* Cuts the journal off at each byte of its head and of its last record. */
 static void cut(const struct text *whole, size_t head, size_t before_last,
                 const struct values *values) {
     size_t counts[4] = {0};
@@ -141,8 +141,8 @@ static void rearrange(const struct text *whole, size_t first, size_t second, siz
 }
 
 /* Changes each byte of the last record while the device is open and has not yet executed that
- * record. The next command is refused, and the file stays unchanged. When the byte is restored, the
- * device continues. */
+ * record. The device refuses the next command, and leaves the file unchanged. When the byte is
+ * restored, the device continues. */
 static void turn_while_open(const struct text *whole, size_t before_last,
                             const struct values *values) {
     struct text turned = {malloc(whole->size), whole->size};

@@ -1,5 +1,5 @@
-/* The content of the disk: exactly those bytes of a kept device that were synced. A crash of the host
- * replaces the folder with this content. The processes of a test share it. */
+/* The content of the disk: the synced bytes of the device's files. A crash of the host replaces the
+ * folder with this content. The processes of a test share it. */
 #ifndef DISK_H
 #define DISK_H
 #include "calls.h"
@@ -21,7 +21,7 @@ struct disk {
 
 static struct disk *disk;
 
-/* Allocates zeroed memory that forked processes share. */
+/* Allocates zeroed memory, which forked processes share. */
 static inline void *shared(size_t size) {
     void *made =
         __real_mmap(NULL, size, PROT_READ | PROT_WRITE, MAP_SHARED | MAP_ANONYMOUS, -1, 0);
@@ -37,8 +37,8 @@ static inline void remove_state(void) {
     must(access(FOLDER, F_OK) != 0, "there is more in the folder than a state");
 }
 
-/* Returns the entry of a file on the disk. If there is none, returns a free entry or replaces one
-   that is not the journal's. */
+/* Returns the entry of a file on the disk. If there is none, returns a free entry, or reuses the
+   entry of a file that is not the journal. */
 static inline struct disk_file *disk_file_of(ino_t inode) {
     struct disk_file *free_one = NULL;
     for (int i = 0; i < FILES; i++) {
@@ -77,15 +77,16 @@ static void put_on_disk(int file) {
     fault = before;
 }
 
-/* At random, adds zeros to the file on the disk instead of bytes that were not written. */
+/* Adds zeros to the file on the disk at random, where the file itself has bytes that were not
+ * synced. */
 static inline void add_zeros_by_chance(struct disk_file *there) {
     size_t more = rand() % 2 ? (size_t)rand() % (FILE_MOST - there->size) : 0;
     memset(there->bytes + there->size, 0, more);
     there->size += more;
 }
 
-/* At random, adds some bytes of the file that were not synced, and perhaps zeros. A system may
- * write bytes to the disk before a sync. */
+/* Adds some unsynced bytes of the file to the disk at random, and perhaps zeros after them. A
+ * system may write bytes to the disk before a sync. */
 static inline void add_by_chance(struct disk_file *there) {
     size_t size;
     struct stat status;

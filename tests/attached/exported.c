@@ -1,4 +1,4 @@
-/* Uses the kept device as another program does, through tpmsim_kept.h. */
+/* Uses a device in a folder as any program can, through the public header tpmsim_kept.h. */
 #include "common.h"
 
 #include "../common/same_state.h"
@@ -25,7 +25,7 @@ static size_t drawn(tpmsim_kept_device *kept, const uint8_t *buffer, size_t size
     return answered.drawn;
 }
 
-/* Executes a command that the device refuses, and prints the report. */
+/* Executes a command that the device refuses, and prints what the host reports. */
 static void tell_refused(tpmsim_kept_device *kept) {
     uint8_t response[RESPONSE_BYTES];
     tpmsim_answered answered;
@@ -59,7 +59,8 @@ static void use(tpmsim_kept_device *kept) {
     done(tpmsim_kept_power(kept, reason));
 }
 
-/* Truncates the last record. The next command reports that once. */
+/* Truncates the last record. The next command reports the cut, and the command after it does
+ * not. */
 static void tear(tpmsim_kept_device *kept) {
     char notice[TPMSIM_KEPT_REASON_SIZE];
     size_t size;

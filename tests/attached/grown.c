@@ -1,6 +1,6 @@
-/* Checks that a journal that has grown is restarted, whichever process holds the device. Finished
- * journals are kept if the option `keep` is set. A long journal of an earlier version can be
- * opened. The argument is the file with the expected PCR values. */
+/* Checks that a journal is restarted after it has grown, whichever process uses the device. If the
+ * option `keep` is set, finished journals are kept. A long journal of an earlier version of the
+ * library can be opened. The argument is the file with the expected PCR values. */
 #include "old_journal.h"
 #include <sys/stat.h>
 #include <sys/wait.h>
@@ -26,7 +26,7 @@ static size_t size_of(const char *path) {
     return (size_t)status.st_size;
 }
 
-/* Has several processes hold the device and extend the PCR at the same time. */
+/* Has several processes use the device and extend the PCR at the same time. */
 static void extend_at_once(unsigned keep) {
     for (int i = 0; i < PROCESSES; i++) {
         pid_t child = fork();
@@ -60,7 +60,7 @@ static long extends_in(const char *path, const struct values *values) {
     return count;
 }
 
-/* Checks that the finished journals are all there, in the right order. */
+/* Checks that all finished journals exist, in the right order. */
 static void look_at_past(const struct values *values) {
     long before = PROCESSES * EXTENDS;
     char path[512];
@@ -80,8 +80,8 @@ static ino_t inode_of(const char *path) {
     return status.st_ino;
 }
 
-/* If a process is killed after it renamed the finished journals, only the number 1 is missing. The
- * next process fills the gap, and loses no journal. */
+/* Simulates a process that was killed after it renamed the finished journals, so that only number 1
+ * is missing. The next process fills the gap, and loses no journal. */
 static void move_on_after_a_kill(struct kept *kept) {
     must(rename("state/journal.2", "state/journal.3") == 0, "there is no journal.2");
     must(rename("state/journal.1", "state/journal.2") == 0, "there is no journal.1");

@@ -1,17 +1,17 @@
-/* Kills processes at random moments while they extend a PCR. No answered extend is lost. At most
- * the one that was being executed is added. The arguments are the file with the expected PCR
- * values, and the number of kills. */
+/* Kills processes at random moments while they extend a PCR. The device keeps all answered extends,
+ * and at most the one extend that was being executed. The arguments are the file with the expected
+ * PCR values, and the number of kills. */
 #include "common.h"
 #include <signal.h>
 #include <sys/wait.h>
 
 static const char FOLDER[] = "state";
 
-/* The maximum number of extends that a process makes, since its killer may have to wait for a
- * CPU. */
+/* The maximum number of extends of a process. It is limited because the killing process may have to
+ * wait for a CPU. */
 enum { MOST_EXTENDS = 2000 };
 
-/* Extends the PCR again and again, writes a byte for each response, and waits to be killed. */
+/* Extends the PCR until the process is killed. Writes a byte for each response. */
 static void extend_on(int told) {
     struct kept *kept = opened(FOLDER);
     for (int i = 0; i < MOST_EXTENDS; i++) {
@@ -21,7 +21,7 @@ static void extend_on(int told) {
     for (;;) pause();
 }
 
-/* Cycles the power forever, and writes a byte for each cycle. */
+/* Cycles the power until the process is killed. Writes a byte for each cycle. */
 static void cycle_on(int told) {
     struct kept *kept = opened(FOLDER);
     struct reason reason;
@@ -41,8 +41,8 @@ static long drain(int file) {
     return all;
 }
 
-/* Kills a process some microseconds after it began, or after its first report. Returns the
- * number of its reports. */
+/* Kills a process some microseconds after it began or, if it answers, after its first report.
+ * Returns the number of its reports. */
 static long killed_after(void (*run)(int told), unsigned microseconds, bool answers) {
     int ends[2], status;
     char first;
@@ -63,15 +63,15 @@ static long killed_after(void (*run)(int told), unsigned microseconds, bool answ
     return answered;
 }
 
-/* Resets the PCR, so that its values are among the expected ones again. */
+/* Resets the PCR, since the file has only the values of a limited number of extends. */
 static void begin_anew(struct kept *kept) {
     struct reason reason;
     must(kept_power(kept, &reason), "the power cycle failed");
     start(kept);
 }
 
-/* Kills processes that cycle the power. Each leaves a complete journal, whose device either needs
- * TPM2_Startup or was started and extended at most once. */
+/* Kills processes that cycle the power. Each of them leaves a complete journal. Its device either
+ * needs TPM2_Startup or was started and extended at most once. */
 static void kill_cycles(struct kept *kept, const struct values *values, int rounds) {
     uint8_t response[RESPONSE_BYTES];
     for (int i = 0; i < rounds; i++) {

@@ -1,5 +1,5 @@
-/* Tests a full disk, which is simulated by a limit on the size of files, and a process without free
- * file descriptors. The argument is the file with the expected PCR values. */
+/* Tests a full disk, simulated by a limit on the size of files, and a process that has no free file
+ * descriptor. The argument is the file with the expected PCR values. */
 #include "common.h"
 #include <signal.h>
 #include <sys/resource.h>
@@ -20,7 +20,7 @@ static size_t size_now(void) {
     return (size_t)status.st_size;
 }
 
-/* Executes an extend that must fail, and returns the message. */
+/* Executes an extend, which must fail, and returns the message. */
 static const char *failing_extend(struct kept *kept) {
     static struct reason reason;
     uint8_t response[RESPONSE_BYTES];
@@ -31,7 +31,7 @@ static const char *failing_extend(struct kept *kept) {
 }
 
 /* Makes the disk full at each byte of a record in turn. The file stays unchanged. The device
- * continues from there, also after it is opened again. */
+ * continues when there is space again, even if it is opened again. */
 static void fill(struct kept *kept, const struct values *values) {
     size_t before = size_now(), record;
     extend(kept);

@@ -9,10 +9,10 @@
 
 static const char FOLDER[] = "state";
 
-/* The call after which this process is killed. */
+/* The call after which this process is killed, if any. */
 static enum { NOWHERE, BEHIND_MKDIR, BEHIND_RENAME } killed_at;
 
-/* How often the folder, its parent folder, other files, and whole file systems were synced. Also
+/* The numbers of syncs of the folder, its parent folder, other files and whole file systems. Also
    whether the parent folder can be synced. */
 static unsigned folders, above, others, systems;
 static bool above_is_forced = true;
@@ -82,8 +82,8 @@ static struct kept *opened_with(uint8_t force) {
     return kept;
 }
 
-/* Has another process open the device. The process is killed at the given call, either while it
- * opens the device or while it cycles the power. */
+/* Has another process open the device. That process is killed after the given call, while it opens
+ * the device or cycles the power. */
 static void kill_another(uint8_t force, int where) {
     int status;
     pid_t child = fork();
@@ -107,7 +107,7 @@ static void tell(const char *label) {
     folders = above = others = systems = 0;
 }
 
-/* Executes a command, whose response comes after the syncs, and then another command, which syncs
+/* Executes a command, which syncs before it responds, and then another command, which syncs
  * nothing. */
 static void answer(struct kept *kept, const char *label) {
     uint8_t response[RESPONSE_BYTES];

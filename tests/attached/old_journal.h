@@ -1,4 +1,4 @@
-/* Makes a journal in memory, with the library. Like the journals of earlier versions it begins with
+/* Makes a journal in memory, with the library. Like a journal of an earlier version, it begins with
  * an image, and is never restarted, however long it is. */
 #ifndef OLD_JOURNAL_H
 #define OLD_JOURNAL_H
@@ -24,8 +24,7 @@ static inline size_t add_to_old(struct old_journal *journal, tpmsim *device, con
     return journal->size;
 }
 
-/* Returns the journal of a new device that was started, and whose PCR was extended this many
- * times. */
+/* Returns the journal of a new device that was started. Its PCR was extended this many times. */
 static inline struct old_journal old_journal_of(size_t extends) {
     enum { HEAD_MOST = 64 * 1024, RECORD_MOST = 1024 };
     static const uint8_t random[256] = {2};

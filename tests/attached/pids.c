@@ -1,6 +1,6 @@
-/* A process with the process ID 1 uses one device together with its forked child, which also has
- * the process ID 1, in another namespace. This is tested with a page that a fork wipes, and without
- * such pages. The argument is the file with the expected PCR values. */
+/* Uses one device in a process with the process ID 1 and in its forked child, which also has the
+ * process ID 1, in another namespace. Tests this with a page that a fork wipes, and without such
+ * pages. The argument is the file with the expected PCR values. */
 #include "common.h"
 #include <errno.h>
 #include <poll.h>
@@ -8,13 +8,13 @@
 #include <sys/mman.h>
 #include <sys/wait.h>
 
-/* WITHIN_MS: the parent pauses within a command for this time, so that its child can begin another
-   one. */
+/* WITHIN_MS: the parent pauses within a command for this time, in milliseconds, in which its child
+   begins a command. */
 enum { EXTENDS = 500, RANDOM_BYTES = 64, WITHIN_MS = 100 };
 
 static const char FOLDER[] = "state";
 
-/* TPM2_GetRandom of more bytes than the earlier TPM2_GetRandom. */
+/* TPM2_GetRandom of RANDOM_BYTES bytes, more than GET_RANDOM draws. */
 static const uint8_t GET_MORE[] = {0x80, 0x01, 0, 0, 0, 12, 0, 0, 0x01, 0x7b, 0, RANDOM_BYTES};
 
 /* Whether the kernel wipes a page at a fork, as far as the device knows. */
@@ -68,8 +68,8 @@ static void draw(struct kept *kept, uint8_t room[RANDOM_BYTES]) {
     memcpy(room, response + 12, RANDOM_BYTES);
 }
 
-/* Starts a device, and has it draw random bytes. The device then has a supply of random bytes for
-   the next commands. */
+/* Starts a device, and draws random bytes. The host then has a supply of random bytes for the next
+   commands. */
 static void start_and_draw(struct kept *kept) {
     uint8_t response[RESPONSE_BYTES];
     start(kept);
@@ -90,7 +90,7 @@ static void use(struct kept *memory, struct kept *kept) {
     _exit(0);
 }
 
-/* Draws, and prints whether the child has drawn the same bytes. */
+/* Draws random bytes, and prints whether the child has drawn the same ones. */
 static void compare_draws(struct kept *kept, const char *label) {
     uint8_t own[RANDOM_BYTES], others[RANDOM_BYTES];
     size_t half = RANDOM_BYTES / 2;
@@ -102,7 +102,7 @@ static void compare_draws(struct kept *kept, const char *label) {
 }
 
 /* The work of the first process with the process ID 1. It opens the devices, forks the second
-   process, and then does the same work as the second process. */
+   process, and then does the same as the second process. */
 static void open_and_fork(const struct values *values) {
     struct kept_options in_memory = {.folder = NULL};
     struct kept *memory = kept_open(&in_memory, &(struct reason){0}), *kept = opened(FOLDER);

@@ -1,4 +1,4 @@
-/* Has several processes hold one device at once. The argument is the file with the expected PCR
+/* Uses one device in several processes at once. The argument is the file with the expected PCR
  * values. */
 #include "common.h"
 #include <sys/wait.h>
@@ -48,7 +48,7 @@ static void extend_at_once(struct kept *kept, const struct values *values) {
     kept_close(other);
 }
 
-/* Has another process cycle the power, and then extends once in this process. */
+/* Cycles the power in another process, and then extends once in this process. */
 static void see_power_cycles(struct kept *kept, const struct values *values) {
     must_end_well(begun(power_and_start));
     printf("a power cycle and an extend by another process: %ld\n", extends_of(kept, values));
@@ -81,8 +81,8 @@ static void use_after_fork(struct kept *kept, const struct values *values) {
     close(ends[1]);
 }
 
-/* Removes the lock while a process holds the device. Then another process opens the device, and
- * both continue at the same time. */
+/* Removes the lock file while a process has the device open. Then another process opens the device,
+ * and both continue at the same time. */
 static void lose_the_lock(struct kept *kept, const struct values *values) {
     must(unlink("state/lock") == 0, "there was no lock");
     pid_t child = begun(extend_often);

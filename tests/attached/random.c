@@ -1,6 +1,5 @@
-/* Checks the random bytes of commands. No two commands draw the same bytes. The test replaces
- * getrandom to count the bytes that are read from the system: exactly as many as the commands
- * drew. */
+/* Checks that no two commands draw the same random bytes. The test replaces getrandom to count the
+ * bytes that are read from the system: exactly as many as the commands drew. */
 #include "common.h"
 #include <sys/random.h>
 

@@ -86,7 +86,8 @@ static size_t saved(TSS2_TCTI_CONTEXT *context, uint32_t handle, uint8_t load[RE
     return size;
 }
 
-/* Sends TPM2_HMAC with a key and a policy session. The session ends with this command. */
+/* Sends TPM2_HMAC with a key and a policy session. The device flushes the session after this
+ * command. */
 static void use(TSS2_TCTI_CONTEXT *context, uint32_t key, uint32_t by) {
     uint8_t command[32] = {0x80, 2, 0, 0, 0, 32, 0, 0, 1, 0x55, [17] = 9, [28] = 1, [31] = 16};
     uint8_t response[RESPONSE_BYTES];
@@ -114,7 +115,7 @@ static void restart(void) {
     kept_close(kept);
 }
 
-/* Prints the loaded handles, and power-cycles the device for the next case. */
+/* Prints the loaded handles, and power-cycles the device for the next test. */
 static void show(const char *label) {
     TSS2_TCTI_CONTEXT *context = begun(NO_RM);
     printf("%s:", label);
@@ -136,7 +137,7 @@ static void leave(const char *label, const char *words) {
 }
 
 /* Frees handles, by a flush or by the end of a session. Another client then gets the same handles,
-   and `rm` does not flush them. */
+   which `rm` must not flush. */
 static void leave_to_others(void) {
     TSS2_TCTI_CONTEXT *context = begun(RM), *other = begun(NO_RM);
     flush(context, object(context));
@@ -172,7 +173,7 @@ static void save(void) {
     show("after contexts that were loaded and not used");
 }
 
-/* Forks a child, which flushes only the objects that it loaded itself. */
+/* Forks a child that finalizes the context. It flushes only the objects that it loaded itself. */
 static void forked(bool loads) {
     TSS2_TCTI_CONTEXT *context = begun(RM);
     object(context);
@@ -192,7 +193,7 @@ static void forked(bool loads) {
     show("and after its parent's end");
 }
 
-/* Kills a process, which therefore flushes nothing. */
+/* Kills a process, which cannot flush anything. */
 static void killed(void) {
     fflush(stdout);
     pid_t child = fork();
@@ -206,7 +207,7 @@ static void killed(void) {
     show("a process that was killed");
 }
 
-/* If handles no longer exist when the process ends, they are not flushed, and no fault is
+/* Finalizes a context whose handles no longer exist. They are not flushed, and no fault is
  * reported. */
 static void gone(void) {
     TSS2_TCTI_CONTEXT *context = begun(RM);

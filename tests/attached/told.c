@@ -1,6 +1,5 @@
-/* Checks the messages of the kept device about a damaged journal, for each return code of the
- * library's function that opens a journal. The file stays unchanged. The test wraps that
- * function. */
+/* Checks the messages about a damaged journal, for each return code of the library's function that
+ * opens a journal. The file stays unchanged. The test wraps that function. */
 #include "common.h"
 
 static const char FOLDER[] = "state", JOURNAL[] = "state/journal";
@@ -24,8 +23,8 @@ static void must_be(const uint8_t *wanted, size_t size) {
     free(bytes);
 }
 
-/* Opens the device, and has a device that is already open execute a command. Both must fail in
-   the same way. */
+/* Tries to open the device, and to execute a command on an open device. Both must fail in the same
+   way. */
 static void refuse_all(struct kept *kept, struct reason *reason) {
     struct kept_options options = {.folder = FOLDER, .force = TPMSIM_FORCE_NEVER};
     struct reason another;
@@ -37,7 +36,8 @@ static void refuse_all(struct kept *kept, struct reason *reason) {
     must(strcmp(reason->text, another.text) == 0, "another sentence is said");
 }
 
-/* Damages the last record of the journal, for which the library then returns `number`. */
+/* Damages the last record of the journal. The library then returns `number`, whose message is
+ * printed. */
 static void tell(struct kept *kept, size_t last, uint8_t number) {
     struct reason reason;
     size_t size;

@@ -1,7 +1,7 @@
 /* Tests journals with zeros after the complete records, which a crash of the host can leave. An
  * incomplete record may precede the zeros. The next record cuts the zeros off, and a message
- * reports that. If there is a nonzero byte among the zeros, they are damage. The argument is the
- * file with the expected PCR values. */
+ * reports that. If there is a nonzero byte among the zeros, the journal is damaged. The argument is
+ * the file with the expected PCR values. */
 #include "common.h"
 
 enum { EXTENDS = 2, PART = 256 * 1024 };
@@ -11,7 +11,7 @@ static const char FOLDER[] = "state", JOURNAL[] = "state/journal";
 static uint8_t *whole;
 static size_t whole_size, last;
 
-/* The file, with space for the longest tail. */
+/* The content of the file, with space for the longest tail. */
 static uint8_t *text;
 static const size_t SIZES[] = {1,        2,        100,      TPMSIM_RECORD_ROOM, PART - 1, PART,
                                PART + 1, 2 * PART, 3 * PART + 7};
@@ -36,8 +36,8 @@ static struct kept *opened_to(bool cuts, struct reason *reason) {
     return kept_open(&options, reason);
 }
 
-/* Extends the PCR of a device whose journal has this size, and checks the file. If `begins`, the
-   journal may be restarted. */
+/* Extends the PCR of a device whose journal has this size, and checks the file. The journal may be
+   restarted only if `begins` is true. */
 static void extend_and_look(struct kept *kept, size_t size, const char *behind, bool begins,
                             const struct values *values) {
     extend(kept);
@@ -80,7 +80,7 @@ static void try_zeros(size_t front, size_t zeros, const struct values *values) {
     kept_close(kept);
 }
 
-/* Does the same as try_zeros, with a nonzero byte among the zeros. */
+/* Like try_zeros, but with a nonzero byte among the zeros. */
 static void try_damage(size_t front, size_t zeros, size_t place, const struct values *values) {
     size_t size = last + front + zeros, there;
     struct reason reason;

@@ -1,5 +1,5 @@
-# Functions for the tests of the kept device. Each test gets the path of the archive as its argument, and
-# reads this file after cases.sh and library.sh.
+# Functions for the tests of a device that is kept in a folder. Each test gets the path of the archive as its
+# argument, and reads this file after cases.sh and library.sh.
 # shellcheck shell=sh disable=SC2154 # library.sh has `archive` and `sanitizers`
 hosts=$tests/../hosts
 callers=$tests/attached
@@ -12,8 +12,8 @@ in_c() {
     cc -std=c11 -O1 -Wall -Wextra -Werror -Wconversion -I"$dist" -I"$hosts/kept" "$@" || exit 1
 }
 
-# parts WORDS..: prints the folder with the compiled parts of the kept device, and compiles them first if
-# necessary. Passes the options -f and -g among the words to the compiler. If tools/scripts.sh sets
+# parts WORDS..: prints the folder with the compiled parts of the host in C, and compiles them first if
+# necessary. Passes those of the arguments that begin with -f or -g to the compiler. If tools/scripts.sh sets
 # TPMSIM_BUILT to a folder, the parts are compiled once for all its tests.
 parts() {
     how=$(printf '%s\n' "$@" | grep '^-[fg]')
@@ -31,7 +31,7 @@ parts() {
 }
 
 # attach CALLER SOURCE WORDS..: compiles a test program in C, or a source of hosts/tcti, and links it with the
-# parts of the kept device.
+# compiled parts of the host in C.
 attach() {
     caller=$room/$1
     source=$callers/$2.c
@@ -41,8 +41,8 @@ attach() {
     in_c -O0 -o "$caller" "$source" "$built"/*.o "$@" "$archive"
 }
 
-# attach_both SOURCE WORDS..: compiles a test program twice: as SOURCE, and with sanitizers as
-# sanitized_SOURCE.
+# attach_both SOURCE WORDS..: compiles a test program twice. SOURCE is compiled without sanitizers, and
+# sanitized_SOURCE with them.
 attach_both() {
     attach "$1" "$@"
     # shellcheck disable=SC2086 # word splitting is intended
@@ -50,7 +50,7 @@ attach_both() {
 }
 
 # both NAME WORDS..: runs both programs of attach_both, each in its own folder. Prints the output of the first
-# program, and whether the second one printed the same.
+# program, and whether the output of the second one is the same.
 both() {
     name=$1
     shift
@@ -67,8 +67,7 @@ both() {
     fi
 }
 
-# extended COUNT: prints the values of a SHA-256 PCR after 0, 1, .. COUNT extends with the digest of 32 bytes
-# 5a.
+# extended COUNT: prints the values of a SHA-256 PCR after 0, 1, .. COUNT extends. The digest is 32 bytes 5a.
 extended() {
     python3 -c '
 import hashlib, sys

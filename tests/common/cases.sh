@@ -4,15 +4,15 @@ LC_ALL=C
 # shellcheck disable=SC2154 # a test names its folder before it reads this file
 PYTHONPATH=${tests%/*}/python:${tests%/*}
 export LC_ALL PYTHONPATH
-# tools/scripts.sh sets PYTHONPYCACHEPREFIX to one folder for the Python bytecode of all tests. Bytecode is
-# then written there, even if the environment forbids it. Without the variable, no bytecode is written.
+# tools/scripts.sh sets PYTHONPYCACHEPREFIX to one folder for the Python bytecode of all tests. Python then
+# writes bytecode there, even if the environment forbids it. Without that variable, no bytecode is written.
 if [ -n "${PYTHONPYCACHEPREFIX:-}" ]; then
     unset PYTHONDONTWRITEBYTECODE
 else
     export PYTHONDONTWRITEBYTECODE=1
 fi
 
-# Runs Python without its site packages. It starts faster, and the tests do not need these packages.
+# Runs Python without its site packages. Python then starts faster, and the tests do not need these packages.
 python3() {
     command python3 -S "$@"
 }
@@ -29,14 +29,14 @@ keep_journals() {
     done
 }
 
-# The help text shows the name by which the program was called. In the tests that name is always tpmsim,
-# whatever the file is called.
+# The program's help text shows the name of the called file. Therefore the tests call a link with the name
+# tpmsim.
 program=$room/tpmsim
 ln -s "$(cd "$(dirname "$1")" && pwd -P)/$(basename "$1")" "$program" || exit 1
 mkdir "$room/folder" && cd "$room/folder" || exit 1
 
-# skip REASON: ends a test that cannot run here, before it has printed anything. tools/scripts.sh
-# counts it as skipped.
+# skip REASON: ends a test that cannot run on this machine, before it prints anything. tools/scripts.sh counts
+# the test as skipped.
 skip() {
     echo "$1"
     exit 77
@@ -45,7 +45,7 @@ skip() {
 . "$tests/common/needs.sh"
 
 # make_scripts: generates the scripts that are not stored, in the folder TPMSIM_MADE, unless tools/scripts.sh
-# has done so.
+# has generated them already.
 make_scripts() {
     [ -z "${TPMSIM_MADE:-}" ] || return 0
     TPMSIM_MADE=$room/made
@@ -60,14 +60,14 @@ script() {
     echo "$1"
 }
 
-# `startup` is TPM2_Startup(CLEAR). Its response is SUCCESS (80010000000a00000000) the first time, and
-# INITIALIZE (80010000000a00000100) the second time. The response to `cmd` without bytes is COMMAND_SIZE
+# `startup` is TPM2_Startup(CLEAR). Its response is SUCCESS (80010000000a00000000) at the first call, and
+# INITIALIZE (80010000000a00000100) at the second one. The response to `cmd` without bytes is COMMAND_SIZE
 # (80010000000a00000142).
 # shellcheck disable=SC2034 # the tests use it
 startup='cmd 80010000000c000001440000'
 
-# told FILE: prints the lines of a file, and how often each is repeated in a row. The shell itself reads a
-# file with few lines, so that no other program is started.
+# told FILE: prints the lines of a file. A line that is repeated in a row is printed once, with the number of
+# times. The shell itself reads a file with few lines, which is faster than starting a program.
 told() {
     [ -s "$1" ] || { printf 'empty'; return; }
     text='' before='' times=0 lines=0
@@ -97,7 +97,7 @@ add_line() {
     times=1
 }
 
-# end_line: adds the previous line to `text`, with the number of its repetitions.
+# end_line: adds the previous line to `text`, with the number of times that it occurred in a row.
 end_line() {
     case $times in
     0) ;;
@@ -106,7 +106,7 @@ end_line() {
     esac
 }
 
-# told_at_length FILE: does the same as `told`, for a file of many lines.
+# told_at_length FILE: like `told`, but for a file with many lines.
 told_at_length() {
     awk '
         function tell() {
@@ -122,7 +122,7 @@ told_at_length() {
     [ -z "$(tail -c 1 "$1")" ] || printf ' without a line break'
 }
 
-# report LABEL STATUS: prints a case's line, with the status and the program's stored output.
+# report LABEL STATUS: prints a line with the status and the stored output of the program.
 report() {
     printf '%s: status %s' "$1" "$2"
     for stream in output error; do
@@ -131,7 +131,7 @@ report() {
     echo
 }
 
-# run LABEL WORDS..: runs the program with these words, for a minute at most.
+# run LABEL WORDS..: runs the program with these arguments, for a minute at most, and reports the result.
 run() {
     label=$1
     shift

@@ -1,7 +1,7 @@
 /* Replaces the C library's clock_gettime and getrandom. The environment variable HOST names a file.
- * The file contains the time of every clock, as 64-bit numbers of seconds and nanoseconds, and 256
- * random bytes. Each time a clock is read, the random bytes are written again to the address to
- * which getrandom wrote them first. Therefore each command of libtpms.so.0 draws exactly these
+ * The file contains the time of all clocks, as 64-bit numbers of seconds and nanoseconds, followed
+ * by 256 random bytes. Each time a clock is read, the random bytes are written again to the address
+ * to which getrandom wrote them first. Therefore each command of libtpms.so.0 draws exactly these
  * bytes. */
 #include <fcntl.h>
 #include <stdint.h>

@@ -1,6 +1,6 @@
-# Builds the hosts of a kept device, and the shims that log their calls and make calls fail. A test gets the
-# archive's path as its argument, and reads this file after cases.sh and library.sh. tests/keeping/hosts.py
-# describes where the hosts are expected.
+# Builds the programs and modules that keep a device in a folder, and the shims that log their calls and make
+# calls fail. A test gets the archive's path as its argument, and reads this file after cases.sh and library.sh.
+# tests/keeping/hosts.py describes where the hosts are expected.
 # shellcheck shell=sh disable=SC2154 # library.sh has `archive` and `dist`
 needs cc nm strip python3 tss2/tss2_tcti.h
 top=$tests/..
@@ -28,7 +28,7 @@ if [ ! -d "$built" ]; then
     mv -T "$room/new" "$built" 2>"$room/moved" || rm -r "$room/new"
 fi
 
-# against SHIM NAME WORDS..: runs the program NAME of tests/keeping with a shim.
+# against SHIM NAME WORDS..: runs the Python program NAME of tests/keeping with a shim.
 against() {
     shim=$built/$1.so
     played=$tests/keeping/$2.py
@@ -36,7 +36,7 @@ against() {
     LD_PRELOAD=$shim python3 "$played" "$dist/tpmsim" "$built" "$shim" "$@"
 }
 
-# swtpm_states SHARE: runs swtpm_states.py, which makes only every SHAREth of its runs.
+# swtpm_states SHARE: executes one of every SHARE runs of swtpm_states.py.
 swtpm_states() {
     needs swtpm libtpms/tpm_library.h
     "$top/hosts/build.sh" libtpms "$room/swtpm" || return 1

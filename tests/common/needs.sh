@@ -41,8 +41,8 @@ has_header() {
     fi
 }
 
-# is_there NAME: succeeds if a tool or a header is installed. For a C compiler the headers of the C library
-# must be installed as well, and for python3 its standard library.
+# is_there NAME: succeeds if a tool or a header is installed. A C compiler also needs the headers of the C
+# library, and python3 needs its standard library.
 is_there() {
     case $1 in
     *.h) has_header "$1" ;;
@@ -52,7 +52,7 @@ is_there() {
     esac
 }
 
-# lack_of TOOL: prints which part of an installed tool is missing, if `is_there TOOL` fails.
+# lack_of TOOL: if `is_there TOOL` fails for an installed tool, prints which part of the tool is missing.
 lack_of() {
     case $1 in
     cc) echo 'the headers of the C library' ;;
@@ -60,9 +60,9 @@ lack_of() {
     esac
 }
 
-# needs NAME..: skips the test if a tool or a header is missing. The reason ends with the packages that
-# contain it, which tools/scripts.sh collects. It begins with `there is no`, which .ci/run allows, unless each
-# tool is installed and only a tool's library is missing.
+# needs NAME..: skips the test if a tool or a header is missing. The printed reason ends with the packages that
+# contain the missing tools, which tools/scripts.sh collects. It begins with `there is no`, which .ci/run
+# accepts, unless all tools are installed and only a library of a tool is missing.
 needs() {
     absent='' poor='' packages=''
     for name do

@@ -1,5 +1,5 @@
 /* Opens each journal that the arguments name, which executes the journal's commands again. For each
- * journal, prints the result code (see tpmsim.h) and whether the whole journal was executed. */
+ * journal, prints the return code (see tpmsim.h) and whether the whole journal was executed. */
 #include "tpmsim.h"
 
 #include <stdio.h>

@@ -1,4 +1,5 @@
-/* Compares state texts. The completing layer of a restored device has a new start number. */
+/* Compares state texts. The state text of a restored device differs in the start number of the
+ * completing layer. */
 #ifndef SAME_STATE_H
 #define SAME_STATE_H
 #include <stddef.h>
@@ -14,8 +15,8 @@ static inline size_t start_at(size_t size) {
     return size - STATE_DIGEST_SIZE - NUMBERS_SIZE - START_SIZE;
 }
 
-/* Whether two state texts of this size are the same, except for the layer's start number and the
- * digest. */
+/* Returns whether two state texts of this size are the same, except for the layer's start number
+ * and the digest. */
 static inline int is_same_device(const uint8_t *one, const uint8_t *other, size_t size) {
     size_t at = start_at(size), after = at + START_SIZE;
     return memcmp(one, other, at) == 0 && memcmp(one + after, other + after, NUMBERS_SIZE) == 0;

@@ -1,5 +1,5 @@
-# Functions for the tests of a served device. The tests read this file after cases.sh, which sets `program`
-# and `room`. A client in Python sends the commands, and prints each response on a line.
+# Functions for the tests of a served device. The tests read this file after cases.sh, which sets `program` and
+# `room`. A client in Python sends the commands, and prints each response on a separate line.
 needs python3
 client=$tests/common/client.py
 
@@ -8,15 +8,15 @@ bytes_of() {
     head -c "$1" /dev/zero | tr '\0' "\\$2"
 }
 
-# The random bytes for manufacturing the device are zeros. The first command gets random bytes with the value
-# 1, the second command with the value 2, and so on.
+# The 256 random bytes with which the device is manufactured are zeros. The first command gets random bytes with
+# the value 1, the second command with the value 2, and so on.
 bytes_of 256 000 >entropy
 for octal in 001 002 003 004 005 006 007 010 011 012 013 014 015; do
     bytes_of 256 "$octal" >>entropy
 done
 
 # begin CONNECTIONS: serves CONNECTIONS connections in the background, with the options in `options`. The
-# locality is 0 and the image is `image`, unless the test sets other values.
+# locality is 0 and the image is `image`, unless the test sets variables with other values.
 begin() {
     rm -f "$room/output" "$room/error"
     # shellcheck disable=SC2086 # word splitting is intended
@@ -30,7 +30,8 @@ there() {
     until [ -S socket ]; do sleep 0.01; done
 }
 
-# talk LABEL SIZE HEX..: connects, sends these bytes in pieces of SIZE bytes, and prints the responses.
+# talk LABEL SIZE HEX..: connects to the socket, sends the hex arguments' bytes SIZE bytes at a time, and prints
+# the responses.
 talk() {
     echo "$1:"
     shift

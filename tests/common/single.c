@@ -1,5 +1,5 @@
-/* Replaces the C library's function with which the program reads from a connection. Each read
- * returns one byte. */
+/* Replaces the C library's function with which the program reads from a connection. Each call reads
+ * one byte at most. */
 #define _GNU_SOURCE
 #include <dlfcn.h>
 #include <sys/socket.h>

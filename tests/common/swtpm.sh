@@ -1,6 +1,6 @@
-# Functions for the tests of hosts/libtpms, which read this file after cases.sh. Each test gets the path of
-# the library's archive as its argument. This file builds libtpms.so.0 from that archive, and a caller that
-# replaces swtpm. Then it builds both again with sanitizers.
+# Functions for the tests of hosts/libtpms, which read this file after cases.sh. Each test gets the path of the
+# library's archive as its argument. This file builds libtpms.so.0 from that archive, and a calling program that
+# takes the role of swtpm. Then it builds both again with sanitizers.
 # shellcheck shell=sh disable=SC2154 # cases.sh has `program`, `room` and `tests`
 needs cc nm strip python3 libtpms/tpm_library.h
 TPMSIM_ARCHIVE=$(readlink -f "$program")
@@ -9,7 +9,7 @@ unset CFLAGS
 assemble=${TPMSIM_ARCHIVE%/*}/tpmsim
 sanitizers='-g -fsanitize=address,undefined -fno-sanitize-recover=all'
 
-# build FOLDER: builds libtpms.so.0 and the caller in a folder, without and with sanitizers.
+# build FOLDER: builds libtpms.so.0 and the calling program in a folder, without and with sanitizers.
 build() {
     mkdir -p "$1" || exit 1
     "$tests/../hosts/build.sh" libtpms "$1/swtpm" >"$room/built" 2>&1 || { cat "$room/built" && exit 1; }
@@ -31,8 +31,8 @@ if [ ! -d "$built" ]; then
 fi
 cp -R "$built/." "$room" || exit 1
 
-# spell: copies standard input to standard output. Replaces each command in words, `do WORDS`, with its buffer
-# in hex.
+# spell: copies standard input to standard output, and replaces each command in words, `do WORDS`, with its
+# buffer in hex.
 spell() {
     awk -v assemble="$assemble" '
         $1 == "do" {

@@ -1,8 +1,8 @@
 /* Replaces the functions of the C library with which the program accesses files, sockets and the
- * clock. Call number AT fails with the error ERROR. If ERROR is 0 and the call transfers bytes, it
- * transfers only half of them. If WAIT_FOR is set, the call first waits until a file of that name
- * exists. Each call adds a line with the function and the file to the file CALLS. AT, ERROR,
- * WAIT_FOR and CALLS are environment variables. */
+ * clock. The call with the number AT fails with the error ERROR. If ERROR is 0 and the call
+ * transfers bytes, it transfers only half of them. If WAIT_FOR is set, the call first waits until a
+ * file of that name exists. Each call appends a line to the file CALLS: the name of the function
+ * and of the file that it accesses. AT, ERROR, WAIT_FOR and CALLS are environment variables. */
 #define _GNU_SOURCE
 #include <dlfcn.h>
 #include <errno.h>
@@ -29,7 +29,7 @@ static void note(const char *call, const char *file) {
     syscall(SYS_close, log);
 }
 
-/* Returns whether this call is the one that fails or is cut short. */
+/* Logs a call, and returns whether it is the one that fails or is cut short. */
 static int is_the_one(const char *call, const char *file) {
     note(call, file);
     if (++calls != atol(getenv("AT"))) return 0;
@@ -38,7 +38,7 @@ static int is_the_one(const char *call, const char *file) {
     return 1;
 }
 
-/* Returns whether this call must fail. If so, sets errno. */
+/* Returns whether this call must fail, and sets errno if so. */
 static int fails(const char *call, const char *file) {
     int error = atoi(getenv("ERROR"));
     if (!is_the_one(call, file) || error == 0) return 0;
@@ -81,7 +81,7 @@ ssize_t write(int file, const void *bytes, size_t size) {
     return left < 0 ? -1 : NEXT(ssize_t (*)(int, const void *, size_t), "write")(file, bytes, left);
 }
 
-/* The program also calls `write` by this name. */
+/* Some calls of the program to `write` use this name. */
 ssize_t __write(int file, const void *bytes, size_t size) {
     return write(file, bytes, size);
 }
@@ -113,8 +113,8 @@ int fsync(int file) {
     return NEXT(int (*)(int), "fsync")(file);
 }
 
-/* Only a device in a folder calls the next four functions, and no run of these tests has such a
- * device. */
+/* The program calls the next four functions only for a device that is kept in a folder. No test
+ * with this shim keeps one. */
 ssize_t pread(int file, void *bytes, size_t size, off_t place) {
     ssize_t left = left_of("pread", file, size);
     return left < 0

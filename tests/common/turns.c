@@ -1,2 +1,2 @@
-/* A shim for many runs of a program. It changes none of the program's calls. */
+/* A shim that makes many runs of a program faster. It changes none of the program's calls. */
 #include "turns.h"

@@ -1,7 +1,7 @@
-/* The common part of the shims for many runs of a program. The process stops before its `main`, and
- * reads turns from a socket, whose number is in the environment variable TURNS. For each turn it
- * forks. The child continues with `main`, and the process reports how the child ended. This halves
- * the time of a run. */
+/* The common part of the shims that run a program many times. The process stops before its `main`,
+ * and reads the parameters of each run, a turn, from a socket. The environment variable TURNS has
+ * the number of the socket. For each turn the process forks. The child continues with `main`, and
+ * the process reports how the child ended. This halves the time of a run. */
 #include <stdlib.h>
 #include <sys/mman.h>
 #include <sys/socket.h>
@@ -11,8 +11,8 @@
 /* The maximum duration of a run, in seconds. */
 enum { AT_MOST = 60 };
 
-/* A turn: two numbers, whose meaning depends on the shim; and the last word of the command line, if
- * the turn contains it. */
+/* The parameters of a run: two numbers, whose meaning depends on the shim, and the last argument of
+ * the command line, if it differs between runs. */
 static struct {
     long first, second;
     char word[1 << 16];

@@ -1,9 +1,9 @@
-# A function for the tests that type the lines of a page. The tests read this file after cases.sh, which sets
-# `room`.
+# A function for the tests that execute the shell lines of a document. The tests read this file after cases.sh,
+# which sets `room`.
 # shellcheck shell=sh disable=SC2154 # cases.sh has `room`
 
-# type_lines PAGE: executes the shell lines of a page that a reader is meant to type. Each line must print the
-# output that the page shows below it. A line begins with `$ `, and the following lines that begin with `> `
+# type_lines PAGE: executes the shell lines of a document that its reader is meant to type. Each line must print
+# the output that the page shows below it. A line begins with `$ `, and the following lines that begin with `> `
 # continue it. At the end the function prints the number of lines.
 type_lines() {
     # The file `N.typed` contains line number N, and `N.wanted` its expected output.

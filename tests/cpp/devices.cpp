@@ -1,4 +1,5 @@
-// Uses devices as a C++ program does. It prints a line for each fact, the same in each standard of C++.
+// Uses devices like any C++ program. Prints a line for each result, which must be the same in each
+// version of C++.
 #include "tpmsim.hpp"
 #include <cstdio>
 #include <thread>
@@ -25,7 +26,7 @@ static Buffer get_random(std::uint8_t count) {
     return {0x80, 1, 0, 0, 0, 12, 0, 0, 1, 0x7b, 0, count};
 }
 
-// Prints what a call throws.
+// Prints the exception that a call throws.
 template <class Call> static void tell_thrown(const char *what, Call call) {
     try {
         call();
@@ -97,7 +98,7 @@ static void moves() {
 }
 #endif
 
-// Does the same with errors that are returned instead of thrown.
+// Tests the calls that return errors instead of throwing them.
 static int told() {
     libtpmsim::Told told = 99;
     std::optional<Device> tpm = Device::make(told, counting());

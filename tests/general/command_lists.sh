@@ -1,7 +1,7 @@
 # Compares the lists of commands in README.md, docs and docs/table, and their counts, with the description of
 # the commands, python/tpmsim/standard/commands.py. described_commands.sh compares that description with the
-# program. For each list, prints the number of its entries. Then each document is changed in one place, and
-# the comparison must find the change.
+# program. Prints the number of entries of each list. Then changes one entry in each document, which the
+# comparison must detect.
 tests=$(cd "$(dirname "$0")/.." && pwd -P)
 . "$tests/common/cases.sh"
 needs python3

@@ -1,6 +1,6 @@
-# Tests the glue: nine functions in C that proved code calls. The kit contains a compiled version for x86-64,
-# and glue/ contains a version for other machines. Both versions must do the same for the same calls on this
-# machine, and the version in glue/ also on ARM64.
+# Tests the glue: nine functions in C that proved code calls. Rattle's kit contains a compiled version for
+# x86-64, and glue/ contains a version for other machines. For the same calls, both versions must print the same
+# on this machine, and so must the version in glue/ on ARM64.
 tests=$(cd "$(dirname "$0")/.." && pwd -P)
 . "$tests/common/cases.sh"
 needs cc
@@ -9,8 +9,8 @@ kit=${rattle%/bin/*}
 glue=${tests%/*}/glue
 flags='-std=c11 -O2 -Wall -Wextra -Werror -Wconversion'
 
-# play NAME RUNNER COMPILER SOURCES..: compiles the calls with one version of the glue, and stores their
-# output. Argument 0, the program's own name, is the same for each version.
+# play NAME RUNNER COMPILER SOURCES..: compiles glue_calls.c with one version of the glue, runs it, and stores
+# its output. The program's own name is the same for each version.
 play() {
     name=$1
     runner=$2

@@ -1,5 +1,5 @@
-/* Calls each function of the glue, and prints what it does. The output is the same with the kit's
-   functions and with those of glue/. */
+/* Calls each function of the glue, and prints the results. The functions of Rattle's kit and those
+   of glue/ must print the same. */
 #define _GNU_SOURCE
 #include "glue.h"
 #include <errno.h>
@@ -31,8 +31,8 @@ static void try_sizes(void) {
     }
 }
 
-/* Makes a block grow, shrink, and fail to grow. Its first bytes, which are written only at the
-   beginning, stay unchanged. */
+/* Makes a block of memory grow, shrink, and fail to grow. Its first bytes are written only at the
+   beginning, and must stay unchanged. */
 static void try_growing(void) {
     static const size_t sizes[] = {1 << 20, 7, 3, 5000, 0, 16};
     size_t kept = 5;
@@ -70,7 +70,7 @@ static void try_arguments(void) {
         }
 }
 
-/* Reads variables by name, and entries by number, into buffers of several sizes. */
+/* Reads environment variables by name, and by number, into buffers of several sizes. */
 static void try_environment(void) {
     static char *entries[] = {"NONE=", "FOUR=four", "EIGHTISH=eightish", NULL};
     static const char *names[] = {"NONE", "FOUR", "EIGHTISH", "FIVE"};

@@ -1,5 +1,5 @@
 # Tests scripts whose device is kept in a file: `run --image FILE [--entropy FILE]`. After each command,
-# common/kept_scripts.py compares the file with the device in Python.
+# common/kept_scripts.py compares the file with the image of the Python model.
 tests=$(cd "$(dirname "$0")/.." && pwd -P)
 . "$tests/common/cases.sh"
 needs python3
@@ -17,10 +17,10 @@ change='do HierarchyChangeAuth OWNER pw:- 6f776e'
 printf 'do Startup 0\n%s\n' "$change" >script
 printf 'do Startup 0\n%s\nbad\n' "$change" >bad
 bytes=$(awk 'BEGIN { for (n = 0; n < 256; n++) printf "\\%03o", n }')
-# shellcheck disable=SC2059 # the bytes are written as printf escapes
+# shellcheck disable=SC2059 # the bytes are printf escapes
 printf "$bytes" >entropy
 
-# Tests the positions of the options, and the forms of their values.
+# The options in several positions, and their values in several forms.
 run 'a new device' run --image image script
 look 'it is kept'
 rm image
@@ -33,7 +33,7 @@ run 'of the bytes 00 to ff' run --image image script
 cmp made image && echo 'which are those of a device without --entropy'
 rm image made
 
-# Only the owner may access the file, whatever the umask, and image.new does not remain.
+# Only the owner may access the file, whatever the umask, and image.new is removed.
 (umask 000 && run 'a new device' run --image image script)
 stat -c '%n %a' image*
 chmod 666 image
@@ -41,7 +41,7 @@ run 'an image that others may read' run --image image script
 stat -c '%n %a' image*
 rm image
 
-# The device is saved, no matter how the run ends.
+# The device is saved, however the run ends.
 run 'a bad line' run --image image bad
 look 'it is kept'
 rm image
@@ -67,8 +67,8 @@ report 'standard output that is full' "$status"
 look 'it is kept'
 rm image
 
-# Tests faults of the image, of the random bytes, and of the script, which take precedence in this order. If
-# no device was made, none is saved.
+# Faults of the image, of the random bytes, and of the script. If there are several, the first one in this order
+# is reported. If no device was made, none is saved.
 echo none >none
 head -c 255 entropy >short
 mkdir folder
@@ -84,7 +84,7 @@ run 'an image, and random bytes that are not there' run --image image script
 run 'they are wanted all the same' run --image image --entropy missing script
 run 'but none is read' run --image image --entropy short script
 
-# Tests wrong command lines.
+# Wrong command lines.
 run 'no image' run --image
 run 'two images' run --image image --image image script
 run 'two entropies' run --image image --entropy entropy --entropy entropy script

@@ -4,8 +4,8 @@ tests=$(cd "$(dirname "$0")/.." && pwd -P)
 . "$tests/common/cases.sh"
 . "$tests/common/served.sh"
 
-# before LINE..: runs these commands on a new image, and prints the responses. after LINE..: runs these
-# commands on the existing image.
+# before LINE..: executes these commands on the device of a new image, and prints the responses. after LINE..:
+# executes these commands on the device of the existing image.
 before() {
     rm -f image
     after "$@"

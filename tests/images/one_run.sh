@@ -1,5 +1,5 @@
 # Checks that only one run at a time can use an image. Another run ends with `tpmsim: file`, and changes
-# nothing. A run that cannot use its image or its random bytes reports that at once, without waiting for
+# nothing. If a run cannot use its image or its random bytes, it reports that at once, without waiting for
 # input.
 tests=$(cd "$(dirname "$0")/.." && pwd -P)
 . "$tests/common/cases.sh"
@@ -11,7 +11,7 @@ echo 'do Startup 0' >script
 printf 'do Startup 0\ndo %s\n' "$change" >asks
 mkfifo lines
 
-# script_begins: plays a script on the image. The run executes one line, and waits for more.
+# script_begins: plays a script on the image. The run executes the first line, and waits for more input.
 script_begins() {
     "$program" run --image image - <lines >"$room/first" 2>&1 &
     exec 3>lines
@@ -46,8 +46,8 @@ serve() {
     [ ! -e own ] || echo '    its socket is there'
 }
 
-# others LABEL: prints the results of other runs on the image while one run uses it. They must change neither
-# that run nor the file image.new.
+# others LABEL: while one run uses the image, prints the results of other runs on it. They must affect neither
+# the first run nor the file image.new.
 others() {
     echo left >image.new
     [ ! -e image ] || stat -c '%i %y' image >"$room/before"
@@ -143,7 +143,7 @@ for kind in pipe folder device link listener folder/ missing/ missing/image ''; 
     run "the image '$kind', a script" run --image "$kind" script
     serve "the image '$kind', a served device" "$kind"
 done
-# shellcheck disable=SC2012 # the file names are known
+# shellcheck disable=SC2012 # the files have simple names
 echo "all that is there: $(ls -A | tr '\n' ' ')"
 
 # Random bytes cannot be read from a folder. They can be read from a pipe as soon as somebody writes to it.

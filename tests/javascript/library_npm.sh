@@ -1,5 +1,5 @@
 # Checks what npm packs for the JavaScript package, without a network. The packed package contains the module.
-# Its tests pass after another project has installed it. The repository stays unchanged.
+# Another project installs the package, and its tests pass there. The repository stays unchanged.
 tests=$(cd "$(dirname "$0")/.." && pwd -P)
 . "$tests/common/cases.sh"
 . "$tests/common/javascript.sh"

@@ -1,6 +1,6 @@
 # Checks the types of the JavaScript package: the types in the comments of its sources, and index.d.ts. The
-# sources have the types that index.d.ts declares. In a program that uses the package, the marked lines are
-# refused.
+# sources must have the types that index.d.ts declares. The compiler must refuse the marked lines of a program
+# that uses the package.
 tests=$(cd "$(dirname "$0")/.." && pwd -P)
 . "$tests/common/cases.sh"
 . "$tests/common/javascript.sh"

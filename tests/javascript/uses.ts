@@ -1,4 +1,5 @@
-// A program that uses each declaration of the package. The marked lines must be refused.
+// A program that uses each declaration of the package. The type checker must refuse the marked
+// lines.
 
 import { BadArgument, BadImage, BadLine, BadState, Device, DeviceEnded, NoModule, Words } from "tpmsim";
 import type { Answer, Event, Making, Meaning, PlayedCommand, PlayedPower, Row } from "tpmsim";

@@ -1,7 +1,7 @@
 /* Replaces the functions of the C library with which a host changes its folder, and logs each
- * change. The environment variable DISK_LOG names the log. Each change adds a line with the path
- * and the inode number. LD_PRELOAD loads this library. A caller in the same process calls disk_logs
- * to switch the log on and off. */
+ * change. The environment variable DISK_LOG names the log. For each change, the log gets a line
+ * with the path and the inode number. LD_PRELOAD loads this library. A program with a host in the
+ * same process calls disk_logs to switch the log on and off. */
 #define _GNU_SOURCE
 #include <errno.h>
 #include <fcntl.h>
@@ -25,7 +25,7 @@ __attribute__((constructor)) static void begins(void) {
     if (told) disk_logs(told);
 }
 
-/* Adds a line to the log that ends with these bytes in hex. */
+/* Adds a line to the log, followed by these bytes in hex. */
 static void note(const char *line, const unsigned char *bytes, size_t size) {
     int error = errno, file;
     char *hex = malloc(2 * size + 2);
@@ -45,7 +45,7 @@ static void note(const char *line, const unsigned char *bytes, size_t size) {
 void disk_marks(const char *line);
 void disk_marks(const char *line) { note(line, NULL, 0); }
 
-/* Logs a change of an open file, unless the change failed. */
+/* Logs a change of an open file, if the change succeeded. */
 static void note_file(long done, const char *what, int file, long number,
                       const unsigned char *bytes, size_t size) {
     char link[64], path[PATH_BYTES], line[LINE_BYTES];

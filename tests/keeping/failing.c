@@ -1,10 +1,11 @@
-/* Replaces the functions of the C library with which a host of a kept device accesses its folder,
- * the clock, random bytes and memory. One call, chosen by its number, gets one of the faults below.
- * LD_PRELOAD loads this library. The environment variable FAILING is `NUMBER ACT ERROR REPORT`. A
- * caller in the same process calls failing_begins instead, and failing_goes_on before and after the
- * calls that count. The name of the call with the fault is written to the file REPORT. If
- * FAILING_CLOCK is set, the clock jumps by at most a day. If FAILING_IN is set, a call counts only
- * if it is on a path in this folder or on an open file there. */
+/* Replaces the functions of the C library with which a host (a program or module that keeps a
+ * device in a folder) accesses the folder, the clock, random bytes and memory. One call, chosen by
+ * its number, has one of the faults below. LD_PRELOAD loads this library. The environment variable
+ * FAILING is `NUMBER ACT ERROR REPORT`. A program with a host in the same process calls
+ * failing_begins instead, and failing_goes_on before and after the calls that count. The name of
+ * the call with the fault is written to the file REPORT. If FAILING_CLOCK is set, the clock jumps
+ * by at most a day. If FAILING_IN is set, a call counts only if it is on a path in this folder or
+ * on an open file there. */
 #define _GNU_SOURCE
 #include <errno.h>
 #include <fcntl.h>
@@ -21,7 +22,7 @@
 #include <unistd.h>
 
 /* FAILS_ON: this call fails, and so does each later call of the same function. STORMS: this call
- * and two more calls that can be interrupted fail with EINTR. */
+ * fails with EINTR, and so do two more calls that can be interrupted. */
 enum act {
     PASSES,
     FAILS,
@@ -42,7 +43,7 @@ static int error, is_on, jumps;
 static long number, counted;
 static char report[512], met[32], object[64];
 static const char *within;
-/* The address range of a loaded object. Allocations count only if this object requests them. */
+/* The address range of a loaded object. Only allocations by this object count. */
 static char *object_begins, *object_ends;
 
 static int is_object(struct dl_phdr_info *info, size_t size, void *unused) {
@@ -100,7 +101,7 @@ static void note(const char *name, const char *of) {
     syscall(SYS_close, file);
 }
 
-/* Returns whether a call of this kind may fail. */
+/* Returns whether a call of this kind may have the chosen fault. */
 static int may_meet(int kind, const void *caller) {
     int halves = act == DOES_HALF || act == DOES_HALF_AND_IS_KILLED;
     if (kind & IS_MEMORY)
@@ -127,7 +128,7 @@ static int is_within(const char *path) {
     return !within || (strncmp(path, within, size) == 0 && (path[size] == '/' || !path[size]));
 }
 
-/* Counts this call, and returns its fault. */
+/* Counts this call if it may have the fault, and returns its fault. */
 static enum act meets(const char *name, int kind, const char *of, const void *caller) {
     if (!is_on || act == PASSES || !may_meet(kind, caller) || !is_within(of)) return PASSES;
     long at = ++counted;
@@ -165,8 +166,8 @@ static size_t half(enum act how, size_t size) {
 
 #define CALL(type, name, kind, of, words, real) type name words MET(type, #name, kind, of, real)
 
-/* Defines a function twice: with its own name, and with its name for large files, which the header
-   declares with other types. */
+/* Defines a function twice: with its own name, and with its name for large files. The header
+   declares the latter with other types. */
 #define CALL_TWICE(type, name, kind, of, words, real)                                              \
     CALL(type, name, kind, of, words, real)                                                        \
     type large_##name words __asm__(#name "64");                                                   \
@@ -226,7 +227,7 @@ CALL(ssize_t, getrandom, MOVES | WAITS, "", (void *bytes, size_t size, unsigned 
 CALL(int, madvise, OTHER, "", (void *page, size_t size, int advice),
      syscall(SYS_madvise, page, size, advice))
 
-/* Calls on the standard streams do not count, since those belong to the caller. */
+/* Calls on the standard streams do not count, because they belong to the calling program. */
 ssize_t read(int file, void *bytes, size_t size) {
     enum act how = file < 3 ? PASSES : meets("read", MOVES | WAITS, path_of(file), NULL);
     if (is_refused(how)) return -1;

@@ -1,4 +1,4 @@
-# Hosts of each kind hold one device at the same time. They are killed and interrupted, they fork, and their
+# Runs hosts of each kind on one device at the same time. They are killed and interrupted, they fork, and their
 # clocks jump. all_at_once.py does this with a few processes and with 40.
 tests=$(cd "$(dirname "$0")/.." && pwd -P)
 . "$tests/common/cases.sh"

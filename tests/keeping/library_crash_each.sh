@@ -1,4 +1,5 @@
-# Crashes the host after each change that a host of a kept device makes to its folder. See crash_each.py.
+# Crashes the system after each change that a host, a program or module that keeps a device, makes to the
+# device's folder. See crash_each.py.
 tests=$(cd "$(dirname "$0")/.." && pwd -P)
 . "$tests/common/cases.sh"
 . "$tests/common/library.sh"

@@ -1,5 +1,5 @@
-# Makes each call of a power cycle with --cut fail in turn, on a device whose journal is damaged.
-# damage_each.py makes every fifth of the runs.
+# Repeats a power cycle with --cut on a device whose journal is damaged, and makes a different call fail each
+# time. damage_each.py executes every fifth of these runs.
 tests=$(cd "$(dirname "$0")/.." && pwd -P)
 . "$tests/common/cases.sh"
 . "$tests/common/library.sh"

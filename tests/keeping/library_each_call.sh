@@ -1,5 +1,6 @@
-# In each host of a kept device, makes one system call fail, fail after its effect, or do half of its work, or
-# kills the host at that call. each_call.py makes every tenth of the runs.
+# Runs each program or module that keeps a device in a folder, and makes one system call fail, fail after its
+# effect, or do half of its work, or kills the process at that call. each_call.py executes every tenth of these
+# runs.
 tests=$(cd "$(dirname "$0")/.." && pwd -P)
 . "$tests/common/cases.sh"
 . "$tests/common/library.sh"

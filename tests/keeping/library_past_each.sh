@@ -1,4 +1,5 @@
-# Makes each call of a power cycle that keeps finished journals fail in turn. See past_each.py.
+# Repeats a power cycle that keeps finished journals, and makes a different call fail each time. See
+# past_each.py.
 tests=$(cd "$(dirname "$0")/.." && pwd -P)
 . "$tests/common/cases.sh"
 . "$tests/common/library.sh"

@@ -1,5 +1,6 @@
-# In swtpm with this repository's libtpms.so.0, makes one call on its state files fail, fail after its effect,
-# or do half of its work, or kills swtpm at that call. swtpm_states.py makes every tenth of the runs.
+# Runs swtpm with this repository's libtpms.so.0, and makes one call on its state files fail, fail after its
+# effect, or do half of its work, or kills swtpm at that call. swtpm_states.py executes every tenth of these
+# runs.
 tests=$(cd "$(dirname "$0")/.." && pwd -P)
 . "$tests/common/cases.sh"
 . "$tests/common/library.sh"

@@ -1,4 +1,5 @@
-// A caller in C++: the holder is a member; a move passes it on, and the destructor frees it.
+// A caller in C++. The handle is a member of a class. A move passes it on, and the destructor frees
+// it.
 #include "tpmsim.h"
 #include <array>
 #include <cstdio>

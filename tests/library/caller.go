@@ -1,4 +1,5 @@
-// A caller in Go, by cgo: the holder is in Go's memory, and contains only a pointer to C's memory.
+// A caller in Go, through cgo. Go's memory contains the handle, which contains only a pointer to
+// C's memory.
 package main
 
 // #include "tpmsim.h"

@@ -1,4 +1,4 @@
-//! A caller in Rust: a device is freed when it goes out of scope, and may move between threads.
+//! A caller in Rust. A device is freed when it goes out of scope, and may move between threads.
 use std::ptr::null_mut;
 
 #[repr(C)]

@@ -1,4 +1,5 @@
-/* Functions that the library's test programs share: hex, commands, and failures with a reason. */
+/* Functions that the library's test programs share: decoding of hex, commands, and failures with a
+ * message. */
 #ifndef COMMON_H
 #define COMMON_H
 #include "tpmsim.h"
@@ -21,20 +22,20 @@ static inline void must(int holds, const char *what) {
     exit(1);
 }
 
-/* Allocates memory, or ends the program. */
+/* Allocates memory. If that fails, ends the program. */
 static inline void *taken(size_t size) {
     void *memory = malloc(size ? size : 1);
     must(memory != NULL, "there is no memory");
     return memory;
 }
 
-/* Whether a buffer still contains only the filler: it begins with that byte, and each byte equals the
-   next one. */
+/* Returns whether a buffer still contains only the filler: the first byte is FILLED, and each byte
+   equals the next one. */
 static inline int is_filled(const uint8_t *room, size_t size) {
     return size == 0 || (room[0] == FILLED && memcmp(room, room + 1, size - 1) == 0);
 }
 
-/* Writes the random bytes of a test, which count up from the byte `first`. */
+/* Writes random bytes for a test, which count up from the byte `first`. */
 static inline void count_up(uint8_t random[RANDOM_BYTES], uint8_t first) {
     for (int i = 0; i < RANDOM_BYTES; i++) random[i] = (uint8_t)(first + i);
 }

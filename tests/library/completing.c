@@ -1,6 +1,6 @@
-/* Executes commands for a journal with and without the completing layer. Opens the journal in
- * another handle, and continues with that handle. Prints each response. Then does the same without
- * a journal, and continues in another handle from a state text. */
+/* Executes commands and writes their journal, with and without the completing layer. Opens the
+ * journal in another handle, and continues with that handle. Prints each response. Then does the
+ * same without a journal, and continues in another handle from a state text. */
 #include "common.h"
 #include "tpmsim.h"
 
@@ -29,7 +29,7 @@ static uint8_t text[256 * 1024], response[RESPONSE_BYTES], context[MOST_CONTEXT]
 static size_t text_size, context_size;
 static uint64_t now = CLOCK;
 
-/* Cycles the power, and begins the journal again. */
+/* Cycles the power, and restarts the journal. */
 static void begin(void) {
     now += WAITED;
     text_size = tpmsim_journal_begin(&device, now, text, sizeof text);
@@ -187,8 +187,8 @@ static void save_session(void) {
     execute("its context once more", 1, SAVE_SESSION, sizeof SAVE_SESSION);
 }
 
-/* Fills the slots. The context of a flushed object can be loaded when a slot is free, even after
-   the journal was opened in another handle. */
+/* Loads objects into all slots. The context of a flushed object can be loaded when a slot is free,
+   even after the journal was opened in another handle. */
 static void fill_slots(void) {
     execute("the context of no object", 1, SAVE_OBJECT, sizeof SAVE_OBJECT);
     for (int place = 0; place < OBJECTS; place++)
@@ -208,7 +208,7 @@ static void fill_slots(void) {
     load("loaded, where no slot is free");
 }
 
-/* Changes the byte in the last record's mark that says whether the layer was on. */
+/* Changes the byte of the last record that says whether the layer was on. */
 static void turn_flag(void) {
     size_t at = text_size, size_taken;
     while (text[at - 1] != '#') at--;

@@ -1,6 +1,7 @@
 /* Makes many devices in one process, 1,000 at the same time. The devices are independent, and their
- * memory is freed. The first argument is the number of devices. With a second argument the program
- * prints how much memory the allocator has in use, which sanitizers do not report. */
+ * memory is freed. The first argument is the number of devices. If there is a second argument, the
+ * program also prints how much memory the allocator has in use. This is impossible with
+ * sanitizers. */
 #include "common.h"
 #include <malloc.h>
 
@@ -15,7 +16,7 @@ static const uint8_t READ[READ_BYTES] = {0x80, 0x01, 0, 0, 0, 20,   0, 0, 0x01, 
 
 static uint8_t response[RESPONSE_BYTES];
 
-/* Extends PCR 10 with a number. */
+/* Extends PCR 10 with a digest that contains a number. */
 static void extend(struct tpmsim *device, unsigned number) {
     uint8_t buffer[EXTEND_BYTES];
     memcpy(buffer, EXTEND, EXTEND_BYTES);
@@ -31,7 +32,7 @@ static void read_pcr(struct tpmsim *device, uint8_t value[DIGEST_BYTES]) {
     memcpy(value, response + VALUE_AT, DIGEST_BYTES);
 }
 
-/* Computes the expected value of PCR 10, with a device that runs alone. */
+/* Computes the expected value of PCR 10, with the only device at that time. */
 static void value_alone(unsigned number, uint8_t value[DIGEST_BYTES]) {
     struct tpmsim alone = {0};
     start_new(&alone, 1);

@@ -1,6 +1,6 @@
-// A caller in Go that logs what it executes, by the function of docs/LIBRARY.md:
+// A caller in Go that logs what it executes, with the function of docs/LIBRARY.md:
 //
-//	explained LOG
+// 	explained LOG
 //
 // It reads an index that nobody has written.
 package main

@@ -1,4 +1,4 @@
-//! A caller in Rust that logs what it executes, by the function of docs/LIBRARY.md:
+//! A caller in Rust that logs what it executes, with the function of docs/LIBRARY.md:
 //!
 //!     explained LOG
 //!

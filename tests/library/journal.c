@@ -1,5 +1,6 @@
-/* Begins a journal, executes two commands for it, opens and follows it, and begins it again with a
- * checkpoint. Prints each result, and whether each call observes the stack limit of tpmsim.h. */
+/* Begins a journal, executes two commands and appends their records, opens and follows the journal,
+ * and restarts it with a checkpoint. Prints each result, and whether each call stays within the
+ * stack limit of tpmsim.h. */
 #define _GNU_SOURCE
 #include "common.h"
 #include "tpmsim.h"
@@ -25,7 +26,7 @@ static void *begin(void *unused) {
     return unused;
 }
 
-/* Writes a checkpoint. The host's time differs greatly from the journal's time. */
+/* Writes a checkpoint at a host's time that differs greatly from the journal's time. */
 static void *checkpoint(void *unused) {
     text_size = tpmsim_journal_checkpoint(&device, now + 1000 * WAITED, text, sizeof text);
     told = TPMSIM_DONE;
@@ -49,7 +50,7 @@ static void *follow(void *unused) {
     return unused;
 }
 
-/* Runs a call in a thread of its own, and returns the number of bytes of stack that it uses. */
+/* Runs a call in a separate thread, and returns the number of bytes of stack that it uses. */
 static size_t stack_of(void *(*call)(void *)) {
     pthread_attr_t attributes;
     pthread_t thread;
@@ -68,7 +69,7 @@ static size_t stack_of(void *(*call)(void *)) {
     return STACK_BYTES - at;
 }
 
-/* Runs a call, and prints whether it uses more stack than its limit. */
+/* Runs a call, and prints whether it uses more than `most` bytes of stack. */
 static void run(const char *name, void *(*call)(void *), size_t most) {
     size_t took = stack_of(call), least = stack_of(nothing);
     printf("%s: told %u, %s\n", name, told, took - least <= most ? "within its stack" : "TOO MUCH STACK");
@@ -93,7 +94,8 @@ static void compare(const char *name) {
     printf("%s: %s\n", name, is_same ? "the same device" : "ANOTHER DEVICE");
 }
 
-/* Prints whether the journal's head has the expected clock, which follows its first words. */
+/* Prints whether the journal's head contains the expected clock. The clock follows the first words
+ * of the head. */
 static void show_clock(const char *name, uint64_t wanted) {
     char digits[17] = "";
     memcpy(digits, text + strlen("# tpmsim journal 2 "), sizeof digits - 1);
@@ -107,7 +109,8 @@ static void check_small(void) {
     compare("a checkpoint that does not fit");
 }
 
-/* Opens a device from a checkpoint. It has the same state, and continues in the same way. */
+/* Opens a device from a checkpoint. It must have the same state as before, and continue in the same
+ * way. */
 static void check_checkpoints(void) {
     memset(text, FILLED, sizeof text);
     remember();

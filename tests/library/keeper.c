@@ -1,6 +1,6 @@
-/* Tests hosts that keep a device in a folder, which is in memory or in the file system. Prints the
- * tasks that each call requests from its host. Checks that the device has always executed exactly
- * the answered commands, whichever host was killed. */
+/* Tests hosts that keep a device in a folder, either in memory or in the file system. Prints the
+ * tasks that the keeper requests from the host in each call. Checks that the device has always
+ * executed exactly the answered commands, whichever host was killed. */
 #define _GNU_SOURCE
 #include "keeper_files.h"
 #include "keeper_known.h"
@@ -13,13 +13,14 @@ static memory folder, other_folder;
 static files disk;
 static host alive;
 
-/* Adds zeros to the journal, as a crash may. */
+/* Adds zeros to the end of the journal, as a crash may. */
 static void litter(void) {
     memset(folder.journal.bytes + folder.journal.size, 0, 100);
     folder.journal.size += 100;
 }
 
-/* Kills a host before, in or after each task of EXTEND in turn, and opens the device again. */
+/* Kills a host before, in or after each task of the command EXTEND in turn, and opens the device
+ * again. */
 static void kill_at_each(uint8_t force, extent how_much, int has_litter) {
     int count = 0, kills = 0;
     uint8_t fault = KILLED;
@@ -46,8 +47,8 @@ static void kill_at_each(uint8_t force, extent how_much, int has_litter) {
     tpmsim_keeper_free(&alive.keeper);
 }
 
-/* Kills a host at each task while it makes a device. Then there is a complete device or none, and
- * the next host can make one. */
+/* Kills a host at each task of making a device. Afterwards there is either a complete device or
+ * none, and the next host can make one. */
 static void kill_beginnings(void) {
     uint8_t fault = KILLED;
     for (int task = 0; fault == KILLED; task++) {
@@ -83,7 +84,7 @@ static void show_tasks(void) {
     }
 }
 
-/* Kills a host at each task while it restarts the journal. The device stays the same. */
+/* Kills a host at each task of restarting the journal. The device must stay the same. */
 static void kill_renewals(extent how_much) {
     uint8_t fault = KILLED;
     memset(&folder, 0, sizeof folder);
@@ -101,7 +102,8 @@ static void kill_renewals(extent how_much) {
     tpmsim_keeper_free(&alive.keeper);
 }
 
-/* Kills a host at each task of EXTEND in a folder whose journal has reached its limit. */
+/* Kills a host at each task of the command EXTEND, in a folder whose journal has reached its size
+ * limit. */
 static void kill_at_limit(const memory *before, int count) {
     uint8_t fault = KILLED;
     int kills = 0;
@@ -131,7 +133,7 @@ static void check_head(void) {
          "another head is shown");
 }
 
-/* Checks that a journal at its limit is restarted, with the same state. */
+/* Checks that a journal at its size limit is restarted, with the same state. */
 static void check_limit(void) {
     int count = 0;
     memset(&folder, 0, sizeof folder);
@@ -152,7 +154,8 @@ static void check_limit(void) {
     kill_at_limit(&other_folder, count - 1);
 }
 
-/* Changes single bytes of a journal. The journal is refused, and stays unchanged. */
+/* Changes single bytes of a journal. The keeper must refuse each changed journal, and leave it
+ * unchanged. */
 static void check_damage(void) {
     int refused = 0, tried = 0;
     memset(&folder, 0, sizeof folder);
@@ -191,7 +194,7 @@ static void check_refusals(void) {
     tpmsim_keeper_free(&alive.keeper);
 }
 
-/* Uses a handle without a keeper. */
+/* Makes calls on a handle that has no keeper. */
 static void check_none(void) {
     tpmsim_ask ask;
     tpmsim_keeper none = {0};
@@ -203,7 +206,8 @@ static void check_none(void) {
     tpmsim_keeper_free(&none);
 }
 
-/* Cycles the power, and restores a state. Neither adds an entry to the journal. */
+/* Cycles the power, and restores a state. Each of them restarts the journal instead of adding an
+ * entry. */
 static void check_leaps(void) {
     static uint8_t state[TPMSIM_STATE_SIZE];
     tpmsim device = {0};
@@ -229,7 +233,7 @@ static void check_leaps(void) {
     tpmsim_keeper_free(&alive.keeper);
 }
 
-/* Makes each task of a call fail. The host then discards its device in memory, and opens it
+/* Makes each task of a call fail in turn. The host then discards its device in memory, and opens it
  * again. */
 static void check_failures(void) {
     int count = 0;
@@ -249,13 +253,13 @@ static void check_failures(void) {
     tpmsim_keeper_free(&alive.keeper);
 }
 
-/* The task of a call at which the host forks; the number of EXTENDs executed by then; and the
-   child. */
+/* The task of a call at which the host forks, the number of EXTEND commands executed by then, and
+   the child's process ID. */
 static int forked_at, expected;
 static pid_t child;
 
-/* The work of a child that is forked in the middle of a call. It makes its own call, with its own
- * lock. */
+/* The work of a child that is forked in the middle of a call. The child makes a call of its own,
+ * with its own lock. */
 static void child_goes_on(host *it) {
     files_close(&disk.lock);
     it->does = files_do;
@@ -270,13 +274,13 @@ static seen files_fork(host *it, const tpmsim_ask *ask, const uint8_t *text) {
         child = fork();
         must(child >= 0, "no process");
         if (child == 0) child_goes_on(it);
-        poll(NULL, 0, 50); /* a child that did not lock would be first */
+        poll(NULL, 0, 50); /* without its own lock, the child would be first */
     }
     return files_do(it, ask, text);
 }
 
-/* Forks at each task of EXTEND after the lock is taken. The commands of parent and child are both
- * executed. */
+/* Forks at each task of the command EXTEND after the lock was acquired. The commands of parent and
+ * child are both executed. */
 static void check_forks(int count) {
     int status, forks = 0;
     alive.does = files_fork;
@@ -313,7 +317,7 @@ static void check_files(const char *path) {
     close(disk.folder);
 }
 
-/* Makes calls of each kind, in a thread of its own. */
+/* Makes calls of each kind, in a separate thread. */
 static void *call_all(void *unused) {
     check_leaps();
     check_limit();

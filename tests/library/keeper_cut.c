@@ -1,17 +1,17 @@
-/* Checks what a keeper reports about a command, the time of a command, what a keeper does with a
- * damaged journal, the calls without a text argument, and the texts of the keeper's faults. */
+/* Tests what a keeper reports about a command, the time of a command, damaged journals, calls
+ * without a text argument, and the texts of the keeper's faults. */
 #define _GNU_SOURCE
 #include "../common/same_state.h"
 #include "keeper_known.h"
 #include "keeper_memory.h"
 #include "keeper_stack.h"
 
-/* A journal with the head and the records of STARTUP, GET_RANDOM, and EXTEND a few times. */
+/* A journal with a head and the records of STARTUP, GET_RANDOM, and some EXTENDs. */
 enum { RECORDS = 5, EXTEND_FROM = 2 };
 
 static memory folder, before;
 static host alive;
-/* The size of the journal after its head, and after each of its records. */
+/* The sizes of the journal up to the end of its head, and up to the end of each record. */
 static size_t sizes[RECORDS + 1];
 
 static const uint8_t READ_CLOCK[] = {0x80, 1, 0, 0, 0, 10, 0, 0, 1, 0x81};
@@ -156,8 +156,8 @@ static void check_damage(void) {
     printf(", cut at each byte of %d records\n", RECORDS);
 }
 
-/* Kills a host at each task while it cuts a journal. Afterwards the folder contains either the
-   damaged journal or the new one. */
+/* Kills a host at each task of cutting a damaged journal. Afterwards the journal is either
+   unchanged, or completely replaced by the new one. */
 static void check_kills(extent how_much) {
     uint8_t fault = KILLED;
     int kills = -1;
@@ -179,14 +179,14 @@ static void check_kills(extent how_much) {
     printf("cut: killed %d times %s a task\n", kills, how_much == ALL ? "after" : "in");
 }
 
-/* Adds bytes that no crash leaves. */
+/* Adds bytes that no crash of the host can leave. */
 static void add_damage(void) {
     memset(folder.journal.bytes + folder.journal.size, 'x', 100);
     folder.journal.size += 100;
 }
 
-/* Checks that an undamaged journal is not cut, and that a missing one is a fault. A journal that
- * was damaged after it was opened is cut at the second request. */
+/* Checks that an undamaged journal is not cut, and that a missing journal is a fault. A journal
+ * that was damaged after it was opened is cut at the second request. */
 static void check_whole(void) {
     folder = before;
     memory_host(&alive, &folder, TPMSIM_FORCE_ALWAYS, FAR);
@@ -204,7 +204,8 @@ static void check_whole(void) {
     tpmsim_keeper_free(&alive.keeper);
 }
 
-/* Adds a record of READ whose response is that of a device that has executed one more command. */
+/* Adds a record of the command READ whose response is wrong: it is that of a device that has
+ * executed one more command. */
 static void answer_otherwise(void) {
     tpmsim device = {0};
     tpmsim_answered answered;
@@ -239,8 +240,8 @@ static void check_otherwise(void) {
 
 /* ---- calls without a text argument */
 
-/* Lets a command and a power cycle cut damage off before they continue. If the keeper has a device
-   in memory, the device is opened again. */
+/* Makes a command and a power cycle that cut damage off before they continue. If the keeper has a
+   device in memory, the device is opened again. */
 static void check_cuts(void) {
     turn(sizes[4]);
     must(tpmsim_keeper_cuts(&alive.keeper, 1) == TPMSIM_DONE, "damage cannot be cut");
@@ -257,7 +258,7 @@ static void check_cuts(void) {
     tpmsim_keeper_free(&alive.keeper);
 }
 
-/* Checks that a restored state replaces the device of a damaged journal. */
+/* Checks that restoring a state replaces a device whose journal is damaged. */
 static void check_states(void) {
     static uint8_t state[TPMSIM_STATE_SIZE], again[TPMSIM_STATE_SIZE];
     uint8_t response[RESPONSE_BYTES];
@@ -312,7 +313,7 @@ static void check_answers(void) {
     tpmsim_keeper_free(&alive.keeper);
 }
 
-/* Makes each call on a handle without a keeper. */
+/* Makes each call on a handle that has no keeper. */
 static void check_none(void) {
     tpmsim_keeper none = {0};
     uint8_t random[RANDOM_BYTES], response[RESPONSE_BYTES];
@@ -342,7 +343,7 @@ static void show_faults(void) {
     }
 }
 
-/* Makes the calls that cut a journal or return a state, in a thread of their own. */
+/* Makes the calls that cut a journal or return a state, in a separate thread. */
 static void *call_all(void *unused) {
     check_kills(A_PART);
     check_kills(ALL);

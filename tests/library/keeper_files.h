@@ -101,7 +101,7 @@ static inline seen files_do(host *by, const tpmsim_ask *ask, const uint8_t *text
     return (seen){is_done ? TPMSIM_GOT_DONE : TPMSIM_GOT_FAILED, it->number, 0, text, 0};
 }
 
-/* Closes the files of a killed process, as the operating system does. */
+/* Closes the files of a host that is killed, as the operating system does for a process. */
 static inline void files_leave(host *by) {
     files *it = by->folder;
     files_close(&it->lock), files_close(&it->journal), files_close(&it->fresh);

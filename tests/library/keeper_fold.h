@@ -1,11 +1,12 @@
-/* Computes the device that executed a world's history, as the definition does: by a fold over the
- * commands. A keeper is used only to write the head for a new device. */
+/* Computes a device by executing a world's history from the beginning, as the definition does: by a
+ * fold over the commands. A keeper is used only to write the head for a new device. */
 #ifndef KEEPER_FOLD_H
 #define KEEPER_FOLD_H
 #include "../common/same_state.h"
 #include "keeper_folder.h"
 
-/* After every EACHth command the journal's head is stored, so that the fold can go back to it. */
+/* The journal's head is stored after every EACH commands, so that the fold can return to that
+ * state. */
 enum { EACH = 16, HEAD_BYTES = 128 * 1024 };
 
 /* Kinds of commands, and the offsets of the fields that follow the clock or the elapsed time in a
@@ -20,8 +21,8 @@ typedef struct mark {
     uint8_t *head;
 } mark;
 
-/* The device after a number of commands of the world's history, the number of its seed, and its
- * time. */
+/* The device after a number of commands of the world's history, with the number of its seed, and
+ * its time. */
 static struct fold {
     tpmsim device;
     int commands, origin, marks;
@@ -37,8 +38,8 @@ static inline uint64_t number_at(const uint8_t *at, int size) {
     return number;
 }
 
-/* Writes the head of the journal for the new device of a seed, and returns its size, or 0 if the
- * seed is invalid. */
+/* Writes the head of the journal for a new device that is made from a seed, and returns its size,
+ * or 0 if the seed is invalid. */
 static inline size_t head_of_seed(const uint8_t *seed, size_t size) {
     tpmsim_ask ask = {0};
     tpmsim_keeper keeper = {0};
@@ -83,7 +84,7 @@ static inline void fold_forgets(void) {
     fold.commands = 0;
 }
 
-/* Goes back to a stored state after at most this many commands of the history. */
+/* Returns to a stored state that is reached after at most this many commands of the history. */
 static inline void fold_goes_back(int commands) {
     if (fold.commands <= commands) return;
     while (fold.marks && fold.mark[fold.marks - 1].commands > commands)
@@ -99,7 +100,7 @@ static inline void fold_goes_back(int commands) {
     fold.time = it->time;
 }
 
-/* Returns the clock at the moment of a command, and advances the journal's time by 0 to 2^32 - 1
+/* Returns the clock at the time of a command. The journal's time advances to it by 0 to 2^32 - 1
  * milliseconds. */
 static inline uint64_t fold_clock(const uint8_t *text) {
     int is_by_clock = text[0] == BY_CLOCK;
@@ -177,7 +178,7 @@ static inline void fold_steps(executed *next) {
     fold.commands++;
 }
 
-/* Executes the commands of the history that are left. */
+/* Executes the commands of the history that the device has not executed yet. */
 static inline void fold_follows(void) {
     if (fold.origin != all->origin) {
         fold_forgets();

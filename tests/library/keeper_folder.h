@@ -1,15 +1,17 @@
 /* The folder of specs/World.antt of tpm_keeping, in memory that forked processes share: the files
- * as all processes see them, and the contents that a crash of the host may leave. */
+ * as all processes see them, and the contents that may remain after a crash of the host. */
 #ifndef KEEPER_FOLDER_H
 #define KEEPER_FOLDER_H
 #include "keeper_host.h"
 #include <sys/mman.h>
 
-/* The definition allows any number of earlier contents and files. Here a random one is dropped if
- * there are more than PAST or OLDER. COMMANDS is the maximum length of the history. */
+/* The definition allows any number of earlier contents and files. Here at most PAST contents and
+ * OLDER files are stored; a new one then replaces a random one. COMMANDS is the maximum length of
+ * the history. */
 enum { PAST = 4, OLDER = 4, CONTENT_BYTES = 192 * 1024, COMMANDS = 2000, ARENA_BYTES = 4 << 20 };
 
-/* `commands` counts the commands of the history up to the last one whose entry is complete here. */
+/* `commands` counts the commands of the history up to the last one whose entry is complete in this
+ * content. */
 typedef struct content {
     size_t size;
     int commands;
@@ -33,8 +35,8 @@ typedef struct executed {
     size_t size, response_size;
 } executed;
 
-/* files[names[0]] is the journal. The other files had its name since the last sync of the
- * folder. */
+/* files[names[0]] is the journal. The other `names` are of files that had the journal's name since
+ * the last sync of the folder. */
 typedef struct world {
     file files[1 + OLDER];
     int names[1 + OLDER], olders;
@@ -116,8 +118,8 @@ static inline void history_adds(const uint8_t *command, size_t size) {
 }
 
 /* Cuts the file to `cut` bytes, then writes the first `count` bytes of a text of `size` bytes at
- * the offset `at`. If the whole text is written at or before the end of the synced bytes, no
- * dropped bytes are missing. `adds` says whether the text ends with a command's entry. */
+ * the offset `at`. After a whole text was written that begins at or before the end of the synced
+ * bytes, no dropped bytes are missing. `adds` says whether the text ends with a command's entry. */
 static inline void file_puts(file *it, size_t cut, size_t at, const uint8_t *text, size_t count,
                              size_t size, int adds) {
     content *now = &it->now;
@@ -140,7 +142,8 @@ static inline void file_forced(file *it) {
 }
 
 /* Gives the journal's name to the new file. Its head contains the state after all commands. If
- * `whole` is 1, the head contains the state before the last command, whose entry follows. */
+ * `whole` is 1, the head contains the state before the last command instead, and that command's
+ * entry follows. */
 static inline void file_named(int whole) {
     int last = all->olders < OLDER ? ++all->olders : 1 + (int)rolled(OLDER);
     int place = all->names[last];
@@ -156,15 +159,16 @@ static inline void file_named(int whole) {
     it->ends[0] = it->now.size;
 }
 
-/* Returns `commands` for the first `size` bytes of a content. */
+/* Returns the number of commands whose entries are complete in the first `size` bytes of a
+ * content. */
 static inline int whole_in(const file *it, const content *from, size_t size) {
     int count = 0, most = from->commands - it->before;
     while (count < most && it->ends[count] <= size) count++;
     return it->before + count;
 }
 
-/* Crashes the host. One of the files remains, with one of its contents. The content is cut after
- * the synced bytes or later, and zeros may follow. */
+/* Crashes the host. One of the files remains, with one of its contents. That content is cut off
+ * somewhere after its synced bytes, and zeros may follow. */
 static inline void world_crashes(void) {
     int place = all->names[rolled((unsigned)all->olders + 1)];
     file *it = &all->files[place];

@@ -1,5 +1,5 @@
-/* A host of a keeper: its loop, which calls a function for each task; the texts of commands and
- * seeds; and how a host is killed in the middle of a call. */
+/* A host of a keeper: a loop that calls a function for each task, the texts of commands and seeds,
+ * and kills in the middle of a call. */
 #ifndef KEEPER_HOST_H
 #define KEEPER_HOST_H
 #include "common.h"
@@ -20,7 +20,8 @@ typedef struct seen {
 typedef enum extent { NOTHING, A_PART, ALL } extent;
 
 /* A host: its function that does a task in its folder, and the function that releases its files
- * when it is killed. The host can be killed at one task of a call, or report one task as failed. */
+ * when it is killed. A test can kill the host at one task of a call, or have it report one task as
+ * failed. */
 typedef struct host host;
 struct host {
     tpmsim_keeper keeper;
@@ -31,8 +32,8 @@ struct host {
     extent killed_after;
     int fails_at;
     uint64_t clock;
-    /* The last call: its tasks, as one letter each; the size of the old journal's part that the
-     * device executed, if a new journal was made; the report; and the response. */
+    /* The last call: its tasks, as one letter each; if a new journal was made, the size of the part
+     * of the old journal that the device executed; the report; and the response. */
     char tasks[64];
     uint64_t whole;
     uint8_t report[TPMSIM_REPORT_SIZE];
@@ -42,7 +43,7 @@ struct host {
 
 static uint8_t host_text[TEXT_BYTES];
 
-/* Does nothing, a part, or all of a task, and kills the host. */
+/* Performs nothing, a part, or all of a task, and then kills the host. */
 static inline void host_dies(host *it, tpmsim_ask *ask, extent how_much) {
     int is_writing = ask->task == TPMSIM_TASK_PUT || ask->task == TPMSIM_TASK_MAKE;
     if (how_much == A_PART) ask->size /= 2;
@@ -73,14 +74,14 @@ static inline uint8_t host_finishes(host *it) {
     return ask.fault;
 }
 
-/* Runs a job with its text. Returns the same values as host_finishes. */
+/* Runs a job with its text. Returns like host_finishes. */
 static inline uint8_t host_run(host *it, uint8_t job, const uint8_t *text, size_t size) {
     if (tpmsim_keeper_begin(&it->keeper, job, text, size) != TPMSIM_DONE)
         return TPMSIM_FAULT_MEMORY;
     return host_finishes(it);
 }
 
-/* Starts a host like a new process: its keeper knows nothing about the folder yet. */
+/* Starts a host like a new process: its keeper has not looked at the folder yet. */
 static inline void host_starts(host *it, uint8_t force, uint64_t limit) {
     it->killed_at = it->fails_at = NEVER;
     must(tpmsim_keeper_new(&it->keeper, force, limit) == TPMSIM_DONE, "there is no keeper");
@@ -100,14 +101,14 @@ static inline size_t put_seed(uint8_t *text, uint8_t kind, const uint8_t *conten
     return (size_t)(at - text) + size;
 }
 
-/* Makes a device from random bytes, or finds an existing one. */
+/* Makes a device from random bytes, or opens an existing one. */
 static inline uint8_t host_begins(host *it) {
     uint8_t random[RANDOM_BYTES], text[512];
     count_up(random, 1);
     return host_run(it, TPMSIM_JOB_BEGIN, text, put_seed(text, 0, random, sizeof random));
 }
 
-/* Removes the report from the beginning of the response to a TPM command, and stores it. */
+/* Moves the report from the beginning of the response to `report`. */
 static inline void host_takes_report(host *it) {
     must(it->response_size >= TPMSIM_REPORT_SIZE, "a response without a report");
     memcpy(it->report, it->response, TPMSIM_REPORT_SIZE);
@@ -115,8 +116,9 @@ static inline void host_takes_report(host *it) {
     memmove(it->response, it->response + TPMSIM_REPORT_SIZE, it->response_size);
 }
 
-/* Executes a TPM command. Its text contains the kind and the time already; this function appends
- * the locality, the flag of the completing layer, 256 random bytes, and the command. */
+/* Executes a TPM command. The text of the request contains the kind and the time already. This
+ * function appends the locality, the flag of the completing layer, 256 random bytes, and the
+ * command. */
 static inline uint8_t host_gives(host *it, uint8_t *text, uint8_t *at, const uint8_t *command,
                                  size_t size) {
     *at++ = 0;
@@ -129,15 +131,15 @@ static inline uint8_t host_gives(host *it, uint8_t *text, uint8_t *at, const uin
     return fault;
 }
 
-/* Executes a TPM command at the time of the host's clock. Its text begins with the kind 0 and the
- * clock. */
+/* Executes a TPM command at the time of the host's clock. The request is kind 0, the clock and the
+ * command. */
 static inline uint8_t host_executes(host *it, const uint8_t *command, size_t size) {
     uint8_t text[4096] = {0};
     return host_gives(it, text, put_number(text + 1, it->clock += 10), command, size);
 }
 
-/* Executes a TPM command some milliseconds after the previous one. Its text begins with the kind 3
-   and the milliseconds in four bytes. */
+/* Executes a TPM command some milliseconds after the previous one. The request is kind 3, the
+   milliseconds in four bytes, and the command. */
 static inline uint8_t host_waits(host *it, uint32_t elapsed, const uint8_t *command, size_t size) {
     uint8_t text[4096] = {3}, number[8];
     put_number(number, elapsed);
@@ -145,7 +147,7 @@ static inline uint8_t host_waits(host *it, uint32_t elapsed, const uint8_t *comm
     return host_gives(it, text, text + 5, command, size);
 }
 
-/* Cycles the power. The text has the kind 1, the clock, and the layer's new start number. */
+/* Cycles the power. The request is kind 1, the clock, and the layer's new start number. */
 static inline uint8_t host_cycles(host *it) {
     uint8_t text[17] = {1};
     it->clock += 10;
@@ -153,7 +155,7 @@ static inline uint8_t host_cycles(host *it) {
     return host_run(it, TPMSIM_JOB_EXECUTE, text, sizeof text);
 }
 
-/* Restores a state text. The command's text has the kind 2 and a seed. */
+/* Restores a state text. The request is kind 2 and a seed. */
 static inline uint8_t host_restores(host *it, const uint8_t *state, size_t size) {
     static uint8_t text[TEXT_BYTES];
     text[0] = 2;

@@ -1,10 +1,10 @@
-/* The expected responses of a kept device, which show how many commands it has executed. */
+/* The expected responses of a device in a folder. They show how many commands it has executed. */
 #ifndef KEEPER_KNOWN_H
 #define KEEPER_KNOWN_H
 #include "keeper_host.h"
 
-/* FAR is a size limit that no journal here reaches. EXTENDS is the maximum number of commands that
- * change the PCR. */
+/* FAR is a size limit that no journal here reaches. EXTENDS is the maximum number of EXTEND
+ * commands. */
 enum { FAR = 1 << 20, EXTENDS = 200 };
 
 /* TPM2_PCR_Extend of PCR 16 with a SHA-256 digest of zeros and a password, and TPM2_PCR_Read of PCR
@@ -14,7 +14,7 @@ static const uint8_t EXTEND[65] = {0x80, 2,    0, 0, 0, 65, 0, 0, 1, 0x82, 0, 0,
 static const uint8_t READ[20] = {0x80, 1, 0, 0, 0, 20,   0, 0, 1, 0x7e,
                                  0,    0, 0, 1, 0, 0x0b, 3, 0, 0, 1};
 
-/* known[N] is the response to READ after N EXTENDs, from a host that is never killed. */
+/* known[N] is the response to READ after N EXTEND commands, from a host that is never killed. */
 static uint8_t known[EXTENDS][RESPONSE_BYTES];
 static size_t known_size[EXTENDS];
 
@@ -35,7 +35,7 @@ static void start(host *it) {
     executes(it, GET_RANDOM, sizeof GET_RANDOM, 0);
 }
 
-/* Records the responses of a host that has its own folder and is never killed. */
+/* Stores the responses of a host that has its own folder and is never killed. */
 static void learn(host *it) {
     start(it);
     for (int count = 0; count < EXTENDS; count++) {

@@ -1,7 +1,7 @@
-/* Drives the compiled keeper with random events, in the world of specs/World.antt of tpm_keeping.
- * Each process has a keeper. Processes get commands, do the keeper's tasks, fail, are killed and
- * fork, and the host crashes. Each response is compared with that of the device that executed the
- * history according to the definition (keeper_fold.h). After each crash the journal is compared
+/* Runs the compiled keeper with random events, in the world of specs/World.antt of tpm_keeping.
+ * Each process has a keeper. Processes get commands, perform the keeper's tasks, fail, are killed
+ * and fork, and the host crashes. Each response is compared with that of the device that executed
+ * the history according to the definition (keeper_fold.h). After each crash the journal is compared
  * too.
  *
  *     keeper_world EVENTS SEED     this many events, with a seed
@@ -190,7 +190,7 @@ static void names(process *it) {
     all->fresh.size = 0;
 }
 
-/* Does nothing, a part, or all of a task. */
+/* Performs nothing, a part, or all of a task. */
 static void acts(process *it, const tpmsim_ask *ask, extent much) {
     size_t count = much == ALL ? ask->size : rolled((unsigned)ask->size + 1);
     if (much == NOTHING) return;
@@ -211,7 +211,7 @@ static void acts(process *it, const tpmsim_ask *ask, extent much) {
     }
 }
 
-/* Returns the host's report after a task. */
+/* Returns the host's report to the keeper after a task. */
 static seen tells(process *it, const tpmsim_ask *ask) {
     const content *now = &journal()->now;
     seen told = {TPMSIM_GOT_DONE, journal()->number, now->size, host_text, 0};
@@ -255,7 +255,7 @@ static void is_answered(process *it) {
     counts.answers++;
 }
 
-/* Returns the fault with which a call must end if no task and no allocation failed. */
+/* Returns the fault, or none, with which a call must end if no task and no allocation failed. */
 static uint8_t end_of(const process *it) {
     if (journal()->number == 0)
         return it->job == TPMSIM_JOB_BEGIN ? TPMSIM_FAULT_UNREADABLE : TPMSIM_FAULT_ABSENT;
@@ -281,10 +281,11 @@ static void goes_on(process *it, const seen *told) {
 
 /* ---- events */
 
-/* Returns the number of the lock's holder. A process and its forked child are two holders. */
+/* Returns the number by which a process holds the lock. A process and its forked child have two
+ * numbers. */
 static int holder_of(int number) { return is_child ? PROCESSES + number : number; }
 
-/* Takes the lock, unless another process has it. */
+/* Acquires the lock, unless another process holds it. */
 static int locks(int number) {
     if (is_wrong(LOCKS_NOT)) return 1;
     if (all->is_locked) return 0;
@@ -336,8 +337,7 @@ static void dies(int number, const tpmsim_ask *ask) {
 
 static void happens(void);
 
-/* Forks all processes. The children continue for some events, and end. Meanwhile their parents do
-   nothing. */
+/* Forks all processes. The children run for some events, and end. Meanwhile the parents wait. */
 static void forks(void) {
     int status;
     if (is_child) return;
@@ -426,7 +426,7 @@ static void run(long events, uint64_t seed) {
     }
 }
 
-/* Runs each wrong host in a process of its own, where the checks must detect the mistake. */
+/* Runs each wrong host in a separate process. The checks must detect its mistake. */
 static void check_wrong(long events) {
     for (wrong = ANSWERS_FIRST; wrong < WRONGS; wrong++) {
         int status;

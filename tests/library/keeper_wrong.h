@@ -1,5 +1,5 @@
-/* Hosts that each make one mistake. They check the test itself, which must catch every one of
- * them. */
+/* Hosts that each make one mistake. The test must detect all of these mistakes, which shows that
+ * its checks work. */
 #ifndef KEEPER_WRONG_H
 #define KEEPER_WRONG_H
 

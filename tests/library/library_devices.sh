@@ -1,11 +1,11 @@
-# Makes many devices in one process, and devices in threads with small stacks, with and without sanitizers.
-# See library/devices.c and library/threads.c.
+# Makes many devices in one process, and other devices in threads with small stacks, with and without
+# sanitizers. See library/devices.c and library/threads.c.
 tests=$(cd "$(dirname "$0")/.." && pwd -P)
 . "$tests/common/cases.sh"
 . "$tests/common/library.sh"
 needs cc python3
 
-# A call uses at most 64 KB of stack. The rest is for the thread and the calling code.
+# A call uses at most 64 KB of stack. The other 16 KB are for the thread and the calling code.
 stack=$(((64 + 16) * 1024))
 large_stack=$((512 * 1024))
 

@@ -1,6 +1,5 @@
-# A program in C logs the commands that it executes, with the functions in the third C block of
-# docs/LIBRARY.md. tools/explain.py explains why one command was refused. The header describes the number of
-# each check.
+# A program in C logs its commands with the functions in the third C block of docs/LIBRARY.md. From this log,
+# tools/explain.py explains why a command was refused. The header must describe the number of each check.
 tests=$(cd "$(dirname "$0")/.." && pwd -P)
 . "$tests/common/cases.sh"
 . "$tests/common/library.sh"

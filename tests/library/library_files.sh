@@ -1,11 +1,11 @@
-# Checks which names the library's shipped files define, and which names they need. The header compiles on its
-# own, in C and in C++.
+# Checks which names the library's shipped files define, and which names they need. The header must compile
+# without any other header, in C and in C++.
 tests=$(cd "$(dirname "$0")/.." && pwd -P)
 . "$tests/common/cases.sh"
 . "$tests/common/library.sh"
 needs cc g++ nm objdump
 
-# names WORDS..: runs nm with these words, and prints the listed names, sorted.
+# names WORDS..: runs nm with these arguments, and prints the listed names, sorted.
 names() {
     nm --format=posix "$@" | awk 'NF > 1 { sub(/@.*/, "", $1); print $1 }' | LC_ALL=C sort -u
 }

@@ -1,5 +1,5 @@
-# Tests the calls on a device's keeper, with a folder in memory and with files. The test program, keeper.c,
-# runs without sanitizers and with them.
+# Tests the calls on a device's keeper, with a folder in memory and with one in the file system. The test
+# program, keeper.c, runs without sanitizers and with them.
 tests=$(cd "$(dirname "$0")/.." && pwd -P)
 . "$tests/common/cases.sh"
 . "$tests/common/library.sh"

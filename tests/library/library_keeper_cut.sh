@@ -1,5 +1,5 @@
-# Tests what a keeper reports about a command, and what it does with damage. The test program, keeper_cut.c,
-# runs without sanitizers and with them.
+# Tests what a keeper reports about a command, and what it does with a damaged journal. The test program,
+# keeper_cut.c, runs without sanitizers and with them.
 tests=$(cd "$(dirname "$0")/.." && pwd -P)
 . "$tests/common/cases.sh"
 . "$tests/common/library.sh"

@@ -1,5 +1,5 @@
-# Drives the compiled keeper in the world that the theorem on kept devices describes. keeper_world.c runs for
-# 100,000 events, and for fewer with sanitizers. Then it must catch each wrong host.
+# Runs the compiled keeper in the world that the theorem on devices in folders describes. keeper_world.c
+# simulates 100,000 events, and fewer with sanitizers. Then it must detect the mistake of each wrong host.
 tests=$(cd "$(dirname "$0")/.." && pwd -P)
 . "$tests/common/cases.sh"
 . "$tests/common/library.sh"

@@ -1,4 +1,4 @@
-# Tests a device that Python keeps in a folder, with wrong files, in threads, and in forked processes. See
+# Tests a device that Python keeps in a folder, with invalid files, in threads, and in forked processes. See
 # library/kept_files.py.
 tests=$(cd "$(dirname "$0")/.." && pwd -P)
 . "$tests/common/cases.sh"

@@ -1,5 +1,5 @@
 # Tests each misuse of the library that has a defined result, with and without sanitizers. The test program,
-# library/misuse.c, needs an image with a correct digest and a wrong body, which is made here.
+# library/misuse.c, needs an image with a correct digest and an invalid body, which this script makes.
 tests=$(cd "$(dirname "$0")/.." && pwd -P)
 . "$tests/common/cases.sh"
 . "$tests/common/library.sh"

@@ -1,6 +1,6 @@
-# Checks the modes of the files that a device in Python makes: an image with its lock, and a kept device.
-# Their user, and nobody else, may read and write them, whatever the umask. Without these permissions the
-# user's next process would have no device, unless the user is root.
+# Checks the modes of the files that a device in Python makes: an image with its lock, and the files in a
+# device's folder. Only their owner may read and write them, whatever the umask. Without these permissions, an
+# owner who is not root could not open the device in the next process.
 tests=$(cd "$(dirname "$0")/.." && pwd -P)
 . "$tests/common/cases.sh"
 . "$tests/common/library.sh"

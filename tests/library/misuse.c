@@ -1,6 +1,6 @@
 /* Misuses the library in each way that has a defined result, and prints a line with each misuse and
- * its result. The first argument is a file with an image whose digest is correct and whose body is
- * wrong. The program is linked with --wrap for malloc and realloc, so that it can count allocations
+ * its result. The first argument is a file with an image that has a correct digest and an invalid
+ * body. The program is linked with --wrap for malloc and realloc, so that it can count allocations
  * and make one of them fail. */
 #include "common.h"
 
@@ -25,8 +25,8 @@ void *__wrap_realloc(void *memory, size_t size) {
 
 static uint8_t random_bytes[RANDOM_BYTES], response[RESPONSE_BYTES];
 
-/* TPM2_HierarchyChangeAuth for the owner, with an empty password. The new authorization value has
- * one byte. */
+/* TPM2_HierarchyChangeAuth for the owner, authorized with an empty password. The new authorization
+ * value has one byte. */
 static const uint8_t CHANGE_AUTH[] = {0x80, 0x02, 0, 0, 0, 30,   0, 0, 0x01, 0x29, 0x40, 0, 0, 1, 0,
                                       0,    0,    9, 0x40, 0, 0, 9, 0, 0,    0,    0,    0, 0, 1, 'a'};
 
@@ -41,8 +41,8 @@ static size_t image_size;
 static uint8_t state[ROOM];
 static size_t state_size;
 
-/* A refused call leaves the device unchanged. Its image shows that, and so does the private
- * pointer, which only a test may read. */
+/* The device's private pointer before a call. A refused call must leave it unchanged, as well as
+ * the image. Only a test may read this pointer. */
 static void *kept_pointer;
 
 static void keep(struct tpmsim *device) {
@@ -57,8 +57,9 @@ static const char *as_it_was(struct tpmsim *device) {
     return "the device is as it was";
 }
 
-/* Makes a call that is refused, to execute GetRandom once without and once with the completing
- * layer. Neither the response nor the answer is written. */
+/* Makes two calls to execute TPM2_GetRandom, one without and one with the completing layer, which
+ * the library must refuse. They must write neither the response nor the answer. Returns the
+ * fault. */
 static unsigned refused_command(struct tpmsim *device, uint8_t locality) {
     struct tpmsim_answered answered;
     memset(&answered, FILLED, sizeof answered);
@@ -96,7 +97,7 @@ static void of_localities(struct tpmsim *device) {
     puts(as_it_was(device));
 }
 
-/* Executes buffers that are not commands. The device refuses them in its response. */
+/* Executes buffers that are not valid commands. The device refuses them in its response. */
 static void of_buffers(struct tpmsim *device) {
     static const size_t sizes[] = {0, 1, 9, 4097, 1000000};
     uint8_t *buffer = taken(1000000);
@@ -140,16 +141,16 @@ static void of_rooms(struct tpmsim *device) {
     in_rooms(device, "snapshot", tpmsim_snapshot);
 }
 
-/* Returns the number of bytes in which a text differs from the image's body, which is between its
- * head and its digest. */
+/* Returns the number of bytes in which a text differs from the image's body, the bytes between the
+ * image's head and its digest. */
 static size_t others_than_in_image(const uint8_t *text, size_t size) {
     size_t others = 0;
     for (size_t i = 0; i < size; i++) others += text[i] != image[HEAD_BYTES + i];
     return others;
 }
 
-/* Checks the kept state, which is the image without its head and its digest, and with zeros for
-   Clock. Therefore time does not change it. */
+/* Checks the result of tpmsim_kept: the image without its head and its digest, and with zeros for
+   Clock. Therefore it does not change with time. */
 static void of_what_is_kept(struct tpmsim *device) {
     size_t size = tpmsim_kept(device, before, ROOM);
     must(tpmsim_save(device, image, ROOM) == HEAD_BYTES + size + DIGEST_BYTES, "another size");
@@ -170,7 +171,7 @@ static void of_what_is_kept(struct tpmsim *device) {
     printf("kept, behind TPM2_HierarchyChangeAuth to a byte: %zu bytes more\n", longer - size);
 }
 
-/* Opens a copy of the image that has this size and one changed byte. */
+/* Opens a device from a copy of the image that has this size and one changed byte. */
 static void open_changed(struct tpmsim *device, const char *label, size_t size, size_t place) {
     keep(device);
     memcpy(image, before, image_size);
@@ -197,7 +198,7 @@ static void of_images(struct tpmsim *device, const char *file) {
     puts(as_it_was(device));
 }
 
-/* Restores from a copy of the state text that has this size and one changed byte. */
+/* Restores a device from a copy of the state text that has this size and one changed byte. */
 static void restore_changed(struct tpmsim *device, const char *label, size_t size, size_t place) {
     keep(device);
     memcpy(image, state, state_size);

@@ -1,5 +1,5 @@
-/* Plays each script on two new devices. `steady` always continues. `moved` is restored from its
- * state text at random moments, into a handle that contains an earlier device:
+/* Plays each script on two new devices. `steady` always continues. `moved` is saved and restored at
+ * random moments, into a handle that contains an earlier device:
  *
  *     moved SEED ONE_IN <SCRIPTS
  *

@@ -1,5 +1,5 @@
-/* Reports the maximum stack that each call uses, and for the execution of commands also the command
- * that needs it:
+/* Reports the maximum stack that each function of the library uses and, for the execution of
+ * commands, the command that uses most:
  *
  *     stack <SCRIPTS
  *
@@ -31,8 +31,8 @@ static const char *const NAMES[CALLS] = {"nothing", "manufacture", "execute", "c
                                          "power_cycle", "save", "kept", "open", "snapshot",
                                          "restore", "free"};
 
-/* The current call, the context that makes it, and the maximum stack that each call has used so
- * far. */
+/* The current call, the context of the code that makes it, and the maximum stack that each kind of
+ * call has used so far. */
 static enum call current;
 static ucontext_t caller;
 static struct tpmsim device, completed;
@@ -65,8 +65,8 @@ static void called(void) {
     }
 }
 
-/* Returns the number of bytes that still have the pattern, from the stack's far end on. Compares
-   whole blocks first. */
+/* Returns the number of bytes that still have the pattern, counted from the far end of the stack.
+   Compares whole blocks first. */
 static size_t painted_bytes(void) {
     static uint8_t painted[BLOCK_BYTES];
     size_t at = 0;

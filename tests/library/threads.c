@@ -1,11 +1,11 @@
 /* Runs four devices in four threads. The first argument is the size of each thread's stack, in
- * bytes. Each device executes commands, and is saved and opened. It is freed by another thread than
+ * bytes. Each device executes commands, and is saved and opened. A different thread frees it than
  * the one that made it. All four devices must have the same image at the end. */
 #define _POSIX_C_SOURCE 200809L
 #include "common.h"
 #include <pthread.h>
 
-/* The commands to execute. Standard input has one buffer in each line, in hex. */
+/* The commands to execute. Standard input contains one command in each line, in hex. */
 enum { MOST_COMMANDS = 256, THREADS = 4, ROUNDS = 50 };
 static struct {
     uint8_t *buffer;
@@ -60,7 +60,7 @@ static void *free_another(void *place) {
     return NULL;
 }
 
-/* Runs a function on each element of `works`, in one thread each, with this stack size. */
+/* Runs a function on each element of `works`, each in a thread with this stack size. */
 static void in_threads(void *(*function)(void *), struct work *works, size_t stack) {
     pthread_t threads[THREADS];
     pthread_attr_t attributes;

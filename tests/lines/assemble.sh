@@ -1,6 +1,6 @@
-# Checks the buffers that `tpmsim asm` assembles from the lines of assemble.lines, which may contain printf
-# escapes (\ooo is a byte in octal), and from some lines that are too long for that file. assemble.py, next to
-# this file, writes assemble.out.
+# Checks the buffers that `tpmsim asm` assembles from the lines of assemble.lines, and from some lines that are
+# too long for that file. The lines may contain printf escapes (\ooo is a byte in octal). assemble.py, next to
+# this script, writes assemble.out.
 here=$(cd "$(dirname "$0")" && pwd -P)
 tests=${here%/*}
 . "$tests/common/cases.sh"
@@ -23,7 +23,7 @@ while IFS= read -r written; do
     case $written in
     '' | '#'*) printf '%s\n' "$written" ;;
     *)
-        # shellcheck disable=SC2059 # the lines are written as printf escapes
+        # shellcheck disable=SC2059 # the lines contain printf escapes
         assembled "\"$written\"" "$(printf "$written")"
         ;;
     esac
@@ -38,7 +38,7 @@ for bytes in 4067 4068 4096 32767 40000; do
     assembled "PCR_Event and $bytes bytes" "PCR_Event 00000000 pw:- $data"
 done
 
-# Any other fault in the line is reported rather than the command's size.
+# If the line has another fault, that fault is reported rather than the command's size.
 data=$(zeros 8192)
 assembled 'NV_Write of 4096 bytes' "NV_Write OWNER 01000000 pw:- $data 0"
 assembled 'NV_Write of 4096 bytes without an offset' "NV_Write OWNER 01000000 pw:- $data"

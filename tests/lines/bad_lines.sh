@@ -1,5 +1,5 @@
 # Tests lines that are invalid in a script. Each of them is the third of four lines, between two commands. The
-# first command is answered, and the second one is not. Lines are written and printed with the escapes of
+# program answers the first command, and not the second one. Lines are written and printed with the escapes of
 # printf: \t is a tab, \r a carriage return, and \ooo a byte in octal.
 tests=$(cd "$(dirname "$0")/.." && pwd -P)
 . "$tests/common/cases.sh"
@@ -16,7 +16,7 @@ zeros() {
     printf '%0*d' "$((2 * $1))" 0
 }
 
-# Digits that are not hex, an odd number of digits, and more than one space.
+# Digits that are not hexadecimal, an odd number of digits, and more than one space.
 third 'cmd 0'
 third 'cmd 0g'
 third 'cmd 800'
@@ -49,7 +49,7 @@ third 'loc 256'
 third 'loc 4294967296'
 third 'loc 18446744073709551616'
 
-# A wait of more than 4,294,967,295 milliseconds, or that is not a decimal number.
+# A wait that is more than 4,294,967,295 milliseconds, or not a decimal number.
 third 'wait'
 third 'wait '
 third 'wait 4294967296'
@@ -63,7 +63,7 @@ third 'wait  1'
 third 'wait 1.5'
 third 'wait 1s'
 
-# No random bytes, more than 256 of them, or digits that are not hex.
+# No random bytes, more than 256 of them, or digits that are not hexadecimal.
 third 'entropy'
 third 'entropy '
 third 'entropy 0'
@@ -73,7 +73,7 @@ third 'entropy 0g'
 third "entropy $(zeros 257)" 'entropy and 257 bytes'
 third "entropy $(zeros 512)" 'entropy and 512 bytes'
 
-# Anything after the word `power`, and other first words.
+# More text after the word `power`, and unknown first words.
 third 'power '
 third 'power 1'
 third 'Power'
@@ -110,7 +110,7 @@ third '\303\251'
 third '\377'
 third '\000'
 
-# Valid lines that resemble the bad ones.
+# Valid lines that resemble invalid ones.
 third 'cmd '
 third 'cmd 00'
 third 'do GetRandom 4'
@@ -121,13 +121,13 @@ third 'power'
 third ''
 third '#\377'
 
-# A bad first line, and a bad last line without a line break.
+# An invalid first line, and an invalid last line without a line break.
 printf '\377\n' >script
 run 'the first line' run script
 printf '%s\n\n\n\ncmd 8' "$startup" >script
 run 'the last line, the fifth' run script
 
-# If there are two bad lines, the first one is reported, also for a script on standard input.
+# If two lines are invalid, the first one is reported, also if the script is read from standard input.
 printf '%s\nbad\nworse\n' "$startup" >script
 run 'two of them' run script
 run 'two of them on standard input' run - <script

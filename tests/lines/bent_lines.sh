@@ -1,8 +1,8 @@
-# Takes a line of each command. Each of its tokens is removed, doubled, emptied, altered in other ways, and
-# replaced with tokens of each kind. The output of `tpmsim asm`, including the fault and its column, is
-# compared with the device in Python (python/tpmsim/standard/lines.py). Then the same lines are played in
-# scripts, and lines of scripts get another byte at each offset. The first line of the output counts the
-# commands and their tokens. Each further line is about one way of altering.
+# Alters a line of each command: each of its tokens is removed, doubled, emptied, altered in other ways, and
+# replaced with tokens of each kind. The output of `tpmsim asm`, including the fault and its column, is compared
+# with the device in Python (python/tpmsim/standard/lines.py). Then the same lines are played in scripts, and
+# lines of scripts get another byte at each offset. The first line of the output counts the commands and their
+# tokens. Each further line is about one kind of change.
 tests=$(cd "$(dirname "$0")/.." && pwd -P)
 . "$tests/common/cases.sh"
 needs cc python3

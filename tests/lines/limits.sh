@@ -1,5 +1,5 @@
-# Tests the limits of a script: the number of bytes in a line, of lines, and of milliseconds. Also checks that
-# no response is lost if there are many.
+# Tests the limits of a script: the number of bytes in a line, the number of lines, and the sum of the waits.
+# Also checks that no response is lost if there are many.
 tests=$(cd "$(dirname "$0")/.." && pwd -P)
 . "$tests/common/cases.sh"
 
@@ -8,7 +8,7 @@ padded() {
     printf '%s%0*d' "$1" "$(($2 - ${#1}))" 0
 }
 
-# A line has at most 65,536 bytes. It ends with a line break or with the script.
+# A line has at most 65,536 bytes. It ends with a line break, or at the end of the script.
 for bytes in 65536 65537; do
     { echo "$startup"; padded '#' "$bytes"; } >script
     run "a comment of $bytes bytes, at the end" run script
@@ -50,7 +50,7 @@ done >script
 run 'three commands in lines of 65536 bytes, between three empty ones' run script
 
 # A script has at most 1,048,576 lines. If it has more, only the first 1,048,576 lines are executed, whatever
-# the next line is.
+# the next line contains.
 empty_lines() {
     yes '' | head -n "$1"
 }

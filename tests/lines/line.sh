@@ -1,17 +1,18 @@
-# Checks the lines that `tpmsim line` finds for the buffers of all `do` and `cmd` lines in scripts, which
-# common/line.py passes to it, and for some other buffers.
+# Checks the lines that `tpmsim line` finds for the commands of all `do` and `cmd` lines in scripts, which
+# common/line.py passes to it, and for some other commands.
 tests=$(cd "$(dirname "$0")/.." && pwd -P)
 . "$tests/common/cases.sh"
 needs cc python3
 
 python3 "$tests/common/line.py" "$program"
 
-# line LABEL HEX: prints the line of a buffer.
+# line LABEL HEX: prints the line of the command with this buffer.
 line() {
     run "$1" line "$2"
 }
 
-# A password has only one form in an entry. Any other entry is written like the entry of a session.
+# An authorization entry with a password has only one valid form. Any other entry is written like a session's
+# entry.
 line 'a password' 80020000001d0000012940000001000000094000000900000100000000
 line 'one with a nonce' 80020000001e00000129400000010000000a400000090001610100000000
 line 'digits of both cases' 80010000000C0000017b0020
@@ -31,7 +32,7 @@ line 'an area of four entries' "8002000000360000013d0000001000000024$entry$entry
 line 'a list that is longer than its command' 80010000000e0000017effffffff
 line '4,097 bytes' "800200001001$(printf '%08190d' 0)"
 
-# Arguments that are not hex.
+# Arguments that are not hexadecimal.
 line 'an odd number of digits' 8
 line 'another digit' 8g
 line 'a space' '80 01'

@@ -11,7 +11,7 @@ count() {
 }
 
 "$program" lines >"$room/lines" || echo 'lines: failed'
-# shellcheck disable=SC2016 # the backquotes are those of the documents
+# shellcheck disable=SC2016 # the backquotes belong to the documents
 sed -n 's/^Line: `\(.*\)`\.$/\1/p' "$table"/*.md | sort >"$room/wanted"
 grep -v '^    ' "$room/lines" | sort >"$room/forms"
 diff "$room/wanted" "$room/forms" >"$room/differences"
@@ -43,7 +43,7 @@ plus() {
     printf '%x' "$((0x$1 + $2))"
 }
 
-# shellcheck disable=SC2016 # the backquotes are those of the documents
+# shellcheck disable=SC2016 # the backquotes belong to the documents
 sed -n 's/^| `\([0-9A-F]*\)` | \([A-Z_0-9]*\) | .*/\1 \2/p' "$table/README.md" >"$room/codes"
 while read -r code name; do
     told_code "$code" "$name"

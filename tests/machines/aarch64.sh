@@ -1,6 +1,6 @@
 # Runs the program for ARM64 in qemu. It plays every third script, stored or generated, or all of them if
-# EVERY=1 is set. Each script must print the responses and traces that are stored in its files. The programs
-# for the two machines read the folders and images that the other one wrote.
+# EVERY=1 is set. The program must print the responses and traces that are stored with each script. The programs
+# for ARM64 and for this machine must read each other's folders and images.
 tests=$(cd "$(dirname "$0")/.." && pwd -P)
 . "$tests/common/cases.sh"
 needs qemu-aarch64 python3
@@ -15,7 +15,7 @@ arm() {
     qemu-aarch64 -L /usr/aarch64-linux-gnu "$arm" "$@"
 }
 
-# compare NAME: checks that a script prints the responses and traces that its files contain, and ends with the
+# compare NAME: checks that a script prints the responses and traces that are stored with it, and ends with the
 # expected status.
 compare() {
     base=${1%.tpm}

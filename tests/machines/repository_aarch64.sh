@@ -1,6 +1,6 @@
 # Runs the two commands of the README as on an ARM64 machine. In a copy of the repository, uname reports an
 # ARM64 machine, and programs for ARM64 run in qemu, in a separate namespace. There the launcher verifies the
-# program for ARM64, and not the one for x86-64.
+# program for ARM64 instead of the one for x86-64.
 tests=$(cd "$(dirname "$0")/.." && pwd -P)
 . "$tests/common/cases.sh"
 needs git qemu-aarch64 unshare

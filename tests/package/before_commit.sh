@@ -5,7 +5,7 @@ tests=$(cd "$(dirname "$0")/.." && pwd -P)
 needs git python3 shellcheck
 top=${tests%/*}
 
-# Makes a folder with the tools that the script needs, and other folders with the optional tools.
+# Makes a folder with links to the tools that the script needs, and other folders with the optional tools.
 mkdir tools_there rt_there linters_there
 for tool in cat cut getconf git grep mv sed sh sort xargs; do
     ln -s "$(command -v "$tool")" "tools_there/$tool"

@@ -1,5 +1,5 @@
-# Prints bash's completions: subcommands, options, files and command names of the program, and the subcommands
-# in the help of a newer program.
+# Prints bash's completions: subcommands, options, files and command names of the program, and subcommands that
+# only the help of a newer program lists.
 tests=$(cd "$(dirname "$0")/.." && pwd -P)
 . "$tests/common/cases.sh"
 needs bash python3

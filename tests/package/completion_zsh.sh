@@ -1,4 +1,4 @@
-# Prints zsh's completions for the same words as completion_bash.sh, and the explanation of each completion.
+# Prints zsh's completions for the same words as completion_bash.sh, with the explanation of each.
 tests=$(cd "$(dirname "$0")/.." && pwd -P)
 . "$tests/common/cases.sh"
 needs zsh python3
@@ -39,7 +39,7 @@ tpmsim|help|_
 tpmsim-explain|-
 tpmsim-explain|_
 CODE
-# There is one line for each TPM command. It suffices to print the first lines.
+# The completions contain one line for each TPM command. Printing the first lines is enough.
 awk '/^==/ { lines = 0 } lines++ < 9' completed
 
 echo '== a program with another subcommand'

@@ -1,6 +1,6 @@
-# Runs the steps of .github/actions/tpmsim, and those of its snippet for GitLab. They start a device, and
-# later steps find it through the job's environment variables. A step fails if its inputs are wrong or if the
-# device does not start.
+# Runs the steps of .github/actions/tpmsim, and those of its snippet for GitLab. They start a device, and later
+# steps find the device through the job's environment variables. A step must fail if its inputs are wrong or if
+# the device does not start.
 tests=$(cd "$(dirname "$0")/.." && pwd -P)
 . "$tests/common/cases.sh"
 . "$tests/common/library.sh"
@@ -8,7 +8,7 @@ needs python3 git cc nm strip
 top=${tests%/*}
 trap 'end_devices; keep_journals; rm -rf "$room"' EXIT
 
-# end_devices: ends all devices that steps have started.
+# end_devices: ends all devices that the steps have started.
 end_devices() {
     for file in "$room"/*/tpmsim/pid "$room"/*/.tpmsim-device/pid; do
         [ -f "$file" ] || continue

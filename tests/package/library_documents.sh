@@ -1,6 +1,6 @@
-# Checks the files that are installed with the program. Each link of a document leads to an installed file,
-# and the examples run. Each file that man pages and documents name is installed, unless they say that it is
-# in the sources.
+# Checks the files that are installed with the program. Each link of a document must lead to an installed file,
+# and the examples must run. Each file that a man page or a document names must be installed, unless the page
+# says that the file is in the sources.
 tests=$(cd "$(dirname "$0")/.." && pwd -P)
 . "$tests/common/cases.sh"
 needs python3

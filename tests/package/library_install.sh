@@ -1,5 +1,5 @@
 # Checks what `tools/install.sh` does for the dynamic loader and for Python if DESTDIR is not set, and its
-# messages. As root it calls ldconfig. It installs the package where python3 finds it.
+# messages. As root, the script calls ldconfig, and installs the Python package where python3 finds it.
 tests=$(cd "$(dirname "$0")/.." && pwd -P)
 . "$tests/common/cases.sh"
 needs python3
@@ -19,7 +19,8 @@ END
 printf '#!/bin/sh\necho "$USER_NUMBER"\n' >bin/id
 chmod +x bin/*
 
-# install_as USER PREFIX: installs as this user, and prints the messages and the arguments of ldconfig.
+# install_as USER PREFIX: installs as the user with this number, and prints the messages and the arguments of
+# ldconfig.
 install_as() {
     : >asked
     USER_NUMBER=$1 PREFIX=$2 PATH=$room/folder/bin:$PATH "$top/tools/install.sh" >said 2>&1 ||

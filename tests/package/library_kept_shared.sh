@@ -1,5 +1,5 @@
-# Tests the C host of kept devices as a shared object, which hosts/shared.sh makes. Checks that the shared
-# object in dist/ is made from the current sources, and which names it defines and needs.
+# Tests the C host, which keeps devices in folders, as a shared object made by hosts/shared.sh. Checks that the
+# shared object in dist/ is made from the current sources, and which names it defines and needs.
 tests=$(cd "$(dirname "$0")/.." && pwd -P)
 . "$tests/common/cases.sh"
 . "$tests/common/library.sh"
@@ -33,7 +33,7 @@ cat >loads.py <<'PROGRAM'
 import ctypes
 import sys
 
-# By its path alone, and with libtpmsim.so.0 of another folder loaded first.
+# Loads the shared object by its path alone, and after libtpmsim.so.0 of another folder.
 for path in sys.argv[1:]:
     ctypes.CDLL(path)
 maps = open("/proc/self/maps", encoding="utf-8").read().split()

@@ -1,4 +1,4 @@
-# Checks that lintian finds no error in the package, and an error in a package without a copyright file. The
+# Checks that lintian reports no error for the package, and an error for a package without a copyright file. The
 # package contains the modules if their headers are installed.
 tests=$(cd "$(dirname "$0")/.." && pwd -P)
 . "$tests/common/cases.sh"

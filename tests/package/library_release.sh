@@ -1,5 +1,5 @@
 # Runs tools/release.sh in a copy of the repository whose dist/ appears to be built from its sources. Checks
-# what prevents a release, and which files a release makes. Of the crates, the copy contains only the two from
+# what prevents a release, and which files a release consists of. The copy contains only the two crates from
 # which dist/ is built.
 tests=$(cd "$(dirname "$0")/.." && pwd -P)
 . "$tests/common/cases.sh"

@@ -1,6 +1,6 @@
-# Tests the wheel that tools/wheel.py makes, which contains the library. Without a network, pip installs it in
-# a new venv. pip also installs the folder python/, and changes nothing there. The first example of
-# python/README.md runs, and so does the program.
+# Tests the wheel that tools/wheel.py makes, which contains the library. Without a network, pip installs it in a
+# new venv. pip also installs the folder python/, without changing it. The first example of python/README.md and
+# the program tpmsim must run.
 tests=$(cd "$(dirname "$0")/.." && pwd -P)
 . "$tests/common/cases.sh"
 needs python3

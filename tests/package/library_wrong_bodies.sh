@@ -1,4 +1,5 @@
-# Checks that each wrong body can be applied: the lines that it replaces are in the sources exactly once.
+# Checks that each deliberately wrong function body of tools/soak can be applied: the sources must contain the
+# lines that it replaces exactly once.
 tests=$(cd "$(dirname "$0")/.." && pwd -P)
 . "$tests/common/cases.sh"
 needs python3

@@ -1,6 +1,6 @@
-# Checks the man pages. man prints each of them without a warning. They describe everything that the program's
-# help, the header and the documents describe. A new subcommand is in the man page as soon as the program's
-# --help lists it.
+# Checks the man pages. man must print each of them without a warning. They must describe everything that the
+# program's help, the header and the documents describe. The man page must contain each subcommand that the
+# program's --help lists, also a new one.
 tests=$(cd "$(dirname "$0")/.." && pwd -P)
 . "$tests/common/cases.sh"
 needs python3 man groff

@@ -1,5 +1,5 @@
-# Checks that all files with a version have the same version. Changes the version in each file of a copy in
-# turn, and checks that the change is found.
+# Checks that all files with a version have the same version. Then changes the version in each file of a copy in
+# turn, which the check must detect.
 tests=$(cd "$(dirname "$0")/.." && pwd -P)
 . "$tests/common/cases.sh"
 top=${tests%/*}
@@ -9,7 +9,7 @@ echo '== this repository'
 "$top/tools/version.sh" "$program" >told
 echo "status $?"
 
-# turn FILE FROM TO: replaces FROM with TO in this file of a copy, and checks the copy.
+# turn FILE FROM TO: replaces FROM with TO in this file of a copy of the repository, and checks the copy.
 turn() {
     rm -rf copy
     mkdir -p copy/tools copy/python/tpmsim copy/js copy/rust

@@ -1,5 +1,5 @@
-# Checks that the workflows for GitHub and GitLab name only existing files and targets. No test runs their
-# commands; `steps.py --run` does that.
+# Checks that the workflows for GitHub and GitLab name only existing files and targets. Given --run, steps.py
+# also runs the workflows' commands; no test uses that option.
 tests=$(cd "$(dirname "$0")/.." && pwd -P)
 . "$tests/common/cases.sh"
 needs python3

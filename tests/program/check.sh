@@ -1,5 +1,5 @@
-# Checks the output of `tpmsim check` for scripts: the number of each bad line, its fault and column, and what
-# is expected there (docs/SCRIPTS.md, docs/LINES.md). Each tested line is between two good ones. Lines are
+# Checks the output of `tpmsim check` for scripts: the number of each invalid line, its fault and column, and
+# what is expected there (docs/SCRIPTS.md, docs/LINES.md). Each tested line is between two valid ones. Lines are
 # written and printed with the escapes of printf.
 tests=$(cd "$(dirname "$0")/.." && pwd -P)
 . "$tests/common/cases.sh"
@@ -16,7 +16,7 @@ zeros() {
     printf '%0*d' "$((2 * $1))" 0
 }
 
-# The first word of a line.
+# Invalid first words of a line.
 second 'random'
 second ' do GetRandom 4'
 second 'DO GetRandom 4'
@@ -24,13 +24,13 @@ second 'cmd\t00'
 second ' '
 second '\377'
 
-# A first word without the words that must follow it.
+# Valid first words without the words that must follow them.
 second 'do'
 second 'loc'
 second 'wait'
 second 'entropy'
 
-# Wrong words after the first word.
+# Valid first words, followed by wrong words.
 second 'cmd 0'
 second 'cmd 0g'
 second 'cmd  00'
@@ -51,7 +51,7 @@ second "entropy $(zeros 257)" 'entropy and 257 bytes'
 second 'power '
 second 'power 1'
 
-# The faulty lines of docs/LINES.md.
+# The invalid lines that docs/LINES.md shows.
 second 'do Bogus'
 second 'do GetRandom'
 second 'do GetRandom x'
@@ -65,7 +65,7 @@ second 'do '
 second 'do  Startup 0'
 second "do PCR_Event NULL pw:- $(zeros 4096)" 'do PCR_Event with 4096 bytes'
 
-# Each kind of word in a line: handles, entries and parameters. Also a word too many, and a missing word.
+# Faults in words of each kind: handles, entries and parameters. Also an extra word, and a missing word.
 second 'do PCR_Reset 10 pw:-'
 second 'do NV_Write OWNER 0100000 pw:- 616263 0'
 second 'do NV_Write 4000000 01000000 pw:- 616263 0'
@@ -91,7 +91,7 @@ second 'do PolicyPCR 03000000 - sha256'
 second 'do PCR_Extend 0000000a pw:- sha256:00'
 second 'do PolicyOR 03000000 00+'
 
-# Valid lines that resemble the bad ones.
+# Valid lines that resemble invalid ones.
 second 'cmd'
 second 'cmd '
 second 'cmd 00'
@@ -103,8 +103,8 @@ second 'power'
 second ''
 second '#\377'
 
-# The sum of the waits before a command has a limit. A bad wait adds nothing to the sum, and a power cycle
-# does not reset it.
+# The sum of the waits before a command has a limit. An invalid wait adds nothing to the sum, and a power cycle
+# does not reset the sum.
 cat >script <<'END'
 wait 4294967295
 power
@@ -119,7 +119,7 @@ wait 1
 END
 run 'waits' check script
 
-# Each bad line is reported with its number, even after lines that are too long.
+# Each invalid line is reported with its number, even after lines that are too long.
 {
     printf 'bad\n%s\n' "$startup"
     printf '#%065535d\n#%065536d\n' 0 0

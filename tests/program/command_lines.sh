@@ -1,7 +1,7 @@
 # Tests which command lines are valid: `run [--trace] SCRIPT`, with `-` for standard input; `asm LINE`, where
 # the line is one argument; and `line HEX`. kept_scripts.sh tests `run --image`, and check.sh tests `check`.
-# Help and the version are printed on standard output. All other command lines are refused, although the files
-# that they name exist and are scripts.
+# Help and the version are printed on standard output. All other command lines must be refused, although the
+# files that they name exist and are scripts.
 tests=$(cd "$(dirname "$0")/.." && pwd -P)
 . "$tests/common/cases.sh"
 
@@ -13,7 +13,7 @@ for name in run --trace -x -h --help help; do
     cp a "./$name"
 done
 
-# words WORDS..: runs the program with these words, and with an empty command on standard input.
+# words WORDS..: runs the program with these arguments, and with an empty command on standard input.
 words() {
     echo cmd | run "tpmsim${*:+ $*}" "$@"
 }
@@ -44,14 +44,14 @@ words run --trace -
 words run --trace
 words --trace run a
 
-# A kept device is either in an image or in a folder. Only a kept device takes random bytes.
+# A device is kept either in an image or in a folder. The option --entropy needs one of them.
 words run --image image
 words run --image image --state state a
 words run --state state --image image --entropy a -
 words run --entropy a a
 words run --state
 
-# A served device is either in an image or in a folder. Only one in an image may have a log.
+# A served device is kept either in an image or in a folder. Only a device in an image may have a log.
 served() {
     words serve --socket socket --entropy /dev/zero --locality 0 --connections 1 "$@"
 }
@@ -61,7 +61,7 @@ served --state state --log log
 served --image image --state state --log log
 served --log log
 
-# Subcommands on a device in a folder, which take one folder.
+# Subcommands on a device in a folder. They have one argument, the folder.
 words power
 words power a b
 words snapshot

@@ -1,4 +1,4 @@
-# Executes the shell lines of docs/EXPLAIN.md that a reader is meant to type. Each line must print the output
+# Executes the shell lines of docs/EXPLAIN.md that its reader is meant to type. Each line must print the output
 # that the page shows below it.
 tests=$(cd "$(dirname "$0")/.." && pwd -P)
 . "$tests/common/cases.sh"

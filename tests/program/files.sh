@@ -26,8 +26,8 @@ run 'a folder as standard input' run - <a_folder
 run 'standard input that is closed' run - <&-
 run 'standard input that is closed, and a script in a file' run script <&-
 
-# Standard input from which reads fail after the first lines, since the pipe is non-blocking and nothing more
-# is written to it.
+# Standard input that cannot be read after the first lines, because the pipe is non-blocking and nothing more is
+# written to it.
 mkfifo pipe
 exec 3<>pipe
 printf '%s\ncmd\n# half a line' "$startup" >&3
@@ -43,7 +43,7 @@ unseen() {
     report "$1" "$status"
 }
 
-# A full device. If responses are lost, that is the reported fault, even if a bad line follows.
+# The device file /dev/full. If responses are lost, that fault is reported, even if an invalid line follows.
 exec 4>/dev/full
 unseen 'a full device' script
 unseen 'a full device, and no response' empty
@@ -56,7 +56,7 @@ exec 3<>pipe 4>pipe 3<&-
 unseen 'a pipe that nobody reads' script
 unseen 'a pipe that nobody reads, and no response' empty
 
-# Standard output that is closed.
+# Closed standard output.
 status=0
 timeout 60 "$program" run script 2>"$room/error" >&- || status=$?
 report 'standard output that is closed' "$status"

@@ -1,6 +1,6 @@
-# Checks that the launcher runs a proved program, and no other program. The launcher is in a copy of the
-# repository, in a folder whose path contains a space. There the program under test is shipped as the proved
-# one. A stand-in for `rt` builds another program, which prints that it was built.
+# Checks that the launcher runs only a proved program. The test uses a copy of the repository, in a folder whose
+# path contains a space. There the program under test is shipped as the proved one. A stand-in for `rt` builds
+# another program, which prints that it was built.
 tests=$(cd "$(dirname "$0")/.." && pwd -P)
 . "$tests/common/cases.sh"
 [ "$(uname -m)" = x86_64 ] || skip 'there is no program that tools/dist.sh ships but for x86-64'
@@ -10,7 +10,7 @@ copy="$room/a copy"
 lib=$copy/crates/tpm_line/src/lib.rt
 kept=$room/kept
 
-# Makes a folder with the tools that the scripts need, except `rt`, and folders that come first on the path.
+# Makes a folder with the tools that the scripts need, except `rt`. The other folders are put first on the path.
 mkdir "$room/tools" "$room/rt" "$room/failing" "$room/other_machine" "$room/no_checksum"
 for tool in awk cat chmod cmp cp dirname find git grep head mkdir mktemp mv readlink rm sed sh \
     sha256sum sort tar touch uname wc xargs; do
@@ -37,7 +37,8 @@ mkdir "$copy"
     (cd "$copy" && tar xf -)
 chmod -R a+rX "$room"
 
-# with FOLDER LABEL COMMAND..: runs a command with FOLDER first on the path. With `-` no folder is added.
+# with FOLDER LABEL COMMAND..: runs a command with FOLDER first on the path. If FOLDER is `-`, no folder is
+# added.
 with() {
     path=$room/tools
     [ "$1" = - ] || path=$room/$1:$path
@@ -54,7 +55,7 @@ start() {
     with "$1" "$2" "$copy/tpmsim" run -
 }
 
-# ship PROGRAM: puts a program into dist/ as if it had been built.
+# ship PROGRAM: puts a program into dist/, recorded as built from the sources.
 ship() {
     mkdir -p "$copy/crates/tpmsim/out"
     cp "$1" "$copy/crates/tpmsim/out/tpmsim"
@@ -63,7 +64,7 @@ ship() {
     rm -r "$copy/crates/tpmsim/out"
 }
 
-# Puts a stand-in for the library into dist/ as if it had been built.
+# Puts a stand-in for the library into dist/, recorded as built from the sources.
 ship_library() (
     PATH=$room/rt:$room/tools
     cd "$copy" || exit 1
@@ -85,8 +86,8 @@ ship_library() (
     } >>"$proved"
 )
 
-# changed FILE LABEL: starts the launcher with an extra byte in a file whose time is unchanged. Then restores
-# the old bytes, and starts it again.
+# changed FILE LABEL: starts the launcher after adding a byte to a file without changing the file's time. Then
+# restores the file, and starts the launcher again.
 changed() {
     cp -p "$1" "$kept"
     echo >>"$1"
@@ -105,7 +106,7 @@ ln -s "$copy/tpmsim" "$room/link"
 with - 'by a link' "$room/link" run -
 (cd "$copy" && with - 'in its folder' sh tpmsim run -)
 
-# Another user starts the launcher, in a read-only checkout. That start leaves no stamp.
+# Another user starts the launcher, in a read-only checkout. That start cannot store a stamp.
 rm -r "$copy/crates/tpmsim/out"
 chmod -R a-w "$copy"
 if [ "$(id -u)" -eq 0 ]; then
@@ -122,7 +123,7 @@ changed "$lib" 'a source'
 changed "$copy/crates.txt" 'crates.txt'
 changed "$copy/crates/tpm_tests/src/lib.rt" 'a crate that it does not stand on'
 
-# Old files and folders that are moved into the sources.
+# Files and folders with old times that are moved into the sources.
 echo >"$room/more.rt"
 touch -t 200001010000 "$room/more.rt"
 mv "$room/more.rt" "${lib%/*}/more.rt"
@@ -153,7 +154,7 @@ start failing 'a source is newer, and rt can build nothing'
 start rt 'a source is newer, and rt can build it'
 start - 'it is built'
 
-# ship_module: puts a stand-in for the module for web pages into dist/ as if it had been built.
+# ship_module: puts a stand-in for the module for web pages into dist/, recorded as built from the sources.
 ship_module() (
     PATH=$room/rt:$room/tools
     cd "$copy" || exit 1
@@ -163,7 +164,7 @@ ship_module() (
         "$(checksum <"$module")" >>"$proved"
 )
 
-# Prints what the gate reports about dist/.
+# Prints what tools/dist.sh --check, which the gate runs, reports about dist/.
 with rt 'the gate, with other sources' "$copy/tools/dist.sh" --check
 with rt 'made anew' "$copy/tools/dist.sh"
 ship_module

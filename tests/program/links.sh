@@ -1,6 +1,6 @@
-# Checks that every link of every document leads to a file, and every #anchor to a heading of that file. In
-# test documents, each broken link is reported with its line number. The page of each command and of each
-# general check has links to its definition and its code.
+# Checks that every link of every document leads to a file, and every #anchor to a heading of that file. In test
+# documents, each broken link must be reported with its line number. The page of each command and of each
+# general check must have links to the definition and the code.
 tests=$(cd "$(dirname "$0")/.." && pwd -P)
 . "$tests/common/cases.sh"
 needs git
@@ -8,7 +8,7 @@ needs python3
 top=${tests%/*}
 git -C "$top" ls-files '*.md' >documents 2>/dev/null || skip "this is no clone of the repository"
 
-# follow WORDS..: prints the broken links of these documents.
+# follow WORDS..: prints the broken links of the documents in its arguments.
 follow() {
     python3 "$tests/common/links.py" "$@"
     echo "status $?"

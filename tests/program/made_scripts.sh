@@ -1,5 +1,5 @@
-# Checks that the generated scripts detect wrong devices. For each script there is a device in Python with one
-# mistake, whose responses to the script must differ from the program's.
+# Checks that the generated scripts detect wrong devices. For each script there is a Python model with one
+# deliberate mistake. Its responses to the script must differ from the program's.
 tests=$(cd "$(dirname "$0")/.." && pwd -P)
 . "$tests/common/cases.sh"
 needs python3

@@ -1,9 +1,9 @@
-# Checks that each response is printed before more of the script is read. Therefore whoever types or pipes a
-# script sees each response before sending the next line.
+# Checks that each response is printed before more of the script is read. Therefore a user or program that sends
+# a script line by line gets each response before it sends the next line.
 tests=$(cd "$(dirname "$0")/.." && pwd -P)
 . "$tests/common/cases.sh"
 
-# If the program ends early, this test continues to run.
+# This test continues to run if the program ends early.
 trap '' PIPE
 mkfifo lines responses
 
@@ -64,7 +64,7 @@ answered 'a line in pieces'
 exec 3>&-
 ended 'the end'
 
-# A bad line ends the program, although the pipe is still open.
+# An invalid line ends the program, although the pipe is still open.
 begin -
 give "$startup\n"
 answered 'a line'
@@ -72,7 +72,7 @@ give 'cmd\nbad\ncmd\n'
 answered 'a line before a bad one'
 ended 'a bad line'
 
-# A named pipe is treated like standard input.
+# A named pipe as the script is treated like standard input.
 mkfifo script
 begin script
 exec 5>script

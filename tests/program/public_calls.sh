@@ -1,7 +1,7 @@
-# Checks that the requested crates, functions and types (public_calls.txt) exist, or that docs/DECISIONS.md
+# Checks that the crates, functions and types that public_calls.txt requires exist, or that docs/DECISIONS.md
 # names their replacements. That page must list no other replacements. Then the test makes each kind of
-# difference in two small crates, and the comparison must report it.
-# shellcheck disable=SC2016 # the backquotes are those of a page
+# difference in two small crates. The comparison must report each of them.
+# shellcheck disable=SC2016 # the backquotes belong to a document
 tests=$(cd "$(dirname "$0")/.." && pwd -P)
 . "$tests/common/cases.sh"
 needs python3

@@ -1,6 +1,6 @@
-# Checks that the statements that docs/THEOREMS.md quotes are in the files that it names. Then checks a page
-# with wrong quotes, each of which must be reported: one differs in a letter, one names no file, and one is
-# not in its file.
+# Checks that the statements that docs/THEOREMS.md quotes are in the files that the page names. Then checks a
+# page with three wrong quotes, each of which must be reported: one differs in a letter, one names no file, and
+# one is not in the named file.
 tests=$(cd "$(dirname "$0")/.." && pwd -P)
 . "$tests/common/cases.sh"
 needs python3

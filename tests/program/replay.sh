@@ -1,5 +1,5 @@
 # `replay` executes the commands of a journal or a log again. It prints the same traces and responses as `run
-# --trace` did the first time. An incomplete last entry is ignored, since its command was not answered. If the
+# --trace` did the first time. An incomplete last entry is ignored, because its command was not answered. If the
 # text is damaged, or a response differs, the fault names the first line of the entry.
 tests=$(cd "$(dirname "$0")/.." && pwd -P)
 . "$tests/common/cases.sh"
@@ -31,9 +31,9 @@ do GetRandom 4
 do GetRandom 8' >script
 "$program" run --state other script >answers
 
-# changed LABEL LINES: changes lines of a copy of the journal with a line of Python, and replays it. The
-# Python function `answered` changes the checksum of an entry's response, and updates the checksum in its
-# mark.
+# changed LABEL LINES: changes a copy of the journal by executing the Python code LINES, and replays it. The
+# Python function `answered` changes the checksum of an entry's response, and then updates the checksum in the
+# entry's mark.
 changed() {
     python3 -c "
 lines = open('other/journal', 'rb').read().splitlines(keepends=True)

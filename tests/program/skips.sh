@@ -1,6 +1,6 @@
-# Checks how tests that cannot run are treated. tools/scripts.sh skips them with their reasons, and then
-# .ci/run fails. Each case uses a copy of the repository with different tests, and with stand-ins for the
-# other tools that the gate runs.
+# Checks how tests that cannot run are treated: tools/scripts.sh skips them and prints the reasons, and then
+# .ci/run fails. Each case uses a copy of the repository with its own tests, and with stand-ins for the other
+# tools that the gate runs.
 tests=$(cd "$(dirname "$0")/.." && pwd -P)
 . "$tests/common/cases.sh"
 copy=$room/copy
@@ -14,7 +14,7 @@ for built in tpmsim/out/tpmsim tpmsim_lists/out/tpmsim_lists; do
     ln -s "$program" "$copy/crates/$built"
 done
 
-# played LABEL NAME..: prints the results of these tests, without the lines about programs that were not
+# played LABEL NAME..: prints the results of these tests, without the lines about programs that have not been
 # built.
 played() {
     echo "$1:"
@@ -25,7 +25,7 @@ played() {
     echo "    status $status"
 }
 
-# a_test NAME LINES: makes a test script with these lines. Its expected output is `right`.
+# a_test NAME LINES: makes a test script with these lines. The test's expected output is `right`.
 a_test() {
     echo "$2" >"$copy/tests/$1.sh"
     echo right >"$copy/tests/$1.out"
@@ -64,9 +64,9 @@ done
 rm -r "$copy/tests"
 ln -s "$tests" "$copy/tests"
 
-# on_this_path LABEL NAME..: prints the results of tests with the tools that are in the folder now.
+# on_this_path LABEL NAME..: prints the results of tests that find only the tools in that folder.
 on_this_path() {
-    # shellcheck disable=SC2123 # the tools are found there
+    # shellcheck disable=SC2123 # the tools are searched for only there
     (PATH=$room/path && played "$@")
 }
 
@@ -96,8 +96,8 @@ without 'cc nm' starved
 failing cc torn
 failing python3 images line
 
-# Tests the gate, with stand-ins that succeed. The stand-in for tools/scripts.sh prints what the case
-# specifies, for the shipped program and for the built programs.
+# Tests the gate, with stand-ins that succeed. The stand-in for tools/scripts.sh prints what the caller of
+# `gate` specifies, for the shipped program and for the built programs.
 mkdir "$room/stubs"
 printf '#!/bin/sh\necho 3 passed, 0 failed\n' >"$room/stubs/rt"
 # shellcheck disable=SC2016 # the stand-in expands them

@@ -1,7 +1,7 @@
 # Writes the state text of a device in a folder, and restores it. The device has an HMAC session, a policy
-# session with some of its assertions, a transient object and an extended PCR. The restored device continues
-# like the original one. A refused text leaves the folder unchanged. common/restored_folders.py kills a run at
-# each of its system calls.
+# session with some of its assertions, a transient object and an extended PCR. The restored device must continue
+# like the original one. If a text is refused, the folder must stay unchanged. common/restored_folders.py kills
+# `restore` at each of its system calls.
 tests=$(cd "$(dirname "$0")/.." && pwd -P)
 . "$tests/common/cases.sh"
 needs cc nm python3
@@ -34,8 +34,8 @@ same() {
     if cmp "$2" "$3"; then echo "$1: the same"; else echo "$1: NOT THE SAME"; fi
 }
 
-# same_device LABEL FILE FILE: prints whether two state texts are the same, except for the layer's start
-# number, 176 bytes before the end, which is new for a restored device, and the digest at the end.
+# same_device LABEL FILE FILE: prints whether two state texts are the same, except for the digest at the end and
+# the start number of the completing layer, 176 bytes before the end. A restored device has a new start number.
 same_device() {
     for text in "$2" "$3"; do
         head -c -176 "$text" >"$text.before"
@@ -70,7 +70,7 @@ same_device 'the snapshots then' later again
 "$program" replay second/journal >again && same 'what is answered again' answers again
 "$program" script second | sed -n '1s/\(journal 2\) .*/\1/p; 3p'
 
-# A device is replaced while a process holds it. That process continues with the new device.
+# The device is replaced while a process uses it. That process continues with the restored device.
 mkfifo input
 "$program" run --state first - <input >"$room/held" &
 exec 3>input
@@ -86,14 +86,14 @@ sed '1d' "$room/held" >again
 grep -v '[^0-9a-f]' answers >told
 same 'what the process that held it answers then' told again
 
-# After a power cycle, an earlier state text is restored. It still has the sessions.
+# After a power cycle, an earlier state text is restored. The restored device has the sessions again.
 run 'a power cycle' power first
 run 'what was before' restore first text
 "$program" run --trace --state first after >again
 same 'what is answered then' answers again
 
-# bent LABEL LINE: changes a state text with a line of Python, and tries to restore it. The folder must be
-# unchanged.
+# bent LABEL LINE: changes a state text by executing the Python code LINE, and tries to restore it. The folder
+# must stay unchanged.
 bent() {
     python3 -c "
 import hashlib
@@ -141,7 +141,7 @@ head_text() {
     sed -n '2s/^# //p' "$1" | python3 -c 'import sys; sys.stdout.buffer.write(bytes.fromhex(sys.stdin.read()))'
 }
 
-# A journal whose head has version 1 is not opened, but its state text can be restored.
+# The program does not open a journal whose head has version 1, but its state text can be restored.
 cp -R second earlier
 python3 "$tests/common/earlier_head.py" earlier/journal
 cp earlier/journal earlier_journal

@@ -1,6 +1,6 @@
-# Makes each allocation of the program fail: in one run only this allocation, and in another run this one and
-# all later ones. This is done for valid and invalid command lines, and for a served device. common/starved.py
-# says how the run must end.
+# Makes each allocation of the program fail: in one run only that allocation, and in another run also all later
+# ones. This is done for valid and invalid command lines, and for a served device. common/starved.py describes
+# how the run must end.
 tests=$(cd "$(dirname "$0")/.." && pwd -P)
 . "$tests/common/cases.sh"
 needs cc nm python3

@@ -17,14 +17,14 @@ do ReadClock' >second.tpm
 echo 'do GetRandom 8' >third.tpm
 (echo 'do Startup 0'; cat second.tpm) >fourth.tpm
 
-# play LABEL WORDS..: runs the program, and stores the responses for `replay`.
+# play LABEL WORDS..: runs the program with these arguments, and stores the responses for `replay`.
 play() {
     run "$@"
     cat "$room/output" >>"$room/answered"
 }
 
-# replay LABEL: plays the output of `tpmsim script` on the device that its second line contains as a state
-# text. Prints whether the responses are the same.
+# replay LABEL: plays the output of `tpmsim script` on a device restored from the state text in the script's
+# second line. Prints whether the responses are the same.
 replay() {
     "$program" script state >told.tpm || echo 'there is no script'
     sed -n '2s/^# //p' told.tpm | python3 -c '
@@ -57,7 +57,7 @@ printf 'do Startup 0\npower\ndo Startup 0\ndo GetCapability 1 02000000 8\n' >cyc
 run 'power cycles in a script' run --trace --state state cycles.tpm
 grep -c '^cmd' state/journal
 
-# A script with an invalid line. The lines before that one are executed.
+# A script with an invalid line. The lines before the invalid one are executed.
 printf 'do GetRandom 4\nwhat\ndo GetRandom 4\n' >bad.tpm
 run 'a bad line' run --state state bad.tpm
 grep -c '^cmd' state/journal
@@ -66,7 +66,7 @@ grep -c '^cmd' state/journal
 run 'no script' run --state none none.tpm
 [ ! -e none ] || echo 'a folder was made'
 
-# A new device takes its random bytes from a file.
+# The random bytes for a new device come from a file.
 head -c 256 /dev/zero | tr '\0' 7 >entropy
 run 'random bytes' run --state another --entropy entropy first.tpm
 run 'too few random bytes' run --state third --entropy first.tpm first.tpm

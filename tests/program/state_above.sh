@@ -1,11 +1,12 @@
-# Tests a kept device whose parent folder may be entered and written by its user, but not read. The program
-# cannot sync the name of the device's folder in the parent folder. It reports this once. If it has just made
-# the device's folder, this is a fault.
+# Tests a device in a folder whose user may enter and write the parent folder, but not read it. Therefore the
+# program cannot sync the name of the device's folder. It reports this once. If it has just made the device's
+# folder, this is a fault.
 tests=$(cd "$(dirname "$0")/.." && pwd -P)
 . "$tests/common/cases.sh"
 [ "$(id -u)" -ne 0 ] || needs setpriv
 
-# plain LABEL WORDS..: runs the program as a user who is not root, and prints the result.
+# plain LABEL WORDS..: runs the program as an ordinary user, even if the test runs as root, and prints the
+# result.
 plain() {
     label=$1
     shift

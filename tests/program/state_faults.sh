@@ -1,5 +1,5 @@
-# Checks that a kept device is refused if a path is not a folder or file of the user, or if the journal is
-# damaged or missing. Nothing is changed then.
+# Checks that the program refuses to open a device in a folder if one of its paths is not a folder or file of
+# the user, or if the journal is damaged or missing. The program must then change nothing.
 tests=$(cd "$(dirname "$0")/.." && pwd -P)
 . "$tests/common/cases.sh"
 needs python3
@@ -19,7 +19,7 @@ run 'an empty folder, power' power empty
 run 'an empty folder, script' script empty
 ls empty
 
-# Links, folders and other wrong kinds of files at the paths of the device's files.
+# Links, folders and other kinds of files that are wrong at the paths of the device's files.
 echo elsewhere >elsewhere
 cp elsewhere elsewhere.kept
 for name in journal lock journal.new; do
@@ -42,8 +42,8 @@ run 'a link to the folder' run --state link one
 run 'a link to the folder, with a slash' run --state link/ one
 run 'a file in the place of the folder' run --state script one
 run 'a folder above that is not there' run --state none/state one
-# damage LABEL CODE: changes the journal's bytes with a line of Python, and prints whether the program leaves
-# the file unchanged.
+# damage LABEL CODE: changes the journal's bytes by executing the Python code CODE, and prints whether the
+# program leaves the file unchanged.
 damage() {
     rm -rf state && cp -R kept state
     python3 -c "
@@ -71,8 +71,8 @@ damage 'no journal' 'text = b"something else\n"'
 damage 'an empty file' 'text = b""'
 damage 'a random byte turned' 'text = text.replace(b"entropy 00000000\n", b"entropy 00000001\n")'
 
-# The command of an incomplete last entry was not answered. The entry is cut off before the next one is
-# written.
+# If the last entry is incomplete, its command was not answered. The program cuts this entry off before it
+# writes the next one.
 for count in 1 40 100 180; do
     rm -rf state && cp -R kept state
     truncate -s "-$count" state/journal

@@ -1,5 +1,5 @@
-# Tests a kept device on a full disk. Its journal stays unchanged, and a command whose entry does not fit is
-# not answered. When there is space again, the device continues. The disk is mounted only for this test, by
+# Tests a device in a folder on a full disk. Its journal stays unchanged, and a command whose entry does not fit
+# is not answered. When there is space again, the device continues. The disk is mounted only for this test, by
 # root or by a user who may be root in a namespace.
 if [ -z "${own_mounts:-}" ]; then
     for user in '' '--user --map-root-user'; do

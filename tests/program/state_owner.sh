@@ -1,4 +1,5 @@
-# Checks that a kept device whose folder or files belong to another user is refused, and stays unchanged.
+# Checks that the program refuses to open a device whose folder or files belong to another user, and leaves them
+# unchanged.
 tests=$(cd "$(dirname "$0")/.." && pwd -P)
 . "$tests/common/cases.sh"
 [ "$(id -u)" = 0 ] || skip 'only root can give a file to another user'

@@ -1,10 +1,10 @@
-# Tests `--keep N`, with which N finished journals stay in the folder of a device, as with the option keep=N
-# of the module for libtss2.
+# Tests `--keep N`, which keeps N finished journals in the folder of a device, like the option keep=N of the
+# module for libtss2.
 tests=$(cd "$(dirname "$0")/.." && pwd -P)
 . "$tests/common/cases.sh"
 . "$tests/common/served.sh"
 
-# journals: prints the journals in the folder, each with the number of commands that its device executed.
+# journals: prints the journals in the folder, each with the number of commands that it contains.
 journals() {
     for journal in state/journal*; do
         printf ' %s=%s' "${journal#state/}" "$(grep -c '^cmd' "$journal")"
@@ -37,7 +37,7 @@ for number in 1 2 3; do
     "$program" replay "state/journal.$number" | grep -c GetRandom
 done
 
-# A killed process left a gap in the numbers. The journals with higher numbers are kept.
+# The numbers have a gap, which a killed process left. The journals with higher numbers are kept.
 asks 6
 rm state/journal.2
 "$program" power state --keep=3
@@ -48,7 +48,7 @@ asks 7
 "$program" power --keep 1 state
 journals
 
-# The other subcommands that begin a new journal.
+# The other subcommands that restart the journal.
 asks 8 --keep 2
 echo power | "$program" run --state state --keep 2
 journals
@@ -67,7 +67,8 @@ asks 0
 "$program" power --keep 3 state
 journals
 
-# If a folder has the name of a finished journal, the journal stays, and the device continues.
+# If a folder or a link has the name of a finished journal, the power cycle fails. The journal stays unchanged,
+# and the device continues.
 asks 1
 rm -f state/journal.[23] && mkdir state/journal.2 && echo >state/journal.3
 run 'a folder in place of the second journal' power --keep 3 state
@@ -80,7 +81,7 @@ journals
 run 'nothing in the way' power --keep 3 state
 journals
 
-# The number must be 0 to 99, and the option needs a folder.
+# N must be 0 to 99, and the option needs a device in a folder.
 run 'keep 99' power --keep 99 state
 run 'keep 100' power --keep 100 state
 run 'keep -1' power --keep -1 state

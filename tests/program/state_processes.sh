@@ -1,5 +1,5 @@
-# Several processes hold one kept device at once, and some are killed. No answered command is lost.
-# common/state_processes.py checks that.
+# Several processes use one device in a folder at once, and some are killed. common/state_processes.py checks
+# that no answered command is lost.
 tests=$(cd "$(dirname "$0")/.." && pwd -P)
 . "$tests/common/cases.sh"
 needs python3

@@ -1,4 +1,4 @@
-# Serves a kept device on a socket while other runs use the same device.
+# Serves a device in a folder on a socket while other runs use the same device.
 tests=$(cd "$(dirname "$0")/.." && pwd -P)
 . "$tests/common/cases.sh"
 . "$tests/common/served.sh"
@@ -38,7 +38,7 @@ talk 'once more' 1000 "$read" 800100000000
 ended 'with each response forced to the disk'
 grep -c '^cmd' state/journal
 
-# The device's folder vanishes while it is served, and then another device takes its path.
+# The device's folder is removed while the device is served, and then another device is put at its path.
 begin 2
 there
 cp -R state other

@@ -1,7 +1,8 @@
-# A crash of the host can leave three things at the end of a kept device's journal: an incomplete entry, an incomplete
-# entry followed by zeros, or only zeros. The next command or power cycle removes these bytes, and reports their number
-# on standard error. Anything else is damage. Then the journal is refused and stays as it is, until `power --cut` drops
-# everything after the last whole entry before the damage, and reports the dropped size.
+# A crash of the host can leave three things at the end of a device's journal: an incomplete entry, an
+# incomplete entry followed by zeros, or only zeros. The next command or power cycle removes these bytes, and
+# reports their number on standard error. Anything else is damage. The program then refuses the journal and
+# leaves it unchanged, until `power --cut` drops everything after the last complete entry before the damage, and
+# reports the dropped size.
 tests=$(cd "$(dirname "$0")/.." && pwd -P)
 . "$tests/common/cases.sh"
 
@@ -17,7 +18,7 @@ zeros() {
     head -c "$1" /dev/zero
 }
 
-# ending WHAT BYTES COMMAND..: makes a journal without its last BYTES bytes, and appends the output of
+# ending WHAT BYTES COMMAND..: makes a journal, cuts off its last BYTES bytes, and appends the output of
 # COMMAND.
 ending() {
     what=$1
@@ -29,14 +30,13 @@ ending() {
     cp state/journal before
 }
 
-# entries: prints the number of the journal's entries in the output of `tpmsim script`.
+# entries: prints the number of commands in the script that `tpmsim script` makes from the journal.
 entries() {
     "$program" script state >told 2>"$room/error" || echo "script: status $?, $(told "$room/error")"
     echo "    entries: $(grep -c '^cmd' told)"
 }
 
-# cut WHAT BYTES COMMAND..: makes a journal with `ending`, and prints what a power cycle and the next command
-# do with it.
+# cut WHAT BYTES COMMAND..: makes a journal with `ending`, and prints how a power cycle and a command change it.
 cut() {
     ending "$@"
     run "$what, power" power state
@@ -48,7 +48,7 @@ cut() {
     entries
 }
 
-# refused WHAT BYTES COMMAND..: like `cut`, for a journal whose end is damaged.
+# refused WHAT BYTES COMMAND..: like `cut`, but for a journal whose end is damaged.
 refused() {
     ending "$@"
     run "$what, run" run --state state one

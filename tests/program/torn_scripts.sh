@@ -1,5 +1,5 @@
-# Runs a script on a kept device, and makes each system call on files fail in turn. common/torn_scripts.py
-# says how the run must end, and what the image must contain.
+# Runs a script with --image, and makes each system call on files fail in turn. common/torn_scripts.py describes
+# how the run must end, and what the image must contain.
 tests=$(cd "$(dirname "$0")/.." && pwd -P)
 . "$tests/common/cases.sh"
 needs cc nm python3

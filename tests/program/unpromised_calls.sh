@@ -1,4 +1,5 @@
-# Checks that docs/THEOREMS.md lists the public functions without an `ensures`, with a reason for each file.
+# Checks that docs/THEOREMS.md lists all public functions without an `ensures` clause, with a reason for each
+# source file.
 tests=$(cd "$(dirname "$0")/.." && pwd -P)
 . "$tests/common/cases.sh"
 needs python3

@@ -1,5 +1,5 @@
-# Tests the environment variable TPMSIM_VERBOSE=1, which adds to a fault a second line with the path and the
-# system's reason. The first line stays unchanged.
+# Tests the environment variable TPMSIM_VERBOSE=1, which adds a second line to the report of a fault, with the
+# path and the system's reason. The first line stays unchanged.
 tests=$(cd "$(dirname "$0")/.." && pwd -P)
 . "$tests/common/cases.sh"
 needs python3

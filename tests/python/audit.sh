@@ -1,8 +1,8 @@
 # Tests tools/audit.py, which judges logs. It finds nothing wrong in the log of any script of tests/ and
-# examples/. For the log in which a disk is unlocked, the whole report is printed. Then come logs that are
-# altered, cut or too long, or that begin with another device; scripts with a bad line; and wrong command
-# lines. At the end come devices in Python that each do one thing wrong, which only the comparison with the
-# history finds.
+# examples/. For the log in which a disk is unlocked, the whole report is printed. Other cases are logs that are
+# altered, cut or too long, or that begin with another device; scripts with an invalid line; and wrong command
+# lines. The last cases are Python models with one deliberate mistake each, which only the comparison with the
+# history can detect.
 tests=$(cd "$(dirname "$0")/.." && pwd -P)
 . "$tests/common/cases.sh"
 needs python3
@@ -15,7 +15,8 @@ trace() {
     "$program" run --trace "$1" >"$2" 2>/dev/null
 }
 
-# judge LABEL WORDS..: adds a case, or without words a heading. One process runs all cases at the end.
+# judge LABEL WORDS..: adds a test case, or a heading if there are no arguments. One process runs all test cases
+# at the end.
 judge() {
     tab=
     for word do
@@ -25,17 +26,17 @@ judge() {
     echo >>cases
 }
 
-# at N PATTERN: prints the line number of the N-th line of the log that matches a pattern.
+# at N PATTERN: prints the line number of the Nth line of the log that matches a pattern.
 at() {
     grep -n "$2" whole | sed -n "$1s/:.*//p"
 }
 
-# bend FILE N LINE: writes the log to a file, and replaces line N with LINE.
+# bend FILE N LINE: copies the log to a file, with line N replaced by LINE.
 bend() {
     awk -v at="$2" -v instead="$3" 'NR == at { print instead; next } { print }' whole >"$1"
 }
 
-# run_audit LABEL WORDS..: runs the audit in a process of its own, and prints the whole report.
+# run_audit LABEL WORDS..: runs the audit in a separate process, and prints the whole report.
 run_audit() {
     echo "$1"
     shift
@@ -44,7 +45,7 @@ run_audit() {
     echo "status $status"
 }
 
-# The wrong devices are judged while the other cases run.
+# The audit of the models with mistakes runs at the same time as the other test cases.
 python3 "$scripts/wrong_devices.py" >wrong_devices &
 wrong_devices=$!
 

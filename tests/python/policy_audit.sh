@@ -1,8 +1,9 @@
-# Tests written policies, with which tools/audit.py judges logs. Their digests are compared with published
-# digests, and with digests that Python's hashlib computes from the bytes below. Then logs are judged: the log
-# of tests/policies/written_policies.tpm with its whole report, the log of tests/sessions/lost_grounds.tpm,
-# and the log of a device that is not new. Then come devices in Python that each do one thing wrong, and
-# broken hash functions, with which a use does not satisfy its policy. Last come files that are not policies.
+# Tests tools/audit.py with policies as a reviewer writes them. Their digests are compared with published
+# digests, and with digests that Python's hashlib computes from the bytes below. Then the audit judges logs: the
+# log of tests/policies/written_policies.tpm, with its whole report, the log of tests/sessions/lost_grounds.tpm,
+# and the log of a device that is not new. Other cases are Python models with one deliberate mistake each, and
+# broken hash functions, with which a use does not satisfy its policy. The last cases are files that are not
+# valid policies.
 # shellcheck disable=SC2154 # `eval` sets the hashes
 tests=$(cd "$(dirname "$0")/.." && pwd -P)
 . "$tests/common/cases.sh"
@@ -18,7 +19,7 @@ endorsement=837197674484b3f81a90cc8d46a5d724fd52d76e06520b64f2a1da1b331469aa
 index=000b000102030405060708090a0b0c0d0e0f101112131415161718191a1b1c1d1e1f
 comparisons='eq neq sgt ugt slt ult sge uge sle ule bs bc'
 
-# Computes digests, with nothing but hashlib. Each line contains a name, a hash algorithm, and parts that are
+# Computes digests with Python's hashlib only. Each line contains a name, a hash algorithm, and parts that are
 # concatenated: hex, or the name of an earlier digest.
 comparison_hashes() {
     number=0
@@ -100,7 +101,7 @@ echo 'PolicyNvWritten 1' | digest 'written' sha256 "$written"
 echo 'PolicySecret 00000010 6469736b' | digest 'a PCR, and a policyRef' sha256 "$of_pcr"
 echo "PolicySecret $index -" | digest 'a Name' sha1 "$of_name"
 
-# The digest of the two PCRs is the digest of 64 zero bytes. The other values are digests of the empty text.
+# `two_pcrs` is the digest of 64 zero bytes. The other values are digests of the empty text.
 printf 'PolicyPCR sha256:7,11 %s\nPolicyAuthValue\n' "$two_pcrs" |
     digest 'PCRs and the value' sha256 "$both"
 printf 'PolicyPCR sha256:7=%s,11=%s\nPolicyAuthValue\n' $zeros $zeros |
@@ -180,7 +181,7 @@ echo 'PolicyCommandCode Unseal' >policies/written_policies/unseal
 
 # trace NAME: writes the program's output for a script to a file.
 trace() {
-    # shellcheck disable=SC2094 # the script is another file
+    # shellcheck disable=SC2094 # the script and the output are different files
     "$program" run --trace "$(script "$1")" >"$1" 2>/dev/null
 }
 
@@ -256,8 +257,8 @@ awk '/^Policy/ { name = $2 } /meets it$/ { met[name]++ } /not meet/ { print }
     END { for (name in met) print name ": " met[name] }' told | sort
 sed -n '/^Each entity/,$p' told
 
-# A policy of tests/sessions/grounds.tpm, where an object has an empty authorization value. In this case the
-# audit proves nothing.
+# A policy of tests/sessions/grounds.tpm, where an object has an empty authorization value. The audit can
+# therefore prove nothing about the object's use.
 trace grounds
 mkdir policies/grounds
 echo PolicyAuthValue >policies/grounds/value
@@ -289,7 +290,8 @@ echo 'WEAK HASHES: what is told of each.'
 mkdir weak
 python3 "$scripts/weak_hashes.py" weak
 
-# judge LABEL WORDS..: adds a case, or without words a heading. One process runs all cases at the end.
+# judge LABEL WORDS..: adds a test case, or a heading if there are no arguments. One process runs all test cases
+# at the end.
 judge() {
     tab=
     for word do
@@ -312,7 +314,7 @@ head -n 20 written_policies >half
 judge 'a log that is cut' "$script" half --policy $disk
 judge 'the same policy twice' "$script" written_policies --policy $disk --policy $disk
 
-# fault LABEL LINES: adds a case with a file that contains these lines and is not a valid policy.
+# fault LABEL LINES: adds a test case with a file of these lines, which is not a valid policy.
 faults=0
 fault() {
     faults=$((faults + 1))

@@ -1,10 +1,10 @@
-# Runs the unit tests of the package in python/. They run the program under test if they need one.
-# tools/python_types.sh checks the package's types, which is not part of this test because it needs mypy.
+# Runs the unit tests of the package in python/. Those that need a program run the program under test. The
+# package's types are not checked here, but by tools/python_types.sh, because that needs mypy.
 tests=$(cd "$(dirname "$0")/.." && pwd -P)
 . "$tests/common/cases.sh"
 needs python3
 
-# The server of Microsoft's protocol is in C. Its tests are skipped if there is no compiler.
+# The server for Microsoft's simulator protocol is written in C. Its tests are skipped if there is no compiler.
 if is_there cc && is_there nm; then
     TPMSIM_SIMULATOR=$room/simulator/tpmsim-simulator
     "${tests%/*}/hosts/build.sh" simulator "$room/simulator" || exit 1
@@ -17,7 +17,7 @@ unit_tests() {
         -t "${tests%/*}/python/tests" -p "$1" 2>"$2"
 }
 
-# The tests run in two processes at the same time, since one process would take three minutes.
+# The tests run in two processes at the same time; one process alone would take three minutes.
 unit_tests 'test_e*.py' "$room/error_first" &
 first=$!
 status=0

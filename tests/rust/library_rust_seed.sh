@@ -1,5 +1,5 @@
-# Checks that a device of a seed is the same in Rust and in Python, and draws the same bytes. The names of
-# response codes and of commands are the same too.
+# Checks that a device made from a seed is the same in Rust and in Python, and draws the same random bytes. The
+# names of response codes and of commands must also be the same.
 tests=$(cd "$(dirname "$0")/.." && pwd -P)
 . "$tests/common/cases.sh"
 . "$tests/common/library.sh"

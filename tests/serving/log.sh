@@ -21,7 +21,7 @@ stat -c 'the log: %A' log
 grep -v '^# ' log | sed 's/^wait .*/wait, which is the host'"'"'s/'
 run 'the log on a new device with these random bytes' run --image anew --entropy entropy log
 
-# A program that is started on the existing image writes a log of its own.
+# A program that is started with an existing image writes a separate log.
 cp image start
 cp image played
 cp image traced
@@ -39,7 +39,7 @@ for reader in audit explain; do
     cmp "$room/read" "$room/alone"
 done
 
-# A file at the path of a log stays unchanged, and no device is served.
+# If there is a file at the path of the log, it stays unchanged, and no device is served.
 options=''
 tried() {
     run "$1" serve --socket socket --image image --entropy entropy --locality 0 --connections 1 \

@@ -1,5 +1,5 @@
-# Tests the log of a served device on a disk that becomes full. The command whose entry does not fit is not
-# answered. The program reports this and ends. The log and the image contain all answered commands, as
+# Tests the log of a served device on a disk that becomes full. A command whose entry does not fit on the disk
+# is not answered: the program reports this, and ends. The log and the image contain all answered commands, as
 # common/logged.py checks. The disk is mounted only for this test, by root or by a user who may be root in a
 # namespace.
 if [ -z "${own_mounts:-}" ]; then

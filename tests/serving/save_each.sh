@@ -1,6 +1,6 @@
 # Tests a device that is served with --save-each. Whenever the program is killed, the image has the effects of
-# all commands whose responses a client received. common/save_each.py compares the image with the Python
-# device. tools/soak/kills.sh kills the device more often.
+# all commands whose responses a client received. common/save_each.py compares the image with the Python model.
+# tools/soak/kills.sh kills the device more often.
 tests=$(cd "$(dirname "$0")/.." && pwd -P)
 . "$tests/common/cases.sh"
 . "$tests/common/served.sh"

@@ -1,5 +1,5 @@
-# Tests a device that is served on a socket: how a stream is divided into commands, what is kept from one run
-# to the next, and how the program ends.
+# Tests a device that is served on a socket: how a stream of bytes is divided into commands, what the image
+# keeps from one run to the next, and how the program ends.
 tests=$(cd "$(dirname "$0")/.." && pwd -P)
 . "$tests/common/cases.sh"
 . "$tests/common/served.sh"
@@ -8,7 +8,7 @@ startup=$(words 'Startup 0')
 random=$(words 'GetRandom 4')
 change=$(words 'HierarchyChangeAuth OWNER pw:- 6f776e')
 
-# Commands that arrive all at once, byte by byte, and in pieces of three bytes.
+# Commands are sent all at once, byte by byte, and three bytes at a time.
 for size in 4096 1 3; do
     rm -f image
     begin 1
@@ -23,8 +23,8 @@ talk 'ten commands at once' 4096 "$startup" "$random" "$random" "$random" "$rand
     "$random" "$random" "$random" "$random"
 ended 'one connection'
 
-# A connection ends within a command. That command is dropped, and the device serves the next connection. The
-# effects of the first connection remain.
+# A connection ends within a command. The incomplete command is dropped, and the device serves the next
+# connection. The effects of the complete commands remain.
 rm -f image
 begin 3
 talk 'half a command' 4096 "$startup" 80010000
@@ -33,21 +33,21 @@ talk 'the next connection' 4096 "$startup" "$random"
 ended 'three connections'
 
 # Two connections send their bytes alternately. The first connection is served to its end, and then the second
-# one. Each gets the responses to its own commands.
+# one. Each client gets the responses to its own commands.
 rm -f image
 begin 2
 echo 'two connections that take turns with each byte:'
 python3 "$tests/common/clients.py" turns socket "$startup" "$random" "$random" | sed 's/^/    /'
 ended 'two connections'
 
-# A command with a size field of 9 or of 4,097 gets a response, and ends the connection.
+# A command whose size field is 9 or 4,097 is answered, and then the connection is closed.
 rm -f image
 begin 2
 talk 'a size of 9' 4096 "$startup" 800100000009 "$random"
 talk 'a size of 4,097' 4096 800100001001 "$random"
 ended 'two connections'
 
-# The next run keeps the non-volatile state, here ownerAuth. A session would be lost.
+# The next run still has the non-volatile state, here ownerAuth. Sessions are lost between runs.
 rm -f image
 begin 1
 talk 'an authorization value' 4096 "$startup" "$change"
@@ -57,21 +57,22 @@ talk 'it is asked for in the next run' 4096 "$startup" "$change" \
     "$(words 'HierarchyChangeAuth OWNER pw:6f776e -')"
 ended 'one connection'
 
-# A killed run left an unfinished image. The next run writes it again.
+# A killed run left an unfinished image. The next run replaces it.
 echo unfinished >image.new
 begin 1
 talk 'a new image left by a crash' 4096 "$startup"
 ended 'one connection'
 [ ! -e image.new ] || echo 'image.new is still there'
 
-# Without a connection, the socket is made and removed, and nothing is saved.
+# With --connections 0, the socket is made and removed, and nothing is saved.
 rm -f image
 begin 0
 ended 'no connection'
 [ ! -e image ] || echo 'an image is there'
 
-# A socket file that an earlier run left is replaced. A socket on which a process answers is not replaced, and
-# neither is another file. The attempt to connect counts as one of that process's connections.
+# A socket file left by an earlier run is replaced. A socket on which a process still listens is not replaced,
+# and neither is any other file. To find out, the program connects to the socket, which counts as one of the
+# other process's connections.
 begin 2
 until [ -S socket ]; do sleep 0.01; done
 run 'a socket that is answered' serve --socket socket --image other --entropy entropy \

@@ -1,5 +1,5 @@
-# Tests clients that disconnect early, clients that keep other clients waiting, and a long connection. The
-# device serves connections one after another, each to its end.
+# Tests clients that disconnect early, clients that make other clients wait, and a long connection. The program
+# serves connections one after another, each to its end.
 tests=$(cd "$(dirname "$0")/.." && pwd -P)
 . "$tests/common/cases.sh"
 . "$tests/common/served.sh"
@@ -15,9 +15,9 @@ client_of() {
     python3 "$tests/common/clients.py" "$1" socket "$2" ${3:+"$3"} | sed 's/^/    /'
 }
 
-# Clients that close early: after nothing, a tag, a header, or a command without its last byte. None of their
-# commands is executed: a later TPM2_Startup succeeds. The last client sends a whole command, which is
-# executed although nobody reads the response.
+# Clients that close the connection after sending nothing, a tag, a header, or a command without its last byte.
+# None of their commands is executed, so a later TPM2_Startup succeeds. The last client sends a complete
+# command, which is executed although nobody reads the response.
 rm -f image
 begin 6
 client_of close ''
@@ -42,7 +42,7 @@ for kind in idle unread; do
     ended 'two connections'
 done
 
-# Five million bytes of commands. They are answered while they are sent.
+# A client sends five million bytes of commands, which are answered while it sends.
 rm -f image
 begin 3
 talk 'an NV index' 4096 "$startup" \

@@ -4,7 +4,7 @@ tests=$(cd "$(dirname "$0")/.." && pwd -P)
 . "$tests/common/cases.sh"
 . "$tests/common/served.sh"
 
-# Sends one command after the other, for a second.
+# Sends commands one after another for a second.
 rm -f entropy image
 ln -s /dev/zero entropy
 begin 1

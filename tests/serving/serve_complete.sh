@@ -1,5 +1,5 @@
-# Tests `serve --state DIR --complete`: the completing layer answers commands that the device in the folder
-# does not support.
+# Tests `serve --state DIR --complete`: with this option, the completing layer answers commands that the device
+# in the folder does not support.
 tests=$(cd "$(dirname "$0")/.." && pwd -P)
 . "$tests/common/cases.sh"
 . "$tests/common/served.sh"
@@ -10,7 +10,7 @@ result=80010000000a0000017c
 stir=80010000000c000001460000
 algorithms=8001000000160000017a000000000000000000000001
 
-# serve LABEL WORDS..: serves one connection of the device in the folder `state`.
+# serve LABEL WORDS..: serves the device in the folder `state` for one connection, with these options.
 serve() {
     label=$1
     shift
@@ -29,7 +29,7 @@ serve 'without the layer'
 cp state/journal without
 "$program" power state || echo 'no power cycle'
 serve 'with the layer' --complete
-# In the journal, each command says whether the layer was on. --save-each does not change that.
+# Each entry of the journal records whether the layer was on, with --save-each as without it.
 "$program" power state || echo 'no power cycle'
 serve 'with the layer, and each response forced to the disk' --save-each --complete
 "$program" script state | grep -c '^# completed'

@@ -1,4 +1,4 @@
-# Tests `serve` without --entropy, --locality and --connections. By default it uses random bytes of the system
+# Tests `serve` without --entropy, --locality and --connections. By default it uses the system's random bytes
 # and locality 0, and serves any number of connections.
 tests=$(cd "$(dirname "$0")/.." && pwd -P)
 . "$tests/common/cases.sh"
@@ -9,7 +9,7 @@ read=$(words 'PCR_Read sha256:17')
 # PCR 17 cannot be extended from locality 0.
 extend=$(words "PCR_Extend 00000011 pw:- sha256:$(printf '%064d' 1)")
 
-# serve LABEL WORDS..: serves three connections, and then kills the program.
+# serve LABEL WORDS..: serves three connections with these options, and then kills the program.
 serve() {
     label=$1
     shift
@@ -28,7 +28,7 @@ serve 'an image' --image image
 serve 'a folder' --state state
 serve 'another device in a folder' --state other
 
-# Each device has different random bytes.
+# The three devices must have returned different random bytes.
 sort -u random | grep -c .
 
 # Explicit values still apply, and --socket has no default.

@@ -1,5 +1,5 @@
-# Runs the lines of docs/USING.md that serve a device and seal a key with tpm2-tools, exactly as written
-# there. The last tool prints the key.
+# Runs the lines of docs/USING.md that serve a device and seal a key with tpm2-tools, exactly as written there.
+# The last line prints the key.
 tests=$(cd "$(dirname "$0")/.." && pwd -P)
 . "$tests/common/cases.sh"
 needs tpm2 socat
@@ -14,7 +14,7 @@ block() {
 }
 
 ln -s "$program" tpmsim
-# shellcheck disable=SC2016 # the lines expand it
+# shellcheck disable=SC2016 # the extracted shell lines expand it
 { block 'A device on a socket' && echo 'echo "$!" >served' && block 'tpm2-tools and libtss2'; } >lines
 timeout 60 sh lines >"$room/output" 2>"$room/told" || cat "$room/told"
 kill "$(cat served)"

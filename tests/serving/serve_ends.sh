@@ -1,5 +1,5 @@
-# Tests connections that end with a fault, because the device cannot read or cannot write. The image has the
-# effects of the earlier commands, and the next connection is served.
+# Tests connections that end with a fault, because the program cannot read from them or write to them.
+# Afterwards the image has the effects of the earlier commands, and the next connection is served.
 tests=$(cd "$(dirname "$0")/.." && pwd -P)
 . "$tests/common/cases.sh"
 . "$tests/common/served.sh"

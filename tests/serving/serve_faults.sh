@@ -1,5 +1,5 @@
-# Tests the command lines of `tpmsim serve`, and the files that it cannot use. The program first checks the
-# command line, then the image, the random bytes and the socket, and finally each connection.
+# Tests the command lines of `tpmsim serve`, and files that it cannot use. The program first checks the command
+# line, then the image, the random bytes and the socket, and finally each connection.
 common=$(cd "$(dirname "$0")/.." && pwd -P)/common
 tests=$(cd "$(dirname "$0")/.." && pwd -P)
 . "$tests/common/cases.sh"
@@ -12,8 +12,8 @@ small=
 head -c 768 /dev/zero >entropy
 mkdir a_folder
 
-# serve LABEL WORDS..: runs `serve` with these options and valid values for the other options. By default it exits
-# without accepting a connection.
+# serve LABEL WORDS..: runs `serve` with these options and valid values for the other options. Unless
+# --connections is among them, it exits without accepting a connection.
 serve() {
     label=$1
     shift
@@ -27,7 +27,7 @@ serve() {
     [ ! -e socket ] || echo '    the socket is still there'
 }
 
-# small WORDS..: runs a program that cannot write more than 512 bytes to a file.
+# small WORDS..: runs a program that cannot make a file larger than 512 bytes.
 small() {
     trap '' XFSZ
     ulimit -f 1
@@ -71,8 +71,8 @@ serve '2^32 connections' --connections 4294967296
 serve 'a number of connections with a sign' --connections -1
 serve 'a hex number of connections' --connections 0x1
 
-# The order of the checks: the command line before the image, the image before the random bytes, and these
-# before the socket.
+# The order of the checks: the command line before the image, the image before the random bytes, and the random
+# bytes before the socket.
 serve 'a bad locality, and no image' --locality 5 --image a_folder
 serve 'no image, and no random bytes' --image a_folder --entropy missing
 serve '2^32 - 1 connections, and no random bytes' --connections 4294967295 --entropy missing
@@ -92,8 +92,8 @@ serve 'an empty file' --image empty
 serve 'a folder in place of an image' --image a_folder
 serve 'a file in place of a folder' --image empty/image
 
-# Random bytes are missing or too few, when the device is manufactured or at a command. The device is saved
-# before the program ends.
+# The random bytes are missing, or too few to manufacture the device or to execute a command. The device is
+# saved before the program ends.
 serve 'no random bytes' --entropy missing
 rm -f image
 serve 'too few for a new device' --entropy few

@@ -1,5 +1,5 @@
-# Tests the files of a served device: some are links, some are removed or replaced while the device is served,
-# and the random bytes run out.
+# Tests the files of a served device: links, files that are removed or replaced while the device is served, and
+# random bytes that run out.
 tests=$(cd "$(dirname "$0")/.." && pwd -P)
 . "$tests/common/cases.sh"
 . "$tests/common/served.sh"
@@ -13,8 +13,8 @@ tried() {
     run "$1" serve --socket socket --image "$2" --entropy entropy --locality 0 --connections 0
 }
 
-# The image is a link. It is read from the link's target. A new file replaces the link, and the target stays
-# unchanged.
+# The image is a link. The device is read from the link's target. When it is saved, a new file replaces the
+# link, and the target stays unchanged.
 begin 1
 talk 'an authorization value' 4096 "$startup" "$change"
 ended 'one connection'
@@ -49,8 +49,8 @@ meanwhile() {
     ended 'one connection'
 }
 
-# The image is removed or blocked while the device is served. A removed image is written again. If it cannot
-# be written, the program reports that.
+# The image is removed or blocked while the device is served. If it was removed, it is written again. If it
+# cannot be written, the program reports that.
 cp kept image
 meanwhile 'the image is removed' 'rm image'
 [ ! -f image ] || echo 'the image is there again'
@@ -63,7 +63,7 @@ meanwhile 'the folder of the image is removed' 'rm -r state'
 image=
 
 # The socket file is removed, or replaced by a folder, while the device is served. Every connected client is
-# served, even one that is still in the queue. A folder at the socket's path remains there after the run.
+# served, even one that is still in the queue. The program does not remove a folder at the socket's path.
 for kind in removed folder; do
     rm -f image
     begin 2
@@ -73,7 +73,7 @@ for kind in removed folder; do
 done
 rmdir socket
 
-# Another file, or another run's socket, replaces the socket. It remains there after the run.
+# Another file, or another run's socket, replaces the socket. The program does not remove it at the end.
 rm -f image
 meanwhile 'a file takes the place of the socket' 'rm socket; echo taken >socket'
 cat socket
@@ -86,8 +86,8 @@ until [ ! -e socket ]; do sleep 0.01; done
 cat "$room/others"
 echo 'it has removed its socket'
 
-# There are enough random bytes to manufacture the device and for two commands, but not for a third one. They
-# run out in the second connection. The effects of the earlier commands are saved.
+# The random bytes suffice to manufacture the device and for two commands, but not for a third one. They run out
+# during the second connection. The effects of the earlier commands are saved.
 mv entropy enough
 head -c 868 enough >entropy
 rm -f image

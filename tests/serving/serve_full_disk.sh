@@ -1,6 +1,6 @@
-# Checks that the image of a served device on a full disk stays unchanged. When there is space again, the
-# device continues from there. The disk is mounted only for this test, by root or by a user who may be root in
-# a namespace.
+# Checks that the image of a served device on a full disk stays unchanged. When there is space again, the device
+# continues from that image. The disk is mounted only for this test, by root or by a user who may be root in a
+# namespace.
 if [ -z "${own_mounts:-}" ]; then
     for user in '' '--user --map-root-user'; do
         # shellcheck disable=SC2086 # word splitting is intended
@@ -35,6 +35,6 @@ rm disk/full
 begin 1
 talk 'a disk with room again' 4096 "$startup" "$back"
 ended 'one connection'
-# shellcheck disable=SC2012 # the file names are known
+# shellcheck disable=SC2012 # the files have simple names
 echo "on it: $(ls -A disk | tr '\n' ' ')"
 umount disk

@@ -1,12 +1,12 @@
-# Tests the clock of a served device while the test sets the host's clock: common/clock.c replaces the C
-# library's function. The device counts whole milliseconds, and loses none between two commands. If the host's
-# clock goes back, the device's clock does not.
+# Tests the clock of a served device while the host's clock changes: common/clock.c replaces clock_gettime. The
+# device counts whole milliseconds, and loses none between two commands. If the host's clock goes back, the
+# device's clock stays the same.
 tests=$(cd "$(dirname "$0")/.." && pwd -P)
 . "$tests/common/cases.sh"
 . "$tests/common/served.sh"
 needs cc
 
-# now SECONDS NANOSECONDS: sets the host's clock to this time after the start of the test.
+# now SECONDS NANOSECONDS: sets the host's clock to this time, counted from the start of the test.
 now() {
     echo "$((1000000 + $1)) $2" >clock.new && mv clock.new clock
 }

@@ -1,6 +1,6 @@
 # Checks that only the owner of a served device may access its files, whatever the umask: the image, which
-# contains the device's seeds and authorization values, and the socket. Also tests which paths the socket may
-# have.
+# contains the device's seeds and authorization values, and the socket. Also tests valid and invalid paths of
+# the socket.
 tests=$(cd "$(dirname "$0")/.." && pwd -P)
 . "$tests/common/cases.sh"
 . "$tests/common/served.sh"
@@ -15,7 +15,7 @@ for mask in 000 022 077; do
     echo "umask $mask: the socket is $(stat -c %A socket)"
     talk 'a connection' 4096 "$startup"
     ended 'one connection'
-    # shellcheck disable=SC2012 # the file names are known
+    # shellcheck disable=SC2012 # the files have simple names
     echo "umask $mask: the image is $(stat -c %A image), and beside it: $(ls -A | tr '\n' ' ')"
 done
 umask 000
@@ -27,8 +27,8 @@ talk 'an image that everybody may read' 4096 "$startup"
 ended 'one connection'
 stat -c %A image
 
-# At the path of the new image there is a file that a killed run left, and later a link. The link's target
-# stays unchanged.
+# At the path of the new image, first there is a file that a killed run left, and then a link. The link's target
+# must stay unchanged.
 echo untouched >target
 echo unfinished >image.new
 begin 1

@@ -1,6 +1,6 @@
-# Tests a client that never stops sending. Its connection ends after 1,048,576 reads that returned bytes. With
-# the shim single.c each read returns one byte, so that 95,325 commands of eleven bytes are answered. Then the
-# next connection is served.
+# Tests a client that never stops sending. Its connection ends after 1,048,576 reads that returned bytes.
+# Because the shim single.c makes each read return one byte, the client gets responses to 95,325 commands of
+# eleven bytes. Then the next connection is served.
 tests=$(cd "$(dirname "$0")/.." && pwd -P)
 . "$tests/common/cases.sh"
 . "$tests/common/served.sh"

@@ -1,11 +1,11 @@
-# Checks that a client that has to wait, because another client's connection is still open, is reported once.
+# If a client has to wait because another client's connection is still open, the program must report this once.
 tests=$(cd "$(dirname "$0")/.." && pwd -P)
 . "$tests/common/cases.sh"
 . "$tests/common/served.sh"
 
 startup=$(words 'Startup 0')
 
-# serve LABEL WORDS..: serves three clients, of which the second and the third wait.
+# serve LABEL WORDS..: serves three clients. The second and the third have to wait.
 serve() {
     label=$1
     shift
@@ -24,7 +24,7 @@ serve() {
 serve 'an image' --image image
 serve 'a folder' --state state
 
-# If nobody waits, a client that is silent for four seconds is not reported.
+# If no other client waits, nothing is reported about a client that sends nothing for four seconds.
 : >"$room/error"
 timeout 60 "$program" serve --socket socket --state state --connections 1 >"$room/output" \
     2>"$room/error" &

@@ -1,6 +1,6 @@
-/* A caller that replaces swtpm. It opens the libtpms.so.0 that its argument names, reads one line
- * for each call from standard input, and prints the result. It stores states as files in its
- * working folder, with the names that the library uses. A line is one of these:
+/* A program that takes the role of swtpm. It opens the libtpms.so.0 that its argument names, reads
+ * one line for each call from standard input, and prints the result. It stores states as files in
+ * its working folder, with the names that the library uses. A line is one of these:
  *
  *   on, off                      TPMLIB_MainInit, TPMLIB_Terminate
  *   loc N                        the locality from now on; `loc none`: none is reported
@@ -91,15 +91,15 @@ static void get_state(const char *type, const char *path) {
     free(bytes);
 }
 
-/* Sets a state, which the library must refuse and report in one log line. Counts the cases in which
- * it does not. */
+/* Tries to set a state. The library must refuse it, and log that in one line. Counts the states for
+ * which it does not. */
 static void must_be_refused(const char *type, const unsigned char *bytes, size_t size, size_t *wrong) {
     if (library.set_state(type_of(type), bytes, (uint32_t)size) != TPM_FAIL) ++*wrong;
     if (logged_lines() != 1) ++*wrong;
 }
 
-/* Sets a state in which one byte is changed, for each byte: in its lowest bit, its highest bit, and
- * all bits. */
+/* Tries to set a state in which one byte is changed, for each byte in turn: its lowest bit, its
+ * highest bit, or all bits. */
 static void turn(const char *type, const char *path) {
     static const uint8_t masks[] = {0x01, 0x80, 0xff};
     size_t size, wrong = 0;
@@ -116,8 +116,8 @@ static void turn(const char *type, const char *path) {
     free(bytes);
 }
 
-/* Sets each prefix of a state, in a block of exactly its size, and the state with an additional
-   byte. */
+/* Tries to set each prefix of a state, in a block of exactly its size, and the state with an
+   additional byte. */
 static void cut(const char *type, const char *path) {
     size_t size, wrong = 0;
     unsigned char *bytes = read_file(path, &size);
@@ -152,7 +152,7 @@ static void established(void) {
     printf("TpmEstablished: %u, %u\n", result, is);
 }
 
-/* Sets the time of common/clock.c. */
+/* Sets the time that common/clock.c returns. */
 static void set_clock(const char *seconds) {
     char text[64];
     int size = snprintf(text, sizeof text, "%s 0\n", seconds);

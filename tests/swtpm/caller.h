@@ -1,5 +1,5 @@
-/* Declarations for the caller that replaces swtpm: the library's functions, and the callbacks that
- * store states in files. */
+/* Declarations for a program that takes the role of swtpm: the library's functions, and the
+ * callbacks that store states in files. */
 #ifndef CALLER_H
 #define CALLER_H
 
@@ -12,15 +12,15 @@
 
 enum { TYPES = 3 };
 
-/* Ends the program with a reason unless a condition holds. */
+/* Ends the program with a message unless a condition holds. */
 void must(int condition, const char *reason);
 
 /* Returns the bytes of a file, which the caller must free, or NULL if the file does not exist. */
 unsigned char *read_file(const char *path, size_t *size);
 void write_file(const char *path, const unsigned char *bytes, size_t size);
 
-/* Returns the descriptor of a file for a library's log. The second function counts its lines, and
- * empties it. */
+/* Returns the descriptor of a file for a library's log. The second function counts the lines of
+ * that file, and empties it. */
 int log_to_file(void);
 size_t logged_lines(void);
 
@@ -50,7 +50,7 @@ struct library {
 };
 
 /* Opens a library, looks up each of its functions with the version that swtpm needs, and registers
- * the callbacks. The library's log goes to standard output. */
+ * the callbacks. The library writes its log to standard output. */
 void open_library(struct library *library, const char *path);
 
 /* Sets how the callbacks behave from now on. */
@@ -58,7 +58,7 @@ void tell_locality(const char *number);
 void let_stores_fail(int fail);
 void let_loads_fail(int fail);
 
-/* Sets whether the disk of a record works, fills up while a text is written, or also fails to
+/* Sets whether the disk for the record works, fills up while a text is written, or also fails to
  * truncate a file. */
 void tell_disk(const char *state);
 

@@ -1,6 +1,6 @@
 # Tests the time of a device in swtpm with different clocks of the host. The device stays in one process, or
-# continues in another process on a host whose clock is late or early, even by more than the 2^32 - 1
-# milliseconds that one command can add. common/clock.c replaces the clock.
+# continues in another process on a host whose clock is slow or fast. The difference can exceed the 2^32 - 1
+# milliseconds by which one command can advance the device's clock. common/clock.c replaces the clock.
 tests=$(cd "$(dirname "$0")/.." && pwd -P)
 . "$tests/common/cases.sh"
 . "$tests/common/swtpm.sh"

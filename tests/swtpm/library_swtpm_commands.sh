@@ -1,5 +1,5 @@
-# Tests libtpms.so.0 with a caller that replaces swtpm, swtpm/caller.c: power, commands, localities, when each
-# state is stored, stores that fail, and the information on the TPM.
+# Tests libtpms.so.0 with swtpm/caller.c, which takes the role of swtpm: power, commands, localities, when each
+# state is stored, callbacks that fail to store it, and the information on the TPM.
 tests=$(cd "$(dirname "$0")/.." && pwd -P)
 . "$tests/common/cases.sh"
 . "$tests/common/swtpm.sh"

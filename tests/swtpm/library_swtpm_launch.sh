@@ -1,5 +1,5 @@
-# Tests a dynamic launch of a device in swtpm, with TPM_IO_Hash_Start, Data and End. PCR 17 must have the
-# value that Python's hashlib computes, for texts of each length in the blocks of SHA-1 and SHA-256. See
+# Tests a dynamic launch of a device in swtpm, with TPM_IO_Hash_Start, Data and End. PCR 17 must have the value
+# that Python's hashlib computes, for texts of each length modulo the block size of SHA-1 and SHA-256. See
 # swtpm/caller.c.
 tests=$(cd "$(dirname "$0")/.." && pwd -P)
 . "$tests/common/cases.sh"

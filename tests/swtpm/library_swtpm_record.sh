@@ -1,6 +1,6 @@
-# Tests the records that libtpms.so.0 writes if TPMSIM_RECORD is set. There is one journal for each period
-# from power-on to power-off, and for each device that continues in another process. The program plays the
-# journals. Also tests a record that cannot be begun or written. See swtpm/caller.c.
+# Tests the records that libtpms.so.0 writes if TPMSIM_RECORD is set. There is one journal for each period from
+# power-on to power-off, and a new one when a device continues in another process. The program must be able to
+# play the journals. Also tests a record that cannot be begun or written. See swtpm/caller.c.
 tests=$(cd "$(dirname "$0")/.." && pwd -P)
 . "$tests/common/cases.sh"
 . "$tests/common/swtpm.sh"
@@ -9,7 +9,7 @@ TPMSIM_RECORD=.
 export TPMSIM_RECORD
 umask 0
 
-# power_on_of RECORD: writes the image with which a record begins.
+# power_on_of RECORD: writes the image at the beginning of a record to standard output.
 power_on_of() {
     sed -n '2s/^# //p' "$1" | python3 -c \
         'import sys; sys.stdout.buffer.write(bytes.fromhex(sys.stdin.read()))'

@@ -1,6 +1,6 @@
-# Tests tpmsim-swtpm, which libvirt also runs as its swtpm, and swtpm_setup. A stand-in for swtpm prints how
-# it was started. hosts/build.sh builds the same bytes of libtpms each time, and reports which tools are
-# missing.
+# Tests tpmsim-swtpm, which libvirt also runs as its swtpm, and swtpm_setup. A stand-in for swtpm prints its
+# arguments and environment. hosts/build.sh must produce the same bytes of libtpms each time, and reports which
+# tools are missing.
 tests=$(cd "$(dirname "$0")/.." && pwd -P)
 . "$tests/common/cases.sh"
 . "$tests/common/swtpm.sh"

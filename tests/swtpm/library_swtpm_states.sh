@@ -1,6 +1,6 @@
-# Tests the states of libtpms.so.0 with a caller that replaces swtpm, swtpm/caller.c: a device that continues
+# Tests the states of libtpms.so.0 with swtpm/caller.c, which takes the role of swtpm: a device that continues
 # in another process, and the content of its volatile state. Also tests states of other devices and libraries,
-# states in which a byte is changed or that are cut, and states that are set at the wrong time.
+# states with a changed byte, states that are cut off, and states that are set at the wrong time.
 tests=$(cd "$(dirname "$0")/.." && pwd -P)
 . "$tests/common/cases.sh"
 . "$tests/common/swtpm.sh"

@@ -1,4 +1,4 @@
-// Drives Chromium without a window, over the pipe of its DevTools protocol. It needs no package.
+// Controls a headless Chromium through the pipe of its DevTools protocol. It needs no package.
 
 import { spawn } from "node:child_process";
 import fs from "node:fs";
@@ -14,7 +14,7 @@ export const ALT = 1, CTRL = 2, SHIFT = 8;
 
 export const sleep = (milliseconds) => new Promise((done) => setTimeout(done, milliseconds));
 
-/** A browser with its own folder. */
+/** A running browser with its own profile folder. */
 export class Browser {
   static async start(program = process.env.CHROMIUM || "chromium") {
     const folder = fs.mkdtempSync(path.join(os.tmpdir(), "page-"));
@@ -74,7 +74,7 @@ export class Browser {
   }
 }
 
-/** A page, with everything that it said on its console, and each address that it requested. */
+/** A page, with all its console output, and each address that it requested. */
 class BrowserPage {
   constructor(browser, session, target) {
     Object.assign(this, { browser, session, target, said: [], asked: [] });
@@ -106,7 +106,7 @@ class BrowserPage {
     }
   }
 
-  /** Puts the page in front of the others; only the front page gets keys. */
+  /** Brings the page to the front. Only the front page receives keys. */
   async front() {
     await this.send("Page.bringToFront");
     await this.until("document.hasFocus()");
@@ -129,7 +129,7 @@ class BrowserPage {
     await this.send("Input.dispatchKeyEvent", { type: "keyUp", ...it });
   }
 
-  /** Replaces the present script by another one, as if it was typed. */
+  /** Replaces the script in the page by another one, as if a user typed it. */
   async write(text) {
     await this.front();
     await this.value("(document.getElementById('text').focus(), document.getElementById('text').select())");
@@ -148,7 +148,7 @@ class BrowserPage {
   }
 }
 
-/** Removes a folder, in which the browser may still write for a moment. */
+/** Removes a folder to which the browser may still write for a moment. */
 async function removed(folder) {
   for (let left = 20; left > 0; left -= 1) {
     try {

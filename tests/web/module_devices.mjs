@@ -1,5 +1,6 @@
-// What the module keeps and accepts of devices, for module_devices.sh: images, state texts and journals, good and
-// bad ones, places that are used again, the completing layer, and calls without a device.
+// Checks how the module saves and opens devices, for module_devices.sh: valid and invalid images,
+// state texts and journals, handles that are used again, the completing layer, and calls without a
+// device.
 import { readFileSync } from 'node:fs';
 import { Module, Player, hex } from '../../web/play.mjs';
 
@@ -15,7 +16,7 @@ function told(name, good) {
     console.log(`${name}: ${good ? 'yes' : 'NO'}`);
 }
 
-/** Performs lines, and returns what they print. @param {Player} player @param {string[]} lines */
+/** Executes lines, and returns what they print. @param {Player} player @param {string[]} lines */
 function perform(player, lines) {
     const from = player.printed.length;
     for (const line of lines) {

@@ -1,4 +1,4 @@
-# Tests in node how the module for web pages keeps and restores devices. module_devices.mjs says what is
+# Tests in node how the module for web pages keeps and restores devices. module_devices.mjs lists what is
 # checked.
 tests=$(cd "$(dirname "$0")/.." && pwd -P)
 . "$tests/common/cases.sh"

@@ -1,5 +1,5 @@
-# Tests the module for web pages in node. The module imports nothing, and plays each script like the program,
-# with the same responses, traces, and first bad line.
+# Tests the module for web pages in node. The module imports nothing. It must play each script like the program,
+# with the same responses and traces, and report the same first invalid line.
 tests=$(cd "$(dirname "$0")/.." && pwd -P)
 . "$tests/common/cases.sh"
 needs node python3

@@ -1,5 +1,5 @@
-# Tests the module for web pages in node. Its output for lines, commands and codes in words is the same as the
-# program's, byte for byte.
+# Tests the module for web pages in node. Its output for lines, commands and codes in words must be the same as
+# the program's.
 tests=$(cd "$(dirname "$0")/.." && pwd -P)
 . "$tests/common/cases.sh"
 needs node python3
@@ -7,12 +7,12 @@ top=${tests%/*}
 module=$top/dist/tpmsim.wasm
 codes='0 1e 100 12f 14a 901 921 922 98e 9a2 18b 28b 1c4 2d5 4d4 a95 b84 1000 ffff'
 
-# words TASK..: prints the module's output for a task.
+# words TASK..: prints the output of module_words.mjs for a task.
 words() {
     node "$tests/web/module_words.mjs" "$module" "$@"
 }
 
-# same NAME: prints whether both outputs are the same, and are not empty.
+# same NAME: prints whether the outputs of the program and the module are the same and not empty.
 same() {
     if [ -s "program.$1" ] && cmp "program.$1" "module.$1"; then
         echo "$1: the same"

@@ -1,5 +1,6 @@
-// Whether people who use only keys, or a screen reader, can use the page in Chromium: page_access.mjs
-// ADDRESS. It prints a line for each condition, and the status is 1 if one does not hold.
+// Whether people who use only keys, or a screen reader, can use the page in Chromium:
+// page_access.mjs ADDRESS. It prints a line for each condition, and the status is 1 if one does not
+// hold.
 
 import { Browser, CTRL, SHIFT, sleep } from "./browser.mjs";
 
@@ -23,7 +24,7 @@ const focused = (page) => page.value("document.activeElement.id || document.acti
 const REFUSED = "do Startup 0\ndo NV_DefineSpace OWNER pw:- - 01000001000b0002000200000008\ndo NV_Read OWNER 01000001 pw:- 8 0\ndo GetRandom x";
 const NO_ROLES = new Set(["generic", "none", "unknown", "presentation", undefined]);
 
-/** Elements that can get the focus and have no role or no name. */
+/** Returns the elements that can get the focus but have no role or no name. */
 async function nameless(page) {
   const { nodes } = await page.send("Accessibility.getFullAXTree", {});
   const canFocus = (it) => !it.ignored && it.properties?.some(({ name, value }) => name === "focusable" && value.value === true);
@@ -94,7 +95,7 @@ async function order() {
   await page.close();
 }
 
-/** The visible texts whose contrast is below AA, as a script for the page. */
+/** A script for the page that finds the visible texts whose contrast is below level AA. */
 const FAINT = `(() => {
   const parsed = (text) => { const found = text.match(/[\\d.]+/g).map(Number); return text.startsWith("color(") ? [...found.slice(0, 3).map((it) => it * 255), found[3] ?? 1] : [...found.slice(0, 3), found[3] ?? 1]; };
   const over = (top, below) => [0, 1, 2].map((it) => top[it] * top[3] + below[it] * (1 - top[3])).concat(1);

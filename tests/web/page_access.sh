@@ -1,5 +1,5 @@
-# Tests the page for people who use only the keyboard, or a screen reader: roles and names, announcements,
-# focus order, contrast, and the tutorial with keys only.
+# Tests whether the page is usable with only the keyboard or with a screen reader: roles and names,
+# announcements, focus order, contrast, and the tutorial with keys only.
 tests=$(cd "$(dirname "$0")/.." && pwd -P)
 . "$tests/common/cases.sh"
 needs chromium node

@@ -1,5 +1,5 @@
-// Tests the page in Chromium without a window: page_browser.mjs ADDRESS. It prints a line for each condition,
-// and the status is 1 if one does not hold.
+// Tests the page in Chromium without a window: page_browser.mjs ADDRESS. It prints a line for each
+// condition, and the status is 1 if one does not hold.
 
 import fs from "node:fs";
 import { ALT, Browser, CTRL, sleep } from "./browser.mjs";
@@ -26,7 +26,7 @@ const bad = (page) => page.value("[...document.querySelectorAll('.side .out.bad'
 const script = (page) => page.value("document.getElementById('text').value");
 const facts = (page) => page.value("JSON.parse(document.getElementById('facts').textContent)");
 
-/** Puts a file on the page, as if it was dropped. */
+/** Puts a file on the page, as if a user dropped it there. */
 const drop = (page, name, bytes) => page.value(`(async () => {
   const bytes = Uint8Array.from(atob(${JSON.stringify(Buffer.from(bytes).toString("base64"))}), (it) => it.charCodeAt(0));
   const data = new DataTransfer();
@@ -35,7 +35,7 @@ const drop = (page, name, bytes) => page.value(`(async () => {
   await new Promise((done) => setTimeout(done, 300));
 })()`);
 
-/** The bytes of a download. */
+/** Returns the bytes of a download. */
 const taken = (page, what) => page.value(`new Promise((done) => {
   const before = URL.createObjectURL;
   URL.createObjectURL = (blob) => {
@@ -114,7 +114,7 @@ async function keyboard(page) {
   say(await page.value("document.getElementById('keys').open"), "a question mark shows the keys");
 }
 
-/** Home shows the start of a long line, which the line numbers do not hide. */
+/** Checks that the key Home shows the start of a long line, which the line numbers must not hide. */
 async function longLine(page) {
   const scrolled = () => page.value("document.getElementById('text').scrollLeft");
   await page.write(`do Startup 0\ncmd ${"80".repeat(400)}`);
@@ -156,7 +156,7 @@ async function refusal(page) {
   say(device.includes("01000001") && device.includes("not written") && device.includes("changed"), "the device after it has the index, set off", device.slice(0, 300));
 }
 
-/** A script of tests/sessions in which sessions encrypt. */
+/** Checks a script of tests/sessions in which sessions encrypt. */
 async function encrypted(page) {
   const lines = fs.readFileSync("../../sessions/session_encryption.tpm", "utf8").split("\n").slice(0, 60);
   await page.write(lines.join("\n"));
@@ -178,7 +178,8 @@ const paste = (page, text) => page.value(`(() => {
   if (document.getElementById("text").dispatchEvent(event)) document.execCommand("insertText", false, ${JSON.stringify(text)});
 })()`);
 
-// What programs print of one command, whose end also looks like hex in characters.
+// The output of several programs for one command. The last characters of the command also look like
+// hex.
 const DUMPS = {
   "hexdump -C": "00000000  80 01 00 00 00 12 00 00  01 7b 00 08 61 62 63 64  |.........{..abcd|\n00000010  65 66                                             |ef|\n00000012\n",
   xxd: "00000000: 8001 0000 0012 0000 017b 0008 6162 6364  .........{..abcd\n00000010: 6566                                     ef\n",
@@ -187,7 +188,8 @@ const DUMPS = {
   "the page": "0000 8001000000120000017b000861626364\n0010 6566\n",
 };
 
-/** An example that replaces a script leaves a way back to it, until the next edit. */
+/** Checks that after an example has replaced a script, the user can return to that script until the
+ * next edit. */
 async function former(page) {
   const isOffered = () => page.value("!document.getElementById('former').hidden");
   await page.write("do Startup 0\n# mine");
@@ -221,7 +223,7 @@ async function pasted(page) {
   say((await script(page)) === "cmd 80010000000c000001440000\n", "a dropped command in binary becomes a line", await script(page));
 }
 
-/** The page of a log that tools/explain.py explained, whose address is next to that of the page. */
+/** Checks the page for a log that tools/explain.py explained. Its address is the next argument. */
 async function explained() {
   const page = await browser.open(process.argv[3]);
   pages.push(page);
@@ -269,7 +271,7 @@ async function lessons(page) {
   say(await page.value("document.getElementById('lesson').hidden"), "the tutorial ends");
 }
 
-/** The last task as a reader does it, and a lesson that is left and resumed. */
+/** Performs the last task as a reader does, and leaves and resumes a lesson. */
 async function lessonsLeft() {
   const page = await open();
   const isHidden = () => page.value("document.getElementById('lesson').hidden");
@@ -362,7 +364,8 @@ async function files(page) {
   say((await bad(page))[0]?.startsWith("no device: "), "a damaged image is said to be none", (await bad(page)).join(" "));
 }
 
-/** How many times slower this machine is at present than one on which times are as they should be. */
+/** Returns how many times slower this machine is at present than the one for which the time limits
+ * were chosen. */
 async function slowness(page) {
   const took = await page.value(`(() => {
     const begun = performance.now();
@@ -396,7 +399,7 @@ async function speed() {
   if (process.env.FIGURES) console.log(`10,000 commands ${Math.round(took)} ms, an edit of 1,000 ${Math.round(edit)} ms, of 10,000 ${Math.round(long)} ms, slowness ${slow.toFixed(1)}`);
 }
 
-/** The time of an edit in the middle of a script, in milliseconds: the least of four. */
+/** Returns the time of an edit in the middle of a script, in milliseconds: the minimum of four. */
 function edited(page, lines) {
   return page.value(`(async () => {
     const area = document.getElementById("text");

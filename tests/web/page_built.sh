@@ -1,6 +1,6 @@
-# Checks the page in dist/ without a browser. It is the page that web/build.py makes. Its content security
-# policy contains the hashes of its style and its script. Its links lead to sections of docs/table. Its
-# colours have enough contrast.
+# Checks the page in dist/ without a browser. It must be the page that web/build.py makes. Its content security
+# policy must contain the hashes of its style and its script. Its links must lead to sections of docs/table. Its
+# colours must have enough contrast.
 tests=$(cd "$(dirname "$0")/.." && pwd -P)
 . "$tests/common/cases.sh"
 needs python3

@@ -1,4 +1,4 @@
-// Compares the fields of commands and responses, as the page has them, with those in the file CASES:
+// Compares the fields that the page shows for commands and responses with those in the file CASES:
 //
 //   page_fields.mjs PAGE FACTS CASES
 
@@ -16,7 +16,7 @@ learn(JSON.parse(fs.readFileSync(facts, "utf8")));
 const values = (fields) =>
   fields.map((it) => [it.name, it.at, it.size, it.front, it.meaning, it.sort, it.depth, it.isGroup]);
 
-/** Whether each byte has exactly one field. */
+/** Returns whether each byte belongs to exactly one field. */
 function isCovered(bytes, fields) {
   const counts = new Array(bytes.length).fill(0);
   for (const it of fields) {

@@ -1,5 +1,5 @@
-# Compares the fields of commands and responses: for all scripts, the page, in JavaScript, must show the same
-# fields as tools/explain.py, in Python.
+# Compares the fields of commands and responses: for all scripts, the page's JavaScript must find the same
+# fields as tools/explain.py.
 tests=$(cd "$(dirname "$0")/.." && pwd -P)
 . "$tests/common/cases.sh"
 needs node python3

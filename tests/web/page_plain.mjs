@@ -1,7 +1,8 @@
 // What the page decrypts: page_plain.mjs PAGE FACTS MODULE CASES.
 //
-// It compares the page's digests, HMACs and AES with published examples and with node. It compares the decrypted
-// parameters of scripts whose sessions encrypt with those of the Python device, also in a log of another device.
+// It compares the page's digests, HMACs and AES with published examples and with node. It compares
+// the decrypted parameters of scripts whose sessions encrypt with those of the Python device, also
+// in a log of another device.
 
 import crypto from "node:crypto";
 import fs from "node:fs";
@@ -28,21 +29,21 @@ function say(holds, what, more = "") {
 
 const ALG = { sha1: 4, sha256: 11, sha384: 12, sha512: 13 };
 
-// FIPS 180-4, of "abc".
+// FIPS 180-4: the digests of "abc".
 const OF_ABC = {
   sha1: "a9993e364706816aba3e25717850c26c9cd0d89d",
   sha256: "ba7816bf8f01cfea414140de5dae2223b00361a396177a9cb410ff61f20015ad",
   sha384: "cb00753f45a35e8bb5a03d699ac65007272c32ab0eded1631a8b605a43ff5bed8086072ba1e7cc2358baeca134c825a7",
   sha512: "ddaf35a193617abacc417349ae20413112e6fa4e89a97ea20a9eeee64b55d39a2192992a274fc1a836ba3c23a3feebbd454d4423643ce80e2a9ac94fa54ca49f",
 };
-// RFC 2202 and RFC 4231, test case 2.
+// RFC 2202 and RFC 4231: the HMACs of test case 2.
 const OF_JEFE = {
   sha1: "effcdf6ae5eb2fa2d27416d5f184df9c259a7c79",
   sha256: "5bdcc146bf60754e6a042426089575c75a003f089d2739839dec58b964ec3843",
   sha384: "af45d2e376484031617f78d2b58a6b1b9c7ef464f5a01b47e42ec3736322445e8e2240ca5e69e2c78b3239ecfab21649",
   sha512: "164b7a7bfcf819e2e395fbe73b56e0a387bd64222e831fd610270cd7ea2505549758bf75c05a994a6d034f65f8f0e6fdcaeab1a34d4a6b4b636e070a38bce737",
 };
-// SP 800-38A, F.3.13 to F.3.18: the key, and the four blocks that the blocks of TEXT become.
+// SP 800-38A, F.3.13 to F.3.18: each key, and the four blocks to which TEXT is encrypted.
 const IV = "000102030405060708090a0b0c0d0e0f";
 const TEXT = "6bc1bee22e409f96e93d7e117393172aae2d8a571e03ac9c9eb76fac45af8e5130c81c46a35ce411e5fbc1191a0a52eff69f2445df4f9b17ad2b417be66c3710";
 const OF_CFB = [
@@ -73,10 +74,11 @@ function played(text) {
   return { run, script };
 }
 
-/** The decrypted bytes, or why they are not decrypted. */
+/** Returns the decrypted bytes, or the reason why they are not decrypted. */
 const wordsOf = (plain) => plain && (plain.reason || hexOf(plain.bytes.subarray(plain.from, plain.to)));
 
-/** The differences in the steps that a script has at lines, and how many steps there are. */
+/** Compares the steps of a script with the expected ones. Returns the differences, and the number of
+ * compared steps. */
 function differing(name, { run, script }, asked, answered) {
   const found = [];
   let count = 0;
@@ -91,7 +93,8 @@ function differing(name, { run, script }, asked, answered) {
   return { found, count };
 }
 
-/** The log of another device with the same script: this one draws other random bytes, so nonces differ. */
+/** Compares a log of the same script on another device, which draws other random bytes, so that the
+ * nonces differ. */
 function elsewhere(name, { run, script }, asked, answered) {
   const log = logOf(script, run.answers).split("\n");
   const events = log.flatMap((line, number) => (/^(?:do|cmd|power)/.test(line) ? [number] : []));

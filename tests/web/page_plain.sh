@@ -1,4 +1,4 @@
-# Checks that the page decrypts the encrypted parameters in scripts like the device in Python.
+# Checks that the page decrypts the parameters that sessions encrypt in scripts, like the Python model.
 tests=$(cd "$(dirname "$0")/.." && pwd -P)
 . "$tests/common/cases.sh"
 needs node python3

@@ -1,8 +1,9 @@
-// Plays scripts as the page does: page_states.mjs PAGE FACTS MODULE LESSONS SCRIPT..
+// Plays scripts with the page's code: page_states.mjs PAGE FACTS MODULE LESSONS SCRIPT..
 //
-// It compares each answer with those of the program next to the script, and an edit with playing the script again.
-// It writes, as lines of JSON, the device after some steps: its state text, and what the page reads from that. For
-// each task of the lessons it says whether it can be done.
+// It compares each response with that of the program, which is stored next to the script. It also
+// compares the result of an edit with that of playing the whole script again. It writes the device
+// after some steps as lines of JSON: its state text, and what the page decodes from it. For each
+// task of the lessons it reports whether an edit can complete the task.
 
 import fs from "node:fs";
 import path from "node:path";
@@ -32,7 +33,8 @@ function played(text) {
   return { run, script };
 }
 
-/** An edit in the middle, and then the old text again: the result equals playing the script again. */
+/** Makes an edit in the middle, and then restores the old text. Returns whether the result equals
+ * that of playing the script again. */
 function isSameAfterEdit(run, script) {
   const wanted = answersOf(run).join();
   const lines = [...script.lines];
@@ -74,7 +76,7 @@ function outcomesOf(run) {
   });
 }
 
-/** Edits that do not do the task of a lesson. */
+/** Edits that do not complete the task of a lesson. */
 const NOT_DONE = [
   ["Startup", "$", "do GetRandom 4\n"], ["Measure", "6b65726e656c", "6b65726e6566"],
   ["Policy", "$", "do PolicyAuthValue 03000000\n"], ["Session", "sha256:7,11", "sha256:7"],
@@ -82,7 +84,7 @@ const NOT_DONE = [
   ["NV", "$", "do NV_Read OWNER 01000001 pw:- 8 0\n"], ["Lockout", "do Unseal 80000001 pw:30303030\n", ""],
   ["Power", "power\ndo Startup 0", "power\ndo Startup 1"], ["Image", "$", "do NV_DefineSpace OWNER pw:- - 01000001000b0002000200000008\n"],
 ];
-/** Edits that do it in another way than the lesson shows. */
+/** Edits that complete the task in another way than the lesson shows. */
 const DONE = [
   ["NV", "pw:- 8 0", "pw:- 3 0"], ["NV", "do NV_Read", "do NV_Read OWNER 01000001 pw:- 3 0\ndo NV_Read"],
   ["Policy", "do PolicyPCR", "do PolicyAuthValue 03000000\ndo PolicyPCR"], ["Lockout", "# The", "wait 2000000\n# The"],

@@ -1,5 +1,5 @@
-# Plays scripts in node as the page does: responses, logs, edits, and the lessons' tasks. Compares the device
-# states that the page reads with the device in Python.
+# Plays scripts in node with the page's code, and checks responses, logs, edits, and the lessons' tasks.
+# Compares the device states that the page decodes with the Python model.
 tests=$(cd "$(dirname "$0")/.." && pwd -P)
 . "$tests/common/cases.sh"
 needs node python3
@@ -11,7 +11,8 @@ echo '{ "type": "module" }' >package.json
 make_scripts
 find "$tests" "$top/examples" "$TPMSIM_MADE" -name '*.tpm' -size -450k | sort >names
 while read -r name; do
-    # At a bad line the program ends the script. The page continues, so such scripts are left out.
+    # At an invalid line the program ends the script, but the page continues. Therefore such scripts are left
+    # out.
     [ ! -f "${name%.tpm}.out" ] || [ -f "${name%.tpm}.status" ] || echo "$name"
 done <names >scripts
 xargs node "$tests/web/page_states.mjs" web/page facts.json "$top/dist/tpmsim.wasm" \

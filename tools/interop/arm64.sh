@@ -1,8 +1,8 @@
 #!/bin/sh
-# Runs a command in the repository as on an ARM64 machine with Debian: in a root file system of Debian's
-# packages for arm64, with the package that tools/deb.sh makes. qemu runs the programs for ARM64. The script
-# changes nothing on this machine: apt works in its own folder, nothing is installed, and the root file system
-# and the kernel's entry for qemu are visible only in their own namespaces. Not part of the gate.
+# Runs a command as on an ARM64 machine with Debian: in a root file system made of Debian's packages for arm64,
+# in which the package from tools/deb.sh is installed. qemu runs the programs for ARM64. The script changes
+# nothing on this machine: apt works in its own folder, nothing is installed, and the root file system and the
+# kernel's entry for qemu are visible only in their own namespaces. Not part of the gate.
 #
 #   tools/interop/arm64.sh FOLDER              tests the package there (arm64_package.sh)
 #   tools/interop/arm64.sh FOLDER COMMAND..    runs a command there, in a clone of the last commit, for example
@@ -22,19 +22,19 @@ root=$folder/root
 log=$folder/log
 : >"$log" || exit 1
 
-# The packages that the repository's commands need on a machine.
+# The packages that a machine needs for the repository's commands.
 packages='base-files base-passwd bash binutils coreutils dash debianutils diffutils findutils g++ gcc git
     grep gzip hostname libc-bin libc6-dev libtpms-dev libtss2-dev make mawk ncurses-base pkg-config
     procps python3 sed socat swtpm tar tpm2-tools util-linux'
 
-# fail REASON: ends the script, and prints the end of the log.
+# fail REASON: ends the script with a message, and prints the end of the log.
 fail() {
     tail -n 20 "$log" >&2
     echo "$0: $1" >&2
     exit 1
 }
 
-# foreign WORDS..: runs apt-get for ARM64, without regard to the packages that are installed here.
+# foreign WORDS..: runs apt-get for ARM64, independently of the packages that are installed on this machine.
 foreign() {
     apt-get -q -y -o APT::Architecture=arm64 -o APT::Architectures::=arm64 -o APT::Sandbox::User= \
         -o Dir::State="$folder/state" -o Dir::State::status="$folder/status" \
@@ -50,7 +50,7 @@ fetch() {
         (cd "$folder" && apt-get -q download qemu-user-static) >>"$log" 2>&1
 }
 
-# Unpacks the packages. Then does those parts of their installation scripts that are needed here.
+# Unpacks the packages. Then performs those parts of their installation scripts that are needed here.
 unpack() {
     mkdir -p "$root.new" "$folder/qemu" &&
         dpkg-deb -x "$folder"/qemu-user-static_*.deb "$folder/qemu" || return 1
@@ -64,7 +64,7 @@ unpack() {
         echo 'root:x:0:' >"$root.new/etc/group" && mv "$root.new" "$root"
 }
 
-# Copies the package and a clone of the last commit into the root file system. They replace those of the
+# Copies tpmsim's package and a clone of the last commit into the root file system. Both replace those of the
 # previous run.
 bring() {
     rm -rf "$folder/made" "$root/repository"

@@ -1,7 +1,7 @@
 #!/bin/sh
 # Tests the installed package on an ARM64 machine: the program, the module for libtss2, the module for swtpm,
-# Microsoft's protocol and the Python package; and in the repository the two commands of the README.
-# tools/interop/arm64.sh copies this script to the machine. Each output line reports the result of a check.
+# Microsoft's simulator protocol and the Python package; and in the repository the two commands of the README.
+# tools/interop/arm64.sh copies this script to the machine. Each line of the output is the result of one check.
 set -u
 top=$(CDPATH='' cd "$(dirname "$0")/../.." && pwd -P) || exit 1
 work=$(mktemp -d) || exit 1
@@ -28,7 +28,7 @@ check() {
     fi
 }
 
-# tool WORDS..: runs a tool of tpm2-tools, which may take long in qemu.
+# tool WORDS..: runs one of tpm2-tools, with a generous time limit, since qemu is slow.
 tool() {
     timeout 120 tpm2 "$@"
 }

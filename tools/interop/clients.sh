@@ -1,8 +1,8 @@
 #!/bin/sh
-# Uses a kept device and its completing layer with other clients of libtss2, through the module that
+# Tests a device in a folder, with its completing layer, with other clients of libtss2, through the module that
 # hosts/build.sh builds: Debian's tpm2-pytss, clevis with an AES parent, and tpm2-abrmd with tpm2-tools on top
 # of it. The script reports for each client whether it succeeded. For FAPI, whose profiles all need RSA or ECC
-# keys, it reports how far tss2_provision gets. Not part of the gate. It installs nothing, and leaves no
+# keys, it reports at which call tss2_provision fails. Not part of the gate. It installs nothing, and leaves no
 # files.
 #
 #   tools/interop/clients.sh
@@ -120,8 +120,7 @@ END
     check 'tpm2-abrmd: objects and sessions of six tools' dbus-run-session -- sh abrmd.sh
 }
 
-# fapi: prints how far FAPI gets: the last fault of tss2_provision and of tss2_getinfo, with a keystore in
-# this folder.
+# fapi: prints the last fault of tss2_provision and of tss2_getinfo, with a keystore in this folder.
 fapi() {
     mkdir -p fapi/user fapi/system fapi/log
     cat >fapi/config <<END

@@ -7,8 +7,8 @@ gate. It installs nothing, and leaves no files.
 
 Needs Debian's tpm2-tools, swtpm, swtpm-tools and what `hosts/build.sh tcti` needs. TPMSIM_ARCHIVE
 names another archive of the library. It prints how many steps pass on each device, and which steps
-pass on swtpm but not on tpmsim, grouped by reason. A step that differs without a reason is WRONG,
-and so is a step that has a reason but passes. The status is 1 if a step is WRONG.
+pass on swtpm but not on tpmsim, grouped by reason. A step is WRONG if it passes only on swtpm and
+has no reason, or if it has a reason but passes on tpmsim. The status is 1 if a step is WRONG.
 """
 
 from __future__ import annotations
@@ -38,7 +38,7 @@ def build_module(folder: Path) -> Path:
 
 
 def play_all(makers: list[Maker], steps: list[Step]) -> list[list[Outcome]]:
-    """Plays the steps on devices at the same time."""
+    """Plays the steps on all devices at the same time."""
     devices: list[Device] = []
     try:
         for make in makers:
@@ -55,7 +55,7 @@ def is_less(swtpm: Outcome, tpmsim: Outcome) -> bool:
 
 
 def wrong_steps(swtpm: list[Outcome], tpmsim: list[Outcome]) -> Iterator[str]:
-    """Yields a line for each step whose reason is missing, unknown or not needed."""
+    """Yields a line for each step whose reason is missing, unknown or unnecessary."""
     for theirs, ours in zip(swtpm, tpmsim, strict=True):
         step = ours.step
         if is_less(theirs, ours) and step.reason not in REASONS:

@@ -1,5 +1,5 @@
-"""Devices that tpm2-tools use in tools/interop/day.py: swtpm with its own libtpms, a tpmsim through
-the module for libtss2, and a served tpmsim. Each works in its own folder.
+"""Devices that tpm2-tools use in tools/interop/day.py: swtpm with its own libtpms, tpmsim through
+the module for libtss2, and tpmsim as a server. Each device has its own folder.
 """
 
 from __future__ import annotations
@@ -17,7 +17,7 @@ WAIT_S = 10.0
 
 
 class NoDevice(Exception):
-    """A device that does not start."""
+    """The exception for a device that does not start."""
 
 
 def wait_for(is_there: Callable[[], bool], program: subprocess.Popen[bytes]) -> None:
@@ -48,8 +48,8 @@ class Device:
     name = ""
     #: The value of TPM2TOOLS_TCTI.
     tcti = ""
-    # Whether the objects and sessions that a tool leaves loaded are flushed after each step, as a
-    # resource manager would do.
+    # Whether the steps flush the objects and sessions that a tool leaves loaded, as a resource
+    # manager would do.
     is_flushed = True
 
     def __init__(self, folder: Path) -> None:
@@ -68,8 +68,8 @@ class Device:
 
 
 class Module(Device):
-    """A tpmsim in a folder, through the module for libtss2, which itself flushes objects and
-    sessions.
+    """tpmsim with a device in a folder, through the module for libtss2. The module flushes objects
+    and sessions itself.
     """
 
     name = "tpmsim"
@@ -111,8 +111,8 @@ class Swtpm(Device):
 
 
 class Served(Device):
-    """A tpmsim on a socket, without the completing layer. To power-cycle it, the program is
-    restarted.
+    """tpmsim as a server on a socket, without the completing layer. It is restarted for a power
+    cycle.
     """
 
     name = "served"

@@ -1,9 +1,9 @@
 #!/bin/sh
-# Boots Linux guests in QEMU with a tpmsim in swtpm: SeaBIOS and OVMF, each with tpm-tis and tpm-crb. Firmware
-# and kernel must leave the same PCR values as with swtpm's own libtpms. The guest extends a PCR, seals data
-# to it, sleeps and wakes (S3), reboots and unseals the data. A guest in another run of QEMU unseals the data
-# too. Then a running guest is saved with its TPM, and continues in another QEMU. Not part of the gate, since
-# it takes minutes. It installs nothing, and leaves only its folder, if one is named.
+# Boots Linux guests in QEMU, whose TPM is tpmsim in swtpm. The firmware is SeaBIOS or OVMF, each with tpm-tis
+# and tpm-crb. Firmware and kernel must leave the same PCR values as with swtpm's own libtpms. The guest extends
+# a PCR, seals data to it, sleeps and wakes (S3), reboots and unseals the data. In another run of QEMU, the
+# guest unseals the data again. Then a running guest is saved with its TPM, and continues in another QEMU. Not
+# part of the gate, because it takes minutes. It installs nothing, and leaves only its folder, if one is named.
 #
 #   tools/interop/guest.sh [FOLDER]                   all of these tests
 #   tools/interop/guest.sh FOLDER FIRMWARE DEVICE     one combination, for example seabios tpm-tis
@@ -42,8 +42,8 @@ fail() {
     failed=$((failed + 1))
 }
 
-# Makes the guest's files: the kernel, and an initial file system of busybox, tpm2-tools and the
-# libraries that they need.
+# Makes the files for the guest: the kernel, and an initial file system of busybox, tpm2-tools and the libraries
+# that they need.
 make_guest() {
     if [ -z "${KERNEL:-}" ]; then
         mkdir -p "$folder/kernel"
@@ -71,7 +71,7 @@ make_guest() {
     (cd "$root" && find . | busybox cpio -o -H newc 2>/dev/null | gzip -1) >"$folder/initramfs"
 }
 
-# begin_tpm swtpm|tpmsim NAME: starts the TPM of a guest, whose state is in the folder NAME.
+# begin_tpm swtpm|tpmsim NAME: starts the TPM for a guest, with its state in the folder NAME.
 begin_tpm() {
     rm -f "$run/ctrl"
     mkdir -p "$folder/$2"
@@ -87,8 +87,8 @@ begin_tpm() {
     done
 }
 
-# boot NAME TPM STATE WORDS: boots a guest, and waits until it is off. NAME is the run's folder. WORDS are for
-# the kernel's command line.
+# boot NAME TPM STATE WORDS: boots a guest, and waits until it has shut down. NAME is the folder of the run.
+# WORDS are added to the kernel's command line.
 boot() {
     run=$folder/$1
     rm -rf "$run"
@@ -116,13 +116,13 @@ boot() {
     tr -d '\r' <"$run/serial" | sed -n 's/^.*RESULT //p' >"$run/results"
 }
 
-# measured NAME: prints the PCR values that firmware and kernel left, as the guest of a run first reported
-# them.
+# measured NAME: prints the PCR values after firmware and kernel, as the guest reported them at the first boot
+# of a run.
 measured() {
     awk '/^VERSION/ { boots++ } boots == 1 && /^(VERSION|PCR|LOG)/' "$folder/$1/results"
 }
 
-# check NAME BOOTS COUNT: checks that the guest of a run booted BOOTS times, and reported COUNT right results.
+# check NAME BOOTS COUNT: checks that the guest of a run booted BOOTS times, and reported COUNT correct results.
 check() {
     while IFS= read -r line; do
         case $line in
@@ -137,8 +137,8 @@ check() {
     fi
 }
 
-# replays NAME: executes the recorded commands of a run's boots again, and checks that the responses are the
-# same.
+# replays NAME: executes the recorded commands of all boots of a run again, and checks that the responses are
+# the same.
 replays() {
     for record in "$folder/$1"/record/*.tpm; do
         if python3 - "$attached/libtpms.so.0" "$record" <<'END'; then
@@ -180,7 +180,7 @@ combination() {
     for run in "$name-pcrs" "$name-first" "$name-again"; do replays "$run"; done
 }
 
-# machine NAME WORDS..: starts a QEMU for the guest that moves, with a TPM that has its own state.
+# machine NAME WORDS..: starts a QEMU for the guest that is moved. Its TPM has a separate state.
 machine() {
     run=$folder/$1
     shift
@@ -197,7 +197,7 @@ machine() {
     qemu=$!
 }
 
-# monitor WORDS..: sends QEMU a command, and prints the output.
+# monitor WORDS..: sends a command to QEMU's monitor, and prints the output.
 monitor() {
     echo "$*" | timeout 60 socat -t 10 - "UNIX-CONNECT:$run/monitor" 2>&1 | tr -d '\r'
 }

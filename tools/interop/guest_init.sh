@@ -1,8 +1,7 @@
 #!/bin/busybox sh
 # shellcheck shell=dash
-# The work of a guest of tools/interop/guest.sh, whose kernel starts this script as the first process.
-# tools/interop/guest.sh reads the lines that begin with RESULT. `guest=` on the kernel's command line says
-# what to do:
+# The first process of a guest of tools/interop/guest.sh. That script reads the output lines that begin with
+# RESULT. The value of `guest=` on the kernel's command line says what to do:
 #
 #   pcrs   prints the PCRs that firmware and kernel left
 #   move   extends PCR 20 from locality 2, waits while its machine moves to another QEMU, extends PCR 20 again,
@@ -23,7 +22,7 @@ result() {
     echo "RESULT $*" >/dev/ttyS0
 }
 
-# tool LABEL WORDS..: runs a tool of tpm2-tools, and reports whether it succeeded.
+# tool LABEL WORDS..: runs one of tpm2-tools, and reports whether it succeeded.
 tool() {
     label=$1
     shift
@@ -34,7 +33,7 @@ tool() {
     fi
 }
 
-# same LABEL TEXT: reports whether the last tool printed this text.
+# same LABEL TEXT: reports whether the output of the last tool is this text.
 same() {
     if [ "$(cat output)" = "$2" ]; then
         result ok "$1"
@@ -48,8 +47,8 @@ off() {
     poweroff -f
 }
 
-# at_locality_2 HEX: sends a command through the registers of tpm-tis, and prints the response code. tpm-tis
-# then stays at locality 2.
+# at_locality_2 HEX: sends a command through the registers of tpm-tis, and prints the response code. Afterwards
+# tpm-tis remains at locality 2.
 at_locality_2() {
     base=0xFED42
     devmem ${base}000 8 2

@@ -1,8 +1,8 @@
 #!/bin/sh
-# Uses a device of tpmsim-simulator with the tools of IBM's TSS (Debian: tss2), over Microsoft's protocol,
-# which is their default. It reports for each tool whether it succeeded: TPM2_Startup, PCRs, sessions that
-# encrypt with AES and with XOR, the four types of NV index, policies, sealed primary objects, lockout,
-# TPM2_Clear. Not part of the gate. It installs nothing, and leaves no files.
+# Uses a device of tpmsim-simulator with the tools of IBM's TSS (Debian: tss2), over Microsoft's simulator
+# protocol, which these tools use by default. It reports for each tool whether it succeeded: TPM2_Startup, PCRs,
+# sessions that encrypt with AES and with XOR, the four types of NV index, policies, sealed primary objects,
+# lockout, TPM2_Clear. Not part of the gate. It installs nothing, and leaves no files.
 #
 #   tools/interop/ibm_tools.sh [PROGRAM]
 set -u
@@ -23,7 +23,7 @@ cd "$folder" || exit 1
 mkdir state
 failed=0
 
-# tool NAME WORDS..: runs a tool of IBM's TSS, for at most twenty seconds.
+# tool NAME WORDS..: runs one of the tools of IBM's TSS, for at most twenty seconds.
 tool() {
     name=tss$1
     shift
@@ -36,7 +36,7 @@ tool() {
     fi
 }
 
-# same: checks that the unsealed data equal the sealed data.
+# same: checks that the unsealed data are the sealed data.
 same() {
     cmp -s secret unsealed || { echo 'FAILED: other bytes'; failed=$((failed + 1)); }
 }

@@ -1,8 +1,8 @@
 #!/bin/sh
-# Uses a served device with IBM's tools (Debian: tss2), which connect to it over TCP and socat, with one
-# connection for each tool. It reports for each tool whether it succeeded. The sessions encrypt with
-# TPM_ALG_XOR, and stay loaded from one tool to the next. Not part of the gate. It installs nothing, and
-# leaves no files. Needs tss2 and socat, and rt if the program is not built yet.
+# Uses a device that `tpmsim serve` serves with the tools of IBM's TSS (Debian: tss2). Each tool makes one TCP
+# connection, through socat. It reports for each tool whether it succeeded. The sessions encrypt with
+# TPM_ALG_XOR, and stay loaded from one tool to the next. Not part of the gate. It installs nothing, and leaves
+# no files. Needs tss2 and socat, and rt if tpmsim is not built yet.
 #
 #   tools/interop/ibm_tss.sh [PORT]    on this port of 127.0.0.1; by default 2321
 set -u
@@ -34,12 +34,13 @@ sleep 0.5
 export TPM_INTERFACE_TYPE=socsim TPM_SERVER_TYPE=raw TPM_SERVER_NAME=127.0.0.1
 export TPM_COMMAND_PORT="$port" TPM_ENCRYPT_SESSIONS=0 TPM_DATA_DIR="$folder"
 
-# The attributes of a session in hex: continueSession (1) with decrypt (20), with encrypt (40), or with both.
+# The attributes of a session in hex: continueSession (01), combined with decrypt (20), with encrypt (40), or
+# with both.
 in=21 out=41 both=61
 
-# tool WORDS..: runs a tool, for at most ten seconds.
+# tool WORDS..: runs one of IBM's tools, for at most ten seconds.
 tool() {
-    # shellcheck disable=SC2145 # the first word ends the name of the tool
+    # shellcheck disable=SC2145 # the first argument is the rest of the tool's name
     if timeout 10 "tss$@" >output 2>&1; then
         echo "ok: tss$*"
     else
@@ -49,11 +50,11 @@ tool() {
     fi
 }
 
-# refused CODE WORDS..: runs a tool that must be refused with this code.
+# refused CODE WORDS..: runs a tool whose command the device must refuse with this response code.
 refused() {
     code=$1
     shift
-    # shellcheck disable=SC2145 # the first word ends the name of the tool
+    # shellcheck disable=SC2145 # the first argument is the rest of the tool's name
     if ! timeout 10 "tss$@" >output 2>&1 && grep -q "rc $code" output; then
         echo "ok: tss$*: $code"
     else
@@ -63,7 +64,7 @@ refused() {
     fi
 }
 
-# same A B: checks that the output equals the input.
+# same A B: checks that two files are the same.
 same() {
     cmp -s "$1" "$2" || { echo 'FAILED: other bytes came back'; failed=$((failed + 1)); }
 }
@@ -72,8 +73,8 @@ tool startup -c
 tool hierarchychangeauth -hi o -pwdn owner
 head -c 1024 /dev/urandom >data
 
-# Tests sessions with both hash algorithms, bound and unbound. An NV index is written and read with them, in
-# two parts, and an HMAC of 1,024 bytes is computed.
+# Tests sessions with both hash algorithms, bound and unbound. With these sessions, writes and reads an NV index
+# in two parts, and computes an HMAC of 1,024 bytes.
 tool startauthsession -se h -bi 40000001 -pwdb owner
 tool startauthsession -se h -halg sha1
 tool nvdefinespace -hi o -ha 01000001 -sz 1024 -pwdp owner -pwdn index -se0 02000000 $in
@@ -88,8 +89,8 @@ tool hmac -hk 80000000 -if data -halg sha256 -os mac -pwdk key -se0 02000000 $bo
 tool hmac -hk 80000000 -if data -halg sha256 -os again -pwdk key -se0 02000001 $both
 same mac again
 
-# An NV index that can be written once. Its policy is the command code of TPM2_PolicyNvWritten, followed by a
-# 0.
+# An NV index that can be written only once. Its policy has one assertion: the command code of
+# TPM2_PolicyNvWritten, followed by a zero byte.
 echo 0000018f00 >assertion
 tool policymaker -if assertion -of once
 printf 12345678 >record

@@ -1,9 +1,9 @@
 #!/bin/sh
 # Uses libvirt to start, save, restore and end a guest, and to revert it to a snapshot. One guest has a TPM of
-# type `emulator`, with the swtpm and swtpm_setup of `hosts/build.sh libtpms`, which come first on the
-# daemon's path. Another guest has a TPM of type `external`, whose swtpm is already running. The daemon runs
-# as the present user, or as nobody if that is root. Not part of the gate. It installs nothing, and leaves no
-# files.
+# type `emulator`, with the swtpm and swtpm_setup of `hosts/build.sh libtpms`, which come first on the daemon's
+# path. Another guest has a TPM of type `external`, whose swtpm is already running. The daemon runs as the
+# present user, or as the user nobody if the present user is root. Not part of the gate. It installs nothing,
+# and leaves no files.
 #
 #   tools/interop/libvirt.sh
 #
@@ -24,7 +24,7 @@ passed=0
 failed=0
 tpm=
 
-# as_user WORDS..: runs a command as the user of the session, with the attached swtpm on its path.
+# as_user WORDS..: runs a command as the user of the session, with this repository's swtpm first on the path.
 as_user() {
     set -- env HOME="$folder/home" XDG_RUNTIME_DIR="$folder/home/run" \
         PATH="$folder/attached:$PATH:/usr/sbin" TPMSIM_RECORD="$folder/home/record" "$@"
@@ -61,8 +61,8 @@ check() {
     fi
 }
 
-# guest NAME BACKEND [DEVICE]: writes the description of a guest whose TPM has this backend, and perhaps
-# another device.
+# guest NAME BACKEND [DEVICE]: writes the description of a guest whose TPM has this backend. DEVICE describes an
+# additional device.
 guest() {
     cat >"$folder/home/$1.xml" <<END
 <domain type='qemu'><name>$1</name><memory unit='MiB'>64</memory><vcpu>1</vcpu>
@@ -86,7 +86,7 @@ is_stored() {
     find "$folder/home" -name tpm2-00.permall | grep -q .
 }
 
-# Whether TPM2_HierarchyChangeAuth was executed, which is the firmware's last command before it boots.
+# Returns whether TPM2_HierarchyChangeAuth was executed, the firmware's last command before it boots.
 is_used() {
     grep -q '^cmd 8002.\{8\}00000129' "$folder/home/record"/boot-*.tpm
 }

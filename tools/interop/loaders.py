@@ -1,15 +1,15 @@
 #!/usr/bin/env python3
-"""Boots loaders in QEMU with a tpmsim in swtpm, and with swtpm's own libtpms. With both TPMs, each
-loader must extend the same PCRs with the same SHA-1 and SHA-256 digests, and every extend must
+"""Starts boot loaders in QEMU, with tpmsim in swtpm and with swtpm's own libtpms. With both TPMs,
+each loader must extend the same PCRs with the same SHA-1 and SHA-256 digests, and every extend must
 succeed.
 
     tools/interop/loaders.py ATTACHED [LOADER..]
 
 ATTACHED is the folder of `hosts/build.sh libtpms`. The loaders are uboot (its EFI, on arm64), aavmf
-(UEFI on arm64), ovmf (UEFI on x86-64) and grub (its module tpm, after ovmf). Without a LOADER, all
-are booted. Needs Debian's swtpm, qemu-system-arm, qemu-system-x86, u-boot-qemu, qemu-efi-aarch64,
-ovmf, grub-efi-amd64-bin and grub-common. Not part of the gate: it takes minutes. It leaves no
-files.
+(UEFI on arm64), ovmf (UEFI on x86-64) and grub (its module tpm, after ovmf). By default, all
+loaders are started. Needs Debian's swtpm, qemu-system-arm, qemu-system-x86, u-boot-qemu,
+qemu-efi-aarch64, ovmf, grub-efi-amd64-bin and grub-common. Not part of the gate: it takes minutes.
+It leaves no files.
 """
 
 from __future__ import annotations
@@ -74,7 +74,7 @@ LOADERS = {
 
 @dataclass
 class Boot:
-    """The result of a boot: its console, and each extend with its response code."""
+    """The result of a boot: the console output, and each extend with its response code."""
 
     console: str = ""
     fault: str = ""
@@ -131,8 +131,8 @@ def spoken_with(machine: subprocess.Popen[bytes], loader: Loader) -> Boot:
 
 
 def shared_part(command: bytes) -> str:
-    """Returns the PCR of a PCR_Extend, and its SHA-1 and SHA-256 digests, in hex. Only swtpm's own
-    libtpms also has SHA-384 and SHA-512 banks.
+    """Returns the PCR of a PCR_Extend, and its SHA-1 and SHA-256 digests, in hex. Only these are
+    compared, because tpmsim has no SHA-384 and SHA-512 banks.
     """
     pcr = command[HEAD_BYTES : HEAD_BYTES + 4]
     at = HEAD_BYTES + 8 + int.from_bytes(command[HEAD_BYTES + 4 : HEAD_BYTES + 8]) + 4
@@ -162,8 +162,8 @@ def extends_of(log: str) -> list[tuple[str, str]]:
 
 
 def booted(program: str, loader: Loader, drive: pathlib.Path) -> Boot:
-    """Boots a loader, from a drive if it has one, with the TPM of a program that has swtpm's
-    command line.
+    """Boots a loader, from the drive if it uses one. The TPM is the given program, which has the
+    same command line as swtpm.
     """
     with tempfile.TemporaryDirectory() as room:
         folder = pathlib.Path(room)
@@ -185,7 +185,7 @@ def booted(program: str, loader: Loader, drive: pathlib.Path) -> Boot:
 
 
 def judged(ours: Boot, theirs: Boot) -> list[str]:
-    """Returns the faults of the two boots of a loader, and their differences."""
+    """Returns the faults of the two boots of a loader, and the differences between them."""
     boots = (("tpmsim", ours), ("swtpm", theirs))
     faults = [f"{whose}: {boot.fault}" for whose, boot in boots if boot.fault]
     if not ours.extends:

@@ -1,5 +1,5 @@
-"""Steps that tpm2-tools execute on a device. Parses files of steps, whose format day.steps
-describes, and plays the steps.
+"""Parses files of steps that use tpm2-tools, and plays the steps on a device. day.steps describes
+the format of these files.
 """
 
 from __future__ import annotations
@@ -21,14 +21,16 @@ TOOL = re.compile(r"\btpm2_(\w+)")
 
 @dataclasses.dataclass(frozen=True)
 class Step:
-    """A step, which is one line of a file of steps."""
+    """A step: one line of a file of steps."""
 
     command: str
-    # The response code with which the step must be refused, or empty if it must succeed.
+    # The response code with which the device must refuse the step's command, or empty if it must
+    # succeed.
     code: str = ""
-    # The name of the reason why tpmsim does less than swtpm, or empty if it does the same.
+    # The name of the reason why tpmsim supports less than swtpm here, or empty if it supports the
+    # same.
     reason: str = ""
-    #: Whether the step counts. Preparations and power cycles do not count.
+    # Whether the step is compared. Preparations and power cycles are not.
     counts: bool = True
 
     @property
@@ -65,7 +67,7 @@ def read_steps(path: Path) -> list[Step]:
 
 
 def last_line(text: str) -> str:
-    """Returns the last line that says what failed, or else the last line."""
+    """Returns the last line that reports a failure, or the last line if there is none."""
     lines = [line for line in text.splitlines() if line.strip()]
     told = [line for line in lines if "0x" in line]
     return (told or lines or [""])[-1]
@@ -90,7 +92,7 @@ def play_step(device: Device, step: Step) -> Outcome:
 
 
 def play(device: Device, steps: list[Step]) -> Iterator[Outcome]:
-    """Plays all steps, and yields the outcome of each that counts."""
+    """Plays all steps, and yields the outcome of each step that counts."""
     for step in steps:
         if step.command == POWER:
             device.power()

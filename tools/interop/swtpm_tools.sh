@@ -1,8 +1,8 @@
 #!/bin/sh
-# Uses a tpmsim in swtpm: with Debian's tpm2-tools, including the policy tools, through libtss2's transport
-# `swtpm`, and with swtpm_ioctl. It reports for each test whether the result was as expected. It restarts
-# swtpm, moves the running device from one swtpm to another, kills swtpm, fills its disk, and damages its
-# stored state. Not part of the gate. It installs nothing, and leaves no files.
+# Tests tpmsim in swtpm: with Debian's tpm2-tools, including the policy tools, through libtss2's TCTI `swtpm`,
+# and with swtpm_ioctl. It reports for each test whether the result was as expected. It restarts swtpm, moves
+# the running device from one swtpm to another, kills swtpm, fills its disk, and damages its stored state. Not
+# part of the gate. It installs nothing, and leaves no files.
 #
 #   tools/interop/swtpm_tools.sh
 #
@@ -42,7 +42,7 @@ skip() {
     skipped=$((skipped + 1))
 }
 
-# begin_tpm FOLDER WORDS..: starts swtpm with the state of a folder, and waits until it is ready.
+# begin_tpm FOLDER WORDS..: starts swtpm with the state in a folder, and waits until it is ready.
 begin_tpm() {
     state=$1
     shift
@@ -61,7 +61,7 @@ end_tpm() {
     tpm=
 }
 
-# ioctl WORDS..: sends a message over the control channel, and writes the output to the file `output`.
+# ioctl WORDS..: sends a message over the control channel, and writes the response to the file `output`.
 ioctl() {
     timeout 20 swtpm_ioctl --tcp "127.0.0.1:$((port + 1))" "$@" >output 2>error
 }
@@ -73,14 +73,14 @@ succeeds() {
     if "$@"; then ok "$name"; else fail "$name: $(cat error)"; fi
 }
 
-# refused NAME COMMAND..: runs a command that must not succeed.
+# refused NAME COMMAND..: runs a command that must fail.
 refused() {
     name=$1
     shift
     if "$@"; then fail "$name"; else ok "$name: $(tail -n 1 error)"; fi
 }
 
-# tool WORDS..: runs a tool of tpm2-tools, for at most twenty seconds.
+# tool WORDS..: runs one of tpm2-tools, which must succeed within twenty seconds.
 tool() {
     succeeds "tpm2 $*" run_tool "$@"
 }
@@ -89,7 +89,7 @@ run_tool() {
     timeout 20 tpm2 "$@" >output 2>error
 }
 
-# same FILE: checks that the last tool printed the content of a file.
+# same FILE: checks that the output of the last tool is the content of a file.
 same() {
     cmp -s output "$1" || fail "other bytes than $1"
 }
@@ -159,7 +159,7 @@ policies() {
 # The digest with which a PCR is extended.
 extended=0000000000000000000000000000000000000000000000000000000000000007
 
-# Moves the running device, with a PCR, a session and an object, to another swtpm.
+# Moves the running device to another swtpm, with an extended PCR, a session and an object.
 moves() {
     mkdir from to
     begin_tpm "$folder/from" --flags not-need-init || return
@@ -227,7 +227,7 @@ own_state() {
     end_tpm
 }
 
-# Checks that damaged states are refused, and so are states of swtpm's own libtpms. The stored state is
+# Checks that damaged states and states of swtpm's own libtpms are refused. The stored state must stay
 # unchanged.
 damage() {
     own_state own_volatile
@@ -270,7 +270,7 @@ kills() {
 }
 
 # On a full disk, a command that changes the state fails, and so does each later command. When there is space
-# again, everything works, and the earlier data are still there.
+# again, everything works, and no data are lost.
 full_disk() {
     mkdir full
     if ! mount -t tmpfs -o size=16k tmpfs full 2>error; then
@@ -302,7 +302,7 @@ extend_17() {
         busybox xxd -r -p | socat -t 2 - "TCP:127.0.0.1:$port" | head -c 10 | busybox xxd -p | cut -c 13-20
 }
 
-# Tests the functions of the control channel, except those about states.
+# Tests the functions of the control channel, except those that get and set states.
 control() {
     mkdir control
     begin_tpm "$folder/control" || return

@@ -1,7 +1,7 @@
 #!/usr/bin/env python3
-"""Runs each tool of Debian's tpm2-tools, with the steps of day.steps and rest.steps, on a tpmsim through
-the module for libtss2, on a served tpmsim and on swtpm, and compares the outcomes with the list of tools
-in docs/USING.md. Not part of the gate. It installs nothing, and leaves no files.
+"""Runs each tool of Debian's tpm2-tools, with the steps of day.steps and rest.steps, on tpmsim
+through the module for libtss2, on tpmsim as a server and on swtpm, and compares the outcomes with
+the list of tools in docs/USING.md. Not part of the gate. It installs nothing, and leaves no files.
 
     tools/interop/tool_table.py           reports if the document differs from the outcomes
     tools/interop/tool_table.py --write   writes the list into the document
@@ -49,12 +49,12 @@ class Results:
 
 
 def does(tool: str, outcomes: list[Outcome]) -> bool:
-    """Whether a step of the tool passes."""
+    """Returns whether a step of the tool passes."""
     return any(outcome.passed for outcome in outcomes if tool in outcome.step.tools)
 
 
 def all_tools() -> list[str]:
-    """Returns the tools of the package."""
+    """Returns the names of all tools in the package tpm2-tools."""
     listed = subprocess.run(["dpkg", "-L", "tpm2-tools"], check=True, capture_output=True, text=True)
     names = (Path(line).name for line in listed.stdout.splitlines() if "/bin/tpm2_" in line)
     return sorted(name.removeprefix("tpm2_") for name in names)
@@ -88,7 +88,7 @@ def listed(tools: list[str]) -> str:
 
 
 def rows(tools: list[str], results: Results) -> Iterator[str]:
-    """Yields a row of the table for each reason that applies to a tool."""
+    """Yields the rows of the table: for each tool, one for each reason that applies to it."""
     for reason, sentence in REASONS.items():
         less = [tool for tool in tools if reason in results.reasons_of(tool)]
         if less:

@@ -26,7 +26,7 @@ cd "$folder" || exit 1
 tools=0
 failed=0
 
-# fail REASON: ends the script, because it cannot use a device in the requested way.
+# fail REASON: ends the script with a message, because it cannot use a device in the requested way.
 fail() {
     echo "$0: $1" >&2
     exit 2
@@ -43,13 +43,13 @@ wrong() {
     failed=$((failed + 1))
 }
 
-# run WORDS..: runs a tool of tpm2-tools, for at most ten seconds.
+# run WORDS..: runs one of tpm2-tools, for at most ten seconds.
 run() {
     tools=$((tools + 1))
     timeout 10 tpm2 "$@" >output 2>error
 }
 
-# tool WORDS..: runs a tool that must succeed.
+# tool WORDS..: runs a tool, which must succeed.
 tool() {
     if run "$@"; then
         echo "ok: tpm2 $*"
@@ -59,7 +59,7 @@ tool() {
     fi
 }
 
-# refused CODE WORDS..: runs a tool that must fail with a response code.
+# refused CODE WORDS..: runs a tool, which must fail with this response code.
 refused() {
     code=$1
     shift
@@ -73,17 +73,17 @@ refused() {
     fi
 }
 
-# same FILE: checks that the last tool printed the content of a file.
+# same FILE: checks that the output of the last tool is the content of a file.
 same() {
     cmp -s output "$1" || wrong "other bytes than $1"
 }
 
-# said TEXT: checks that the last tool printed a line with a text.
+# said TEXT: checks that the output of the last tool contains a text.
 said() {
     grep -q -- "$1" output || wrong "it does not say $1"
 }
 
-# loaded: prints the handle of the loaded transient object, if there is one.
+# loaded: prints the handle of the loaded transient object, or nothing.
 loaded() {
     tpm2 getcap handles-transient 2>error | sed -n 's/^- //p'
 }
@@ -147,7 +147,7 @@ indices() {
 }
 
 # Seals a key to PCR 10 and unseals it, with persistent handles. Without the completing layer, the tool that
-# loads the key cannot save its context afterwards. The object keeps its handle.
+# loads the key cannot save the key's context. Therefore the object remains loaded, at its handle.
 sealing() {
     tool createprimary -C o -G aes128cfb -g sha256
     tool evictcontrol -C o -c 0x80000000 0x81000001
@@ -250,7 +250,7 @@ policies() {
     tool flushcontext session.context
 }
 
-# Serves a device on a socket, to which the tools connect.
+# Serves a device on a socket for the tools.
 serve() {
     has socat
     "$top/tpmsim" serve --socket socket --image image --entropy /dev/urandom --locality 0 \
@@ -263,7 +263,8 @@ serve() {
     export TPM2TOOLS_TCTI="cmd:socat - UNIX-CONNECT:$folder/socket"
 }
 
-# keep WORDS: builds the module. Then the tools use a new device through it, with further options.
+# keep WORDS: builds the module, through which the tools then use a new device. WORDS are further options of the
+# module.
 keep() {
     [ -e made ] || "$top/hosts/build.sh" tcti made || exit 2
     rm -rf state

@@ -1,6 +1,6 @@
-# Runs programs for ARM64 on another machine: the kernel runs them with qemu, in separate namespaces, so that
-# no other program is affected. Needs unshare, and Linux 6.7 or newer with user namespaces. Other scripts
-# source this file.
+# Runs programs for ARM64 on another kind of machine. The kernel runs them with qemu, in separate namespaces, so
+# that other programs are not affected. Needs unshare, and Linux 6.7 or newer with user namespaces. Other
+# scripts source this file.
 # shellcheck shell=sh
 
 # note_of_arm64 QEMU FLAGS: prints the kernel's entry that names QEMU as the interpreter of programs for

@@ -1,5 +1,5 @@
-# Functions for the scripts that compile a crate with `rt`'s own tools and the libraries below the crate. They
-# source this file in the repository's folder, after tools/lib/proved.sh.
+# Functions for the scripts that compile a crate with the tools that `rt` uses, and with the libraries that the
+# crate needs. These scripts source this file in the repository's folder, after tools/lib/proved.sh.
 # shellcheck shell=sh
 
 # kit_folder: prints the folder of Rattle's toolchain.
@@ -7,8 +7,8 @@ kit_folder() {
     found=$(readlink -f "$(command -v rattle)") && echo "${found%/bin/*}"
 }
 
-# compile REPOSITORY CRATE FILE [WORDS..]: proves a crate with the libraries that are built in a repository,
-# and compiles it to a file: a static library to an archive, a program to an object file.
+# compile REPOSITORY CRATE FILE [WORDS..]: proves a crate, and compiles it to a file: a static library to an
+# archive, a program to an object file. The libraries that it uses must have been built in the repository.
 compile() (
     crates=$1/crates
     crate=$2

@@ -1,5 +1,6 @@
-# Makes new Debian systems for the scripts of tools/soak, which source this file. They set `work` to a folder
-# of their own, `machine` to the folder of the machine, and `mirror`, and define `fail REASON`.
+# Makes new Debian systems for the scripts of tools/soak, which source this file. These scripts set `work` to a
+# temporary folder, `machine` to the folder of the machine, and `mirror` to a Debian mirror. They also define
+# `fail REASON`.
 # shellcheck shell=sh disable=SC2154 # those scripts set the variables
 
 # needs_for_machines: ends the script if this user cannot make a machine, or if a tool is missing.
@@ -10,7 +11,7 @@ needs_for_machines() {
     done
 }
 
-# make_base: makes the machine $work/base, from which all others are copied.
+# make_base: makes the machine $work/base. All other machines are copies of it.
 make_base() {
     mkdir "$work/cache" || fail 'there is no folder for packages'
     debootstrap --cache-dir="$work/cache" --variant=minbase bookworm "$work/base" "$mirror" \
@@ -19,8 +20,8 @@ make_base() {
     apt update
 }
 
-# in_machine SHM WORDS..: runs a command in the machine, as root, with a /dev/shm of this size (or `none`).
-# The machine's mounts end with the command.
+# in_machine SHM WORDS..: runs a command in the machine, as root, with a /dev/shm of size SHM, or without one if
+# SHM is `none`. The machine's mounts end with the command.
 in_machine() {
     # shellcheck disable=SC2016 # the inner shell expands the variables
     unshare --mount --propagation private --pid --fork --kill-child sh -c '

@@ -3,9 +3,9 @@
 #
 #   play_tests.sh WORK NUMBER..
 #
-# WORK/queue/NUMBER describes a test in one line with tabs: the script or the shell test, the program,
-# the file of the expected standard output, and perhaps an option. The result goes to WORK/told/NUMBER,
-# whose first word is `ok:`, `FAILED:` or `skipped:`. Then the number is printed.
+# WORK/queue/NUMBER describes a test in one line with tabs: the script or the shell test, the program, the file
+# with the expected standard output, and sometimes an option. This script writes the result to WORK/told/NUMBER,
+# whose first word is `ok:`, `FAILED:` or `skipped:`, and then prints the number.
 set -u
 
 top=$(CDPATH='' cd "$(dirname "$0")/../.." && pwd -P) || exit 1
@@ -13,15 +13,15 @@ lists=$top/crates/tpmsim_lists/out/tpmsim_lists
 work=$1
 shift
 
-# name_of FILE: prints the path of a file in the repository, or among the generated scripts.
+# name_of FILE: prints the path of a file relative to the repository, or to the folder of the generated scripts.
 name_of() {
     name=${1#"$top/"}
     echo "${name#"$work/"}"
 }
 
-# first_difference TEST WANTED: prints the first line of standard output that differs from the expected one
-# and, for a script, the line of the script that printed it. Each cmd or do line prints one line, or two if
-# there is a trace. `power` prints one line, only if there is a trace.
+# first_difference TEST WANTED: prints the first line of standard output that differs from the expected one and,
+# for a script, the line of the script that printed it. Each cmd or do line prints one line, or two with
+# --trace. A line `power` prints one line with --trace, and nothing without it.
 first_difference() {
     awk -v test="$(name_of "$1")" -v out="$(name_of "$2")" '
         BEGIN { traces = out ~ /trace$/ }
@@ -44,8 +44,8 @@ first_difference() {
     ' "$1" "$2" "$output"
 }
 
-# name_program PATH: sets program_name to the name of a program: its path in the repository if it is
-# the one in dist/.
+# name_program PATH: sets program_name to the name of a program. This is its path in the repository if the
+# program is the one in dist/.
 name_program() {
     case $1 in
     */dist/*) program_name=${1#"$top/"} ;;
@@ -79,8 +79,8 @@ has_error() {
     fi
 }
 
-# tell_difference TEST WANTED STATUS WANTED_STATUS ERROR: prints how a test differs from the expected
-# files.
+# tell_difference TEST WANTED STATUS WANTED_STATUS ERROR: prints how the results of a test differ from the
+# expected files.
 tell_difference() {
     cmp -s "$2" "$output" || first_difference "$1" "$2"
     [ "$3" = "$4" ] || echo "    status wanted: $4, given: $3"
@@ -90,7 +90,7 @@ tell_difference() {
     }
 }
 
-# check TEST PROGRAM WANTED [OPTION]: plays a test, and prints how it differs from the expected files.
+# check TEST PROGRAM WANTED [OPTION]: plays a test, and prints how its results differ from the expected files.
 check() {
     name_program "$2"
     named="$(name_of "$1") with $program_name${4:+ $4}"

@@ -1,12 +1,13 @@
 # Prints the path of a program that is proved and built from the current sources. This is the program that was
-# built here, unless a source is newer, or the program in dist/, if dist/PROVED has the checksums of it and of
-# the sources. If there is neither, tools/build.sh builds one first. Other scripts source this file in the
-# repository's folder. The launcher does so at each start, so this file must start few processes.
+# built here, if no source is newer. Otherwise it is the program in dist/, if dist/PROVED has the checksums of
+# that program and of the sources. If neither is usable, tools/build.sh builds a program first. Other scripts
+# source this file in the repository's folder. The launcher does so at each start, so this file must start few
+# processes.
 # shellcheck shell=sh
 . tools/lib/proved.sh
 stamp=crates/tpmsim/out/verified-$machine
 
-# Whether dist/ can contain a program for this machine.
+# Succeeds if dist/ can contain a program for this machine.
 is_served() {
     case $system in
     'Linux x86_64' | 'Linux aarch64') true ;;
@@ -14,8 +15,8 @@ is_served() {
     esac
 }
 
-# Whether the program in dist/ was verified, and nothing in the repository on which it depends has been
-# changed or moved since. Whoever can write the stamp can also write this file.
+# Succeeds if the program in dist/ was verified, and nothing in the repository on which it depends was changed
+# or moved since then. The stamp need not be protected: whoever can write it can also write this file.
 is_verified() {
     [ -f "$stamp" ] && is_served && changed=$(
         find crates.txt HANDLES dist crates -regex 'crates/[^/]*/out' -prune -o \
@@ -23,12 +24,12 @@ is_verified() {
     ) && [ -z "$changed" ]
 }
 
-# Whether the program in dist/ is proved and runs here. If not, `fault` contains the reason.
+# Succeeds if the program in dist/ is proved and runs on this machine. Otherwise, `fault` contains the reason.
 is_good() {
     fault='dist/ has programs for Linux on x86-64 and on ARM64 alone'
     is_served || return 1
     fault="$shipped was proved of other sources than these"
-    # shellcheck disable=SC2119 # the default crate is meant
+    # shellcheck disable=SC2119 # no argument means the default crate
     is_proved sources "$(sources_checksum)" || return 1
     fault="$shipped is not the program that $proved names"
     is_proved program "$(checksum <"$shipped")" || return 1

@@ -1,4 +1,4 @@
-# Functions for the scripts that find, build and ship the proved program. They source this file in the
+# Functions for the scripts that find, build and ship the proved program. These scripts source this file in the
 # repository's folder.
 # shellcheck shell=sh disable=SC2034 # other scripts use the variables
 built=crates/tpmsim/out/tpmsim
@@ -16,18 +16,18 @@ ship() {
     proved=$distribution/PROVED
 }
 
-# By default these are the files for this machine. TPMSIM_MACHINE names another machine, for example to make a
-# package for it.
+# By default, the shipped files are those for this machine. TPMSIM_MACHINE names another machine, for example to
+# make a package for it.
 system=$(uname -sm)
 machine=${TPMSIM_MACHINE:-${system#Linux }}
 ship "$machine"
 
-# uses CRATE: prints the libraries that the crate's line in crates.txt names.
+# uses CRATE: prints the libraries that the line of the crate in crates.txt names.
 uses() {
     sed -n -e "s/^$1\( [^:]*\)\{0,1\}://p" crates.txt
 }
 
-# crates_below CRATE..: prints the crates of this repository that these crates use, lowest first.
+# crates_below CRATE..: prints the crates of this repository on which these crates depend, lowest first.
 crates_below() {
     awk -F: -v tops="$*" '
         function visit(crates, i, count, names) {
@@ -46,8 +46,8 @@ crates_below() {
         }' crates.txt
 }
 
-# sources [CRATE]: prints the files and folders from which a program or the library is built. CRATE is its
-# crate, by default tpmsim.
+# sources [CRATE]: prints the files and folders from which a program or the library is built. CRATE is the crate
+# of that program or library, by default tpmsim.
 sources() {
     below=$(crates_below "${1:-tpmsim}") || return 1
     echo crates.txt
@@ -67,7 +67,8 @@ is_newest() {
 }
 
 # are_built CRATE..: succeeds if each of these libraries and programs was built here by `rt ci`, and no source
-# is newer. For a static library, of which `rt ci` leaves no file, all crates below it must be built.
+# is newer. `rt ci` leaves no file of a static library; all crates on which that library depends must be built
+# instead.
 are_built() {
     for crate do
         if grep -q "^$crate staticlib" crates.txt; then
@@ -86,20 +87,21 @@ checksum() {
     sum=$(sha256sum) && echo "${sum%% *}"
 }
 
-# sources_checksum [CRATE]: prints the checksum of the sources: the SHA-256 of the lines that sha256sum prints
-# for the files, in the order of their paths in the repository.
+# sources_checksum [CRATE]: prints the checksum of the sources. This is the SHA-256 of the lines that sha256sum
+# prints for the files, in the order of their paths in the repository.
 sources_checksum() {
     sources=$(sources "$@") || return 1
     # shellcheck disable=SC2086 # source names have no spaces
     checksum_of $sources
 }
 
-# kept_sources_checksum: prints the checksum of the sources of libtpmsim-kept.so.0.
+# kept_sources_checksum: prints the checksum of the sources of libtpmsim-kept.so.0, the C host as a shared
+# object.
 kept_sources_checksum() {
     checksum_of hosts/kept hosts/shared.sh library/tpmsim.h
 }
 
-# checksum_of PATH..: prints the SHA-256 of the lines that sha256sum writes for these files and for the files
+# checksum_of PATH..: prints the SHA-256 of the lines that sha256sum prints for these files, and for the files
 # in these folders.
 checksum_of() {
     sums=$(find "$@" ! -type d -print0 | LC_ALL=C sort -z | xargs -0 sha256sum) || return 1
@@ -116,14 +118,15 @@ is_proved() {
     [ -n "$2" ] && [ "$(proved_line "$1")" = "$2" ]
 }
 
-# Checks the checksums of the C host of a kept device, and prints the faults, one on each line.
+# Compares the checksums of the C host with those in dist/PROVED. Prints the faults, one on each line.
 faults_of_kept() {
     [ -f "$kept_shared" ] || { echo "$kept_shared is not there" && return; }
     is_proved 'kept sources' "$(kept_sources_checksum)" || echo "$kept_shared was made of other sources than these"
     is_proved 'kept shared object' "$(checksum <"$kept_shared")" || echo "$kept_shared is not what $proved names"
 }
 
-# Checks the checksums of the module for web pages, and prints the faults, one on each line.
+# Compares the checksums of the module for web pages with those in dist/PROVED. Prints the faults, one on each
+# line.
 faults_of_module() {
     [ -f "$module" ] || { echo "$module is not there" && return; }
     is_proved 'web sources' "$(sources_checksum tpmsim_web)" ||

@@ -3,12 +3,12 @@
 
     tools/man/documents.py ROOT FOLDER [PATH=PLACE]..
 
-They are installed in FOLDER below ROOT, with their paths in the repository. PATH is another
-installed file of the repository, and PLACE its path below ROOT. Links between documents lead to
-installed files; any other link is replaced with its text. Programs have their installed names,
-which packaging/pages.toml lists, except in README.md, which is about the sources. Documents for
-developers are not installed. A script does not name the program that wrote it, because that program
-is not installed. Needs only python3.
+They are installed in FOLDER below ROOT, each with its path in the repository. PATH is a file of the
+repository that is installed elsewhere, and PLACE is its path below ROOT. Links between documents
+lead to installed files; any other link is replaced with its text. The names of programs are
+replaced with their installed names, which packaging/pages.toml lists, except in README.md, which is
+about the sources. Documents for developers are not installed. The name of the program that wrote a
+script is removed from the script, because that program is not installed. Needs only python3.
 """
 
 import functools
@@ -18,7 +18,7 @@ import re
 import shutil
 import sys
 
-# The repository contains no Python bytecode.
+# Python must write no bytecode into the repository.
 sys.dont_write_bytecode = sys.pycache_prefix is None
 
 from sources import TOP, installed  # noqa: E402
@@ -62,7 +62,7 @@ class Documents:
         self.places = {it: os.path.join(folder, it) for it in ours} | others
 
     def piece(self, document: str, found: re.Match[str]) -> str:
-        """Returns the replacement of a link, and any code unchanged."""
+        """Returns the replacement of a link; returns code unchanged."""
         text, file = found["text"], found["file"]
         if text is None or not file or SITE.match(file):
             return found[0]

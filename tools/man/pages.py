@@ -3,7 +3,7 @@
 
     tools/man/pages.py FOLDER [--program PROGRAM]
 
-packaging/pages.toml says what each page is made from. The pages, such as tpmsim.1, are written to
+packaging/pages.toml lists the sources of each page. The pages, such as tpmsim.1, are written to
 FOLDER. The program is dist/tpmsim, or PROGRAM. The status is 1, with a line on standard error, if a
 section or a program is missing. Needs only python3.
 """
@@ -15,7 +15,7 @@ import sys
 from collections.abc import Iterator
 from dataclasses import dataclass, field
 
-# The repository contains no Python bytecode.
+# Python must write no bytecode into the repository.
 sys.dont_write_bytecode = sys.pycache_prefix is None
 
 import roff  # noqa: E402
@@ -34,7 +34,7 @@ FLAGS = "cc PROGRAM.c $(pkg-config --cflags --libs tpmsim)"
 
 @dataclass
 class Page:
-    """The entry of a page in packaging/pages.toml."""
+    """The entry in packaging/pages.toml for a page."""
 
     name: str
     section: int
@@ -75,7 +75,8 @@ class Manual:
 
     def __init__(self, program: str) -> None:
         self.program = program
-        # A key is a page's name, followed by its section number if two pages have the same name.
+        # A key is the name of a page. If two pages have the same name, the section number follows
+        # it.
         told = pages_told()["pages"].items()
         self.pages = {key: Page(key.partition(".")[0], **page) for key, page in told}
         self.version = said(["tpmsim", "--version"], program).split()[-1]
@@ -87,8 +88,8 @@ class Manual:
                 self.places |= {(part.document, anchor): page for anchor in part.anchors}
 
     def place_of(self, path: str, anchor: str) -> Page | None:
-        """Returns the page that contains a section or, without an anchor, the page with most of the
-        document.
+        """Returns the page that contains the section with an anchor. Without an anchor, returns the
+        page that contains most of the document.
         """
         if anchor:
             return self.places.get((path, anchor))
@@ -146,7 +147,7 @@ class Manual:
         yield from roff.code(self.synopsis(page))
 
     def files(self, lines: list[str]) -> Iterator[str]:
-        """Yields the installed paths of the folders that these lines mention with their paths in
+        """Yields the installed paths of those folders that these lines mention by their paths in
         the repository.
         """
         named = sorted({f"\\fB{it}\\fR" for it in FOLDER.findall(FONT.sub("", "\n".join(lines)))})
@@ -167,7 +168,7 @@ class Manual:
         yield from (".SH SEE ALSO", words_of(others))
 
     def body(self, page: Page) -> Iterator[str]:
-        """Yields the title part of a page, and then the lines of all its sections."""
+        """Yields the introduction of a page, and then the lines of all its sections."""
         yield from self.head(page)
         if page.commands:
             yield from self.commands(page.commands)
@@ -179,7 +180,8 @@ class Manual:
             yield from roff.code(said(words, self.program).rstrip().split("\n"))
 
     def write(self, folder: pathlib.Path) -> None:
-        """Writes all pages, and for each alternative name of a page a page that refers to it."""
+        """Writes all pages. For each alternative name of a page, writes a page that refers to it.
+        """
         folder.mkdir(parents=True, exist_ok=True)
         for page in self.pages.values():
             (folder / page.file()).write_text("\n".join(self.lines(page)) + "\n")

@@ -24,7 +24,7 @@ Link = Callable[[str, str], str]
 
 
 def escaped(text: str) -> str:
-    """Returns a text in which every character with a special meaning in roff is escaped."""
+    """Returns a text with every character escaped that has a special meaning in roff."""
     return text.replace("\\", "\\e").replace("-", "\\-").replace("'", "\\(aq").replace("`", "\\(ga")
 
 
@@ -69,8 +69,8 @@ def cells_of(text: str) -> list[str]:
 
 
 def table(rows: list[str], link: Link) -> Iterator[str]:
-    """Yields a paragraph for each row, tagged with the first cell. From the third cell on, the
-    heading of its column precedes each cell.
+    """Yields a paragraph for each row, tagged with the first cell. From the third cell on, each
+    cell is preceded by the heading of its column.
     """
     heads, *body = [cells_of(row) for row in rows if not RULE.match(row)]
     for first, second, *others in body:
@@ -87,14 +87,14 @@ def section(level: int, heading: str, link: Link) -> str:
 
 
 def taken(lines: list[str], start: int, belongs: Callable[[str], bool]) -> int:
-    """Returns the number of the first line, from `start` on, for which `belongs` is false."""
+    """Returns the number of the first line at or after `start` for which `belongs` is false."""
     while start < len(lines) and belongs(lines[start]):
         start += 1
     return start
 
 
 def goes_on(text: str) -> bool:
-    """Whether a line continues the paragraph before it."""
+    """Returns whether a line continues the previous paragraph."""
     return bool(text.strip()) and not any(form.match(text) for form in (FENCE, HEADING, ITEM, ROW))
 
 
@@ -103,8 +103,7 @@ def paragraph(lines: list[str], link: Link) -> str:
 
 
 def roff(text: str, link: Link, depth: int = 0) -> Iterator[str]:
-    """Yields the roff lines of a Markdown text, whose headings are `depth` levels deeper than on
-    the page.
+    """Yields the roff lines of a Markdown text. The levels of its headings are reduced by `depth`.
     """
     lines, at = text.split("\n"), 0
     while at < len(lines):

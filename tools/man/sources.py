@@ -16,7 +16,7 @@ DECLARATION = re.compile(r"^\w[\w *]*\([^;{}]*\);", re.M)
 
 
 class Missing(Exception):
-    """A source of a page is missing."""
+    """The exception for a missing source of a page."""
 
 
 @functools.cache
@@ -27,7 +27,7 @@ def pages_told() -> dict[str, Any]:
 
 
 def installed(text: str) -> str:
-    """Returns a text in which the programs have their installed names."""
+    """Returns a text with the programs' names replaced with their installed names."""
     for path, name in pages_told()["names"].items():
         text = re.sub(rf"(?<![\w/.]){re.escape(path)}(?![\w/])", name, text)
     return text
@@ -35,7 +35,9 @@ def installed(text: str) -> str:
 
 @dataclass
 class Part:
-    """A section: its document, its text, the number of levels above it, and the anchors in it."""
+    """A section of a document: the document, the section's text, the number of levels above it, and
+    the anchors in it.
+    """
 
     document: str
     text: str
@@ -75,7 +77,8 @@ def part_of(name: str) -> Part:
 
 
 def said(words: list[str], program: str) -> str:
-    """Returns the output of a command; the word `tpmsim` stands for the program."""
+    """Returns the output of a command. The word `tpmsim` is replaced with the path of the program.
+    """
     told = [program if word == "tpmsim" else word for word in words]
     run = subprocess.run(told, cwd=TOP, capture_output=True, text=True, check=False, timeout=60)
     if run.returncode or not run.stdout:
@@ -92,7 +95,7 @@ def help_parts(text: str) -> dict[str, str]:
 
 
 def usage_of(text: str) -> list[str]:
-    """Returns the first indented lines of a help text, which are its command lines."""
+    """Returns the first indented lines of a help text, which show its command lines."""
     found = re.search(r"^((?: {4}.*\n)+)", text, re.M)
     if not found:
         raise Missing("a help has no command line that is set in")

@@ -1,9 +1,9 @@
 #!/bin/sh
 # Tests the files for ARM64 in qemu more thoroughly than the gate. It plays each script of tests/ with the
-# program and with both files of the library, whose calls may use no more stack than tpmsim.h says. It runs
-# tests of hosts/ whose test programs are compiled for ARM64. One of them kills 300 processes that hold a
-# device. It takes some ten minutes. Needs Debian's qemu-user and gcc-aarch64-linux-gnu, and what
-# tools/lib/arm64.sh needs.
+# program and with both files of the library, whose functions may use no more stack than tpmsim.h documents. It
+# also runs tests of hosts/ with test programs that are compiled for ARM64. One of these tests kills 300
+# processes that use a device. It takes some ten minutes. Needs Debian's qemu-user and gcc-aarch64-linux-gnu,
+# and what tools/lib/arm64.sh needs.
 #
 # The other tests of hosts/ need features that qemu 7.2 lacks: sanitizers, adopting orphaned processes, and
 # memory that is wiped in a forked child, with which the module detects a fork.
@@ -47,7 +47,7 @@ compare() {
     failed=$((failed + 1))
 }
 
-# Tests the library without sanitizers. Their lines are missing in the output.
+# Tests the library without sanitizers. The output lacks the lines of the programs with sanitizers.
 cat >"$work/library.sh" <<END
 tests=$top/tests
 . "\$tests/common/cases.sh"

@@ -1,13 +1,15 @@
 #!/bin/sh
-# Attacks the kept device of hosts/kept. Its processes are killed before a system call, system calls fail, and
-# processes fork. Now and then the host crashes: the disk then contains the synced data, and a random part of
-# the other data. With force=always no answered command may be lost. With force=power no power cycle may be
-# lost. It is not part of the gate; tests/attached/attached_crashes.sh is. Needs cc and python3.
+# Stress-tests devices in folders with the C host in hosts/kept: processes are killed before a system call,
+# system calls fail, and processes fork. Now and then the host crashes: the disk then contains the synced data,
+# and a random part of the other data. With force=always no answered command may be lost. With force=power no
+# power cycle may be lost. It is not part of the gate, but tests/attached/attached_crashes.sh, a shorter
+# version, is. Needs cc and python3.
 #
 #   tools/soak/attached.sh             ten minutes, with seed 1
 #   tools/soak/attached.sh 60 7        one minute, with seed 7
 #
-# At the end it prints how much was tried. If something was lost, it prints what, and the status is 1.
+# At the end it prints the counts of the trials. If something was lost, it prints a description, and the status
+# is 1.
 set -u
 
 tests=$(CDPATH='' cd "$(dirname "$0")/../../tests" && pwd -P) || exit 1

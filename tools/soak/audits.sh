@@ -1,15 +1,15 @@
 #!/bin/sh
 # Checks logs with tools/audit.py. A log is the program's output for a script of tests/ or examples/, or for a
-# random script of 400 commands. The log of each random script is checked again from a power cycle on, with
-# the device's image, and once more with altered lines. Needs python3.
+# random script of 400 commands. The log of each random script is checked twice more: from a power cycle on,
+# with the device's image; and with altered lines. Needs python3.
 #
 #   tools/soak/audits.sh 1000     1,000 random scripts, from seed 1 on: about six minutes
 #   tools/soak/audits.sh 50 7     50 random scripts, from seed 7 on
 #   tools/soak/audits.sh 0        only the scripts of tests/ and examples/
 #
-# It runs PROGRAM, or the one that tools/lib/program.sh names. It keeps the random scripts in whose logs the
-# audit finds a fault, and prints their paths. The last line counts logs and events. The status is 1 if a
-# fault is found.
+# It runs PROGRAM, or the one that tools/lib/program.sh names. If the audit finds a fault in the log of a random
+# script, the script is kept, and its path is printed. The last line counts logs and events. The status is 1 if
+# a fault is found.
 set -u
 
 is_number() {

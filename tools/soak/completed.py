@@ -4,7 +4,8 @@ the layer in Python.
 
     tools/python.sh tools/soak/completed.py SECONDS [SEED]
 
-It prints the seeds that differ, and the totals. The status is 1 if a seed differs.
+It prints the seeds for which the responses differ, and the totals. The status is 1 if there is such
+a seed.
 """
 
 import itertools

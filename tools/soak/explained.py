@@ -1,5 +1,5 @@
-"""Explains the journals and logs in a folder, and compares the explanations with the response
-digests that they contain. Then explains each script of tests/ and examples/, and compares the
+"""Explains the journals and logs in a folder, and compares each explanation with the digests of
+responses in the journal or log. Then explains each script of tests/ and examples/, and compares the
 explanation with a program's output:
 
     explained.py FOLDER PROGRAM
@@ -16,13 +16,13 @@ OTHERWISE = "the response is another one than was recorded, by its sum"
 
 
 def faults_of(play, events):
-    """Returns the faults of a log that a test has damaged."""
+    """Returns the faults of a log that a test has damaged deliberately."""
     words = [it.words for event in events for it in event.differences if it.words != OTHERWISE]
     return [*([play.fault] if play.fault else []), *play.damages, *words]
 
 
 def others_of(events):
-    """Returns the events whose explanation differs from the recorded response."""
+    """Returns the events for which the explained response differs from the recorded one."""
     return [it for it in events if it.differences or (it.reason is None) == bool(it.refused)]
 
 
@@ -51,7 +51,7 @@ def scripts(program):
 
 
 def report(found, words):
-    """Prints the number of events, and returns those whose explanation differs."""
+    """Prints the number of events. Returns the events for which the explained response differs."""
     for path, events in found.items():
         other = others_of(events)
         if other:

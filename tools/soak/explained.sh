@@ -1,7 +1,7 @@
 #!/bin/sh
-# Plays the shell tests, and explains each journal and log that they leave. The explanation must agree with
-# the digest of each response in the log. Journals that a test has damaged are listed with their damage. Then
-# it explains all scripts of tests/ and examples/ in the same way, with the responses of dist/tpmsim. Needs
+# Plays the shell tests, and explains each journal and log that they leave. The explained responses must have
+# the digests that are in the log. Journals that a test has damaged are listed with their damage. Then it
+# explains all scripts of tests/ and examples/ in the same way, with the responses of dist/tpmsim. Needs
 # python3.
 #
 #   tools/soak/explained.sh            all tests

@@ -1,8 +1,8 @@
 #!/bin/sh
-# Runs tools/scripts.sh of the last commit in new Debian systems: with git and python3; with a C compiler too;
-# with python3-minimal; with all packages that packaging/debian_packages lists; and without git and python3.
-# No test may fail there. Then it installs the packages that the line before the last one names, and runs the
-# tests again: now that line must be missing. It takes half an hour or more, and is not part of the gate.
+# Runs tools/scripts.sh of the last commit in new Debian systems: with git and python3; also with a C compiler;
+# with python3-minimal; with all packages that packaging/debian_packages lists; and without git and python3. No
+# test may fail there. If the tests name packages with which more tests could run, it installs them, and runs
+# the tests again; now no package may be named. It takes half an hour or more, and is not part of the gate.
 #   tools/soak/fresh_machines.sh           each machine of the list below
 #   tools/soak/fresh_machines.sh NAME..    only these machines
 #
@@ -12,7 +12,7 @@ set -u
 top=$(CDPATH='' cd "$(dirname "$0")/../.." && pwd -P) || exit 1
 mirror=${MIRROR:-http://deb.debian.org/debian}
 
-# One machine on each line: its name, the size of /dev/shm (or none), the user who runs the tests, and its
+# The machines, one on each line: the name, the size of /dev/shm (or none), the user who runs the tests, and the
 # packages.
 machines="
 python    4g   root  git python3
@@ -24,7 +24,7 @@ nothing   4g   root
 all       4g   root  git $(tr '\n' ' ' <"$top/packaging/debian_packages")
 "
 
-# fail REASON: ends the script.
+# fail REASON: ends the script with a message.
 fail() {
     echo "$0: $1" >&2
     exit 2
@@ -40,7 +40,7 @@ play() {
     in_machine "$1" $as timeout 1800 sh -c 'cd /home/user/tpmsim && tools/scripts.sh' >"$work/said" 2>&1
 }
 
-# judge NAME STATUS: prints the result of a machine, and counts the machine if a test failed.
+# judge NAME STATUS: prints the result of the tests in a machine, and counts the machine if a test failed.
 judge() {
     echo "$1: $(tail -n 1 "$work/said")"
     [ "$2" -eq 0 ] && tail -n 1 "$work/said" | grep -q '^[0-9]* passed, 0 failed' && return
@@ -48,12 +48,12 @@ judge() {
     grep -v -e '^ok: ' -e '^skipped: ' "$work/said" | sed 's/^/    /'
 }
 
-# named: prints the packages that the tests report, with which more tests could run.
+# named: prints the packages that the tests name, with which more tests could run.
 named() {
     sed -n 's/^More is played after: apt-get install //p' "$work/said"
 }
 
-# play_machine NAME SHM USER PACKAGE..: runs the tests in a new machine with these packages. If the tests report
+# play_machine NAME SHM USER PACKAGE..: runs the tests in a new machine with these packages. If the tests name
 # missing packages, installs them and runs the tests again.
 play_machine() {
     name=$1 shm=$2 user=$3

@@ -21,7 +21,7 @@ PLACE = re.compile(r"(?:note: )?(?:\./)?(\S+?\.(?:rt|antt)):(\d+):\d+: (.*)")
 
 @dataclasses.dataclass(frozen=True)
 class Function:
-    """A function: its file, its first line and the line after its last, and its name."""
+    """A function: its file, its first line, the line after its last one, and its name."""
 
     file: str
     first: int
@@ -59,28 +59,29 @@ class Function:
 
     def path(self) -> str:
         """Returns the end of the function's path within the crate: its owner or module, and its
-        name. If the owner is unknown, returns the module.
+        name. If the owner is unknown, returns the path of the module.
         """
         if self.owner is None:
             return self.module()
         return "::".join(filter(None, [self.owner or self.module(), self.name]))
 
     def told_in(self, said: list[str]) -> dict[str, str]:
-        """Returns the messages about this function, by its path. If its owner is unknown, includes
-        those about every function of this name in the file.
+        """Returns the messages about this function, keyed by its path. If its owner is unknown,
+        includes the messages about all functions with this name in the file.
         """
         paths = rf"{self.module()}\S*\b{self.name}" if self.owner is None else self.path()
         told = re.compile(rf"fn \w+::({'(?:[^ ]+::)?' if self.owner else ''}{paths}): (.*)")
         return {match[1]: match[2] for line in said if (match := told.match(line))}
 
     def is_proved_in(self, said: list[str]) -> bool:
-        """Whether there are messages about this function, and all say that it is proved."""
+        """Returns whether there are messages about this function, and all report that it is proved.
+        """
         words = self.told_in(said).values()
         return bool(words) and all(it == "proved" for it in words)
 
 
 def is_fault(line: str) -> bool:
-    """Whether a line names a position at which something is refused or not proved."""
+    """Returns whether a line names a position at which something is refused or not proved."""
     place = PLACE.match(line)
     return place is not None and ("error" in place[3] or "not proved" in place[3])
 
@@ -109,7 +110,7 @@ def owner_of(lines: list[str], at: int) -> str | None:
     if not match:
         return None
     trait, arguments = match["trait"] or "", match["arguments"] or ""
-    # A single-letter argument is a parameter of the block, which the prover does not write.
+    # A single-letter argument is a parameter of the block, which the prover does not print.
     return match["type"] + trait + "".join(it for it in arguments.split(", ") if len(it) > 1)
 
 

@@ -1,19 +1,19 @@
 #!/bin/sh
 # Plays random events, and compares the program's responses with those of the device in plain Python under
-# python/tpmsim/model. Needs python3. A round consists of a random script, an altered script, in which bytes
-# of commands, lines and letters are changed, and a stream. A stream consists of connections to a served
-# device, in several runs with the same image. Some of its buffers are incomplete or have wrong sizes, and
-# some images are altered. A round depends only on its seed.
+# python/tpmsim/model. Needs python3. A round consists of a random script; of a script in which bytes of
+# commands, lines and letters are altered; and of a stream. A stream consists of connections to `tpmsim serve`,
+# in several runs with the same image. Some of the buffers in it are incomplete or have wrong sizes, and some
+# images are altered. A round depends only on its seed.
 #
 #   tools/soak/fuzz.sh 600             rounds for 600 seconds, from a seed on that is taken from the clock and printed
 #   tools/soak/fuzz.sh 600 7           the same, with the seeds 7, 8, and so on
 #   tools/soak/fuzz.sh --rounds 60 1   the rounds of the seeds 1 to 60, always the same: about a minute
 #   tools/soak/fuzz.sh --replay FILE   plays a script or a stream that an earlier run kept
 #
-# It runs PROGRAM, or the one that tools/lib/program.sh names. If a response differs, it prints the seed and
-# the line of the difference, and keeps the script or the stream. The first one is also kept in a reduced
-# form, which contains only the lines that the difference needs. tests/common/streams.py defines the lines of
-# a stream. The last lines count what was tried. The status is 1 if anything differs.
+# It runs PROGRAM, or the one that tools/lib/program.sh names. If a response differs, it prints the seed and the
+# line of the difference, and keeps the script or the stream. The first one is also kept in a reduced form, with
+# only the lines that are needed to reproduce the difference. tests/common/streams.py defines the lines of a
+# stream. The last lines contain the totals. The status is 1 if anything differs.
 set -u
 
 is_number() {

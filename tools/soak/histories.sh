@@ -1,6 +1,7 @@
 #!/bin/sh
-# Plays random events on the Python device, and compares it after each event with what the history alone
-# determines: each PCR, counter, authorization value, session and policy. Needs python3, and no program.
+# Plays random events on the Python model. After each event, compares the model's state with what the history of
+# accepted events alone determines: each PCR, counter, authorization value, session and policy. Needs python3,
+# and no program.
 #
 #   tools/soak/histories.sh 100000     100,000 events, from seed 1 on: half a minute
 #   tools/soak/histories.sh 5000 7     5,000 events, from seed 7 on

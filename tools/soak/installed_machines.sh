@@ -1,5 +1,5 @@
 #!/bin/sh
-# Installs each package in a new Debian system, and uses it there as its documents say:
+# Installs each package in a new Debian system, and uses it there as its documents describe:
 #
 #   deb      apt-get installs it: the loader and man find it, and README's commands, the examples in words, C and
 #            Python, tpm2-tools and a program in C run. apt-get removes everything again.
@@ -17,7 +17,7 @@ set -u
 top=$(CDPATH='' cd "$(dirname "$0")/../.." && pwd -P) || exit 1
 mirror=${MIRROR:-http://deb.debian.org/debian}
 
-# fail REASON: ends the script.
+# fail REASON: ends the script with a message.
 fail() {
     echo "$0: $1" >&2
     exit 2

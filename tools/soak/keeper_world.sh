@@ -1,12 +1,12 @@
 #!/bin/sh
-# Drives the compiled keeper with the folder and the crashes that the theorem on kept devices defines, like
+# Runs the compiled keeper with the folder and the crashes that the theorem on devices in folders defines, like
 # tests/library/library_keeper_world.sh, but for more events. It is not part of the gate. Needs cc.
 #
 #   tools/soak/keeper_world.sh               a million events, with seed 1
 #   tools/soak/keeper_world.sh 5000000 7     five million events, with seed 7
 #
-# It prints that each response and each journal agreed with the history, or which of them did not, and the
-# numbers of events of each kind.
+# It prints whether all responses and journals agreed with the history, the first one that did not, and the
+# number of events of each kind.
 set -u
 
 tests=$(CDPATH='' cd "$(dirname "$0")/../../tests" && pwd -P) || exit 1

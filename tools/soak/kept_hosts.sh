@@ -1,14 +1,16 @@
 #!/bin/sh
-# Attacks all hosts of a kept device. First each call of each host fails in turn, in some 13,000 runs, of
-# which tests/keeping/library_each_call.sh makes one in ten. Then the system crashes after each change to a
-# folder. Finally hosts of each kind use one device at the same time, while they are killed and interrupted,
-# and fork. It is not part of the gate. Needs cc, libtss2-dev and python3.
+# Stress-tests all programs and modules that keep a device in a folder (hosts). First each call of each host
+# fails in turn, in some 13,000 runs; tests/keeping/library_each_call.sh makes one in ten of them. Then the
+# system crashes after each change to a folder. Finally hosts of each kind use one device at the same time,
+# while they are killed and interrupted, and fork. It is not part of the gate. Needs cc, libtss2-dev and
+# python3.
 #
 #   tools/soak/kept_hosts.sh             all calls, and ten minutes of processes
 #   tools/soak/kept_hosts.sh 60 7        all calls, and one minute of processes, with seed 7
 #   tools/soak/kept_hosts.sh 60 7 1      the same; with 10 instead of 1, only every tenth call
 #
-# At the end it prints what was tried. If something was wrong, it prints that, and the status is 1.
+# At the end it prints the counts of the trials. If something was wrong, it prints a description, and the status
+# is 1.
 set -u
 
 tests=$(CDPATH='' cd "$(dirname "$0")/../../tests" && pwd -P) || exit 1

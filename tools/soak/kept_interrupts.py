@@ -3,12 +3,13 @@
     tools/python.sh tools/soak/kept_interrupts.py 200      200 folders, of seed 1: about two minutes
     tools/python.sh tools/soak/kept_interrupts.py 200 7    of seed 7
 
-In each folder three processes hold one device for half a second. They increment an NV index,
+In each folder three processes use one device for half a second. They increment an NV index,
 power-cycle the device, and open it again. Meanwhile KeyboardInterrupt is raised in them: in every
 second folder by a timer, up to three times during a call; in the other folders by a tracer, at a
-random line. Then the folder is opened. A device is lost if opening fails, if the index has fewer
-increments than were answered or more than were requested, or if a process reports damage or waits
-forever. The last line contains the totals. The status is 1 if a device is lost.
+random line. Then the folder is opened. A device counts as lost if opening fails, if the value of
+the index is less than the number of answered increments or greater than the number of requested
+ones, or if a process reports damage or waits forever. The last line contains the totals. The status
+is 1 if a device is lost.
 """
 
 import json
@@ -102,7 +103,7 @@ class Interrupts:
 
 
 class Player:
-    """One process that holds the device."""
+    """One process that uses the device."""
 
     def __init__(self, folder, increment, seed, is_traced):
         self.folder, self.increment, self.device = folder, increment, None
@@ -153,7 +154,9 @@ def forked(folder, increment, seed, is_traced):
 
 
 def ended(child, reads, until):
-    """Returns the counts of a process. A process that does not end counts as waiting forever."""
+    """Returns the counts of a process. If the process does not end, it is counted as waiting
+    forever.
+    """
     while time.monotonic() < until and not os.waitid(
         os.P_PID, child, os.WEXITED | os.WNOHANG | os.WNOWAIT
     ):
@@ -166,7 +169,9 @@ def ended(child, reads, until):
 
 
 def compared(folder, caller, index, before, counts):
-    """Compares a folder's device with these counts. Returns the fault, or an empty text."""
+    """Compares a folder's device with these counts. Returns a description of the fault, or an empty
+    text.
+    """
     try:
         with KeptDevice(folder) as caller.device:
             caller.device.power_cycle()
@@ -194,7 +199,7 @@ def tried(folder, seed, is_traced):
     processes = [forked(folder, increment, it, is_traced) for it in seeds]
     for process in processes:
         counts.add(ended(*process, until))
-    # A process that does not end does not report its counts, and may hold the lock.
+    # If a process does not end, its counts are unknown, and it may still hold the lock.
     counts.lost = counts.lost or compared(folder, caller, index, before, counts)
     return counts
 

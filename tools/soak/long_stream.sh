@@ -5,7 +5,7 @@
 #   tools/soak/long_stream.sh          100 million bytes of commands
 #   tools/soak/long_stream.sh 500      500 million bytes
 #
-# Each command must be answered with SUCCESS. The last line says how the program ended.
+# Each command must be answered with SUCCESS. The last line reports how the program ended.
 set -u
 
 top=$(CDPATH='' cd "$(dirname "$0")/../.." && pwd -P) || exit 1

@@ -6,8 +6,8 @@
 #   tools/soak/random_scripts.sh 7               the script of seed 7
 #   tools/soak/random_scripts.sh 1 100 2000      the scripts of the seeds 1 to 100, of 2,000 commands each
 #
-# If the responses differ, it prints the first line that differs, keeps the script and both outputs,
-# and prints their paths. Its last line is `N agree, M differ`.
+# If the responses differ, it prints the first different line, keeps the script and both outputs, and prints
+# their paths. Its last line is `N agree, M differ`.
 set -u
 
 top=$(CDPATH='' cd "$(dirname "$0")/../.." && pwd -P) || exit 1

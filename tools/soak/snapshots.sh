@@ -21,7 +21,7 @@ folder=$(mktemp -d) || exit 1
 agree=0
 differ=0
 
-# play SEED: plays the script of a seed on two devices.
+# play SEED: plays the script for a seed on two devices.
 play() {
     "$top/tools/python.sh" "$top/tests/at_random/random_script.py" "$1" "$count" "$folder" || exit 1
     "$top/tools/python.sh" "$top/tests/library/scripts.py" --lines "$folder/$1.tpm" >"$folder/lines" ||

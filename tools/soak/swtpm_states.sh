@@ -1,12 +1,12 @@
 #!/bin/sh
 # Makes each call of swtpm on its state files fail in turn, with this repository's libtpms.so.0, in some 1,000
-# runs. tests/keeping/library_swtpm_files.sh makes one in ten of them. Needs cc, python3, swtpm, libtpms-dev
-# and libtss2-dev. Not part of the gate.
+# runs. tests/keeping/library_swtpm_files.sh makes one in ten of these runs. Needs cc, python3, swtpm,
+# libtpms-dev and libtss2-dev. Not part of the gate.
 #
 #   tools/soak/swtpm_states.sh       all calls
 #   tools/soak/swtpm_states.sh 10    every tenth call
 #
-# At the end it prints the number of runs. If something was wrong, it prints that, and the status is 1.
+# At the end it prints the number of runs. If something was wrong, it prints a description, and the status is 1.
 set -u
 
 tests=$(CDPATH='' cd "$(dirname "$0")/../../tests" && pwd -P) || exit 1

@@ -1,10 +1,11 @@
 #!/bin/sh
-# Tries the patches under wrong/turned. Each changes the code of a command together with the definition of its
-# row, and with the proofs that repeat the row. The device then behaves wrongly, and yet all crates below
-# tpm_step are proved. But the history determines a different behaviour. Therefore a law of tpm_step, or of
-# another crate of laws, must fail. All patches are tried before a piece of work is declared done. Patches
-# that name different laws of one crate are tried in one copy of that crate and of the crates below it. `rt
-# ci` proves the copy, from scratch if the kit has stored no proofs. Needs rt, and git.
+# Tries the patches under wrong/turned. Each patch changes the code of a command consistently with its row, the
+# definition of the command's behaviour, and with the proofs that repeat the row. The device then behaves
+# wrongly, although all crates below tpm_step can still be proved. But the history of the device determines a
+# different behaviour. Therefore a law of tpm_step, or of another crate of laws, must fail. All patches are
+# tried before a piece of work is declared done. Patches that name different laws of one crate are tried in one
+# copy of that crate and of the crates below it. `rt ci` proves the copy, from scratch if the kit has stored no
+# proofs. Needs `rt` and git.
 #
 #   tools/soak/turned_rows.sh                    all patches
 #   tools/soak/turned_rows.sh pcr_16_restored    one patch, or several
@@ -30,7 +31,7 @@ fi
 room=$(mktemp -d)
 trap 'rm -rf "$room"' EXIT
 
-# said NAME PATCH: prints the value of the line NAME at the head of a patch.
+# said NAME PATCH: prints the value of the line NAME at the beginning of a patch.
 said() {
     sed -n "/^diff /q; s/^$1: //p" "$2"
 }
@@ -40,14 +41,14 @@ patch_of() {
     echo "wrong/turned/$1.patch"
 }
 
-# crate_of NAME: prints the crate of the law that a patch names.
+# crate_of NAME: prints the crate that contains the law named in a patch.
 crate_of() {
     crate=$(said crate "$(patch_of "$1")")
     echo "${crate:-tpm_step}"
 }
 
-# turn NAME..: copies the crate whose laws these patches name, and the crates below it, without wrong bodies.
-# Applies the patches to the copy.
+# turn NAME..: copies the crate whose laws these patches name, and the crates below it, without their wrong
+# bodies. Then applies the patches to the copy.
 turn() {
     rm -rf "$room/copy"
     crates="$(crates_below "$(crate_of "$1")") $(crate_of "$1")"
@@ -59,7 +60,7 @@ turn() {
     done
 }
 
-# prove: runs `rt ci` in the copy; its output goes to the log.
+# prove: runs `rt ci` in the copy, and writes its output to the log.
 prove() {
     (cd "$room/copy" && sh "$top/tools/lib/rt_ci.sh") </dev/null >"$room/log" 2>&1
 }
@@ -78,8 +79,8 @@ law_at() {
     ' "$room/copy/crates/$1/proofs/$2.antt"
 }
 
-# refused_laws CRATE: prints the laws of a crate that are refused according to the log, each as FILE NAME.
-# It leaves out laws that were not tried because they depend on a refused one.
+# refused_laws CRATE: prints the laws of a crate that are refused according to the log, each as FILE NAME. Omits
+# laws that were not checked because they depend on a refused law.
 refused_laws() {
     grep -E '^\./proofs/[A-Za-z]+\.antt:[0-9]+:[0-9]+: error: ' "$room/log" |
         grep -vE 'which was (rejected|not admitted)' |
@@ -89,7 +90,7 @@ refused_laws() {
         done | sort -u
 }
 
-# fail_at_laws NAME..: reports for each of these patches whether the law that it names was refused.
+# fail_at_laws NAME..: reports for each of these patches whether the law that the patch names was refused.
 fail_at_laws() {
     refused_laws "$(crate_of "$1")" >"$room/laws"
     for name do
@@ -104,8 +105,8 @@ fail_at_laws() {
 }
 
 # try_together NAME..: applies these patches to a copy, and proves it. All crates below the crate of laws must
-# be proved, and so must that crate's laws about rows, if it has any. The crate must be refused at the law
-# that each patch names.
+# be proved. If that crate has laws about rows, these must be proved too. The crate must be refused at each law
+# that one of the patches names.
 try_together() {
     turn "$@" || return 0
     if prove; then
@@ -134,8 +135,8 @@ is_apart() {
     done
 }
 
-# group NAME..: writes which patches are tried in one copy, one line for each copy. The patches of a line
-# name different laws of one crate.
+# group NAME..: groups the patches that can be tried in one copy, and writes one group to each line. The patches
+# of a group name different laws of one crate.
 group() {
     : >"$room/groups"
     for name do

@@ -1,7 +1,7 @@
 #!/usr/bin/env python3
-"""Tries the wrong bodies (mutants) under wrong/: each changes the meaning of one function or
-definition, and the prover must refuse it. The gate tries only those in the crates' must-fail/. All
-others are tried before a piece of work is declared done (docs/gate.json names its commit).
+"""Tries the wrong bodies (mutants) under wrong/: each of them changes the meaning of one function
+or definition, and the prover must refuse it. The gate tries only those in the crates' must-fail/.
+All others are tried before a piece of work is declared done (docs/gate.json names its commit).
 
     tools/soak/wrong_bodies.py                       all of them
     tools/soak/wrong_bodies.py tpm_pcr               those of one crate, or of several
@@ -20,9 +20,9 @@ nevertheless, the whole crate. Each check continues from an earlier one, and the
 results in the crate's out/.
 
 It prints a line for each body, and at the end `N of M wrong bodies refused`. The status is 0 if all
-are refused. It is 1 if a body is not refused, or is bad: it cannot be applied, compiled or parsed,
-or is refused only because a proof file names something that it removed. Such a refusal shows
-nothing about a contract. It needs rt.
+are refused. It is 1 if a body is not refused, or is bad. A body is bad if it cannot be applied,
+compiled or parsed, or is refused only because a proof file names something that the body removed.
+Such a refusal shows nothing about a contract. The program needs `rt`.
 """
 
 from __future__ import annotations
@@ -55,11 +55,11 @@ ITEM = re.compile(
 UNREAD = re.compile(
     r"is not in scope|has no field|is no name|operand is missing|expected the end|cannot continue"
 )
-# The borrow checker does not cover some functions. These functions are not proved, whatever their
-# bodies do.
+# The borrow checker does not cover some functions. Such a function is not proved, whatever its body
+# does.
 COMPILER_ERROR = re.compile(r"\berror\[[\w-]+\]|the borrow checker does not cover this function")
-# If a proof file names something that an edit removed, or cites such a proof, the refusal shows
-# nothing about a contract.
+# If a proof file names something that an edit removed, or cites a proof that does, the refusal
+# shows nothing about a contract.
 GONE = re.compile(
     r"(?:note: )?(?:\./)?proofs/.*(?:has no field|is not in scope|has no `|was not admitted|was rejected)"
 )
@@ -87,12 +87,14 @@ def kit() -> pathlib.Path:
 
 
 class BadEdit(Exception):
-    """A wrong body that cannot be tried, or whose refusal shows nothing about a contract."""
+    """The exception for a wrong body that cannot be tried, or whose refusal shows nothing about a
+    contract.
+    """
 
 
 @dataclasses.dataclass(frozen=True)
 class Turn:
-    """A line of a file, and its replacement."""
+    """A line of a file and the line that replaces it."""
 
     file: str
     old: str
@@ -101,13 +103,15 @@ class Turn:
 
 @dataclasses.dataclass(frozen=True)
 class Edit:
-    """A wrong body as it is written in the file, under a heading that says what is wrong."""
+    """A wrong body as it is written in its file, under a heading that describes what is wrong."""
 
     name: str
     text: str
 
     def turns(self) -> tuple[Turn, ...]:
-        """Returns the edits: lines `file: `, followed by pairs of lines `old: ` and `new: `."""
+        """Returns the replacements: after each line `file: ` there are pairs of lines `old: ` and
+        `new: `.
+        """
         turns, file, old = [], "", ""
         for line in self.text.split("\n"):
             word, _, rest = line.partition(":")
@@ -139,7 +143,8 @@ class WrongBody:
     naming: frozenset[Function]
 
     def to_check(self) -> frozenset[Function]:
-        """Returns the functions that are checked first for this body, or none for the whole crate.
+        """Returns the functions that are checked first for this body. An empty set means the whole
+        crate.
         """
         return self.functions or self.naming
 
@@ -157,7 +162,7 @@ class Crate:
     def __init__(self, proved: pathlib.Path, name: str, room: pathlib.Path) -> None:
         self.name, self.proved, self.room = name, proved, room / name
         self.folder = proved / "crates" / name
-        # the folder where the toolchain caches the crate's check results, for its next command
+        # the folder where the toolchain stores the results of a check for its next command
         self.place = TOP / "crates" / name / "out" / "incremental"
         # the folder with the results of the latest check of some functions, from which others can
         # continue, and the messages of the first check
@@ -171,7 +176,7 @@ class Crate:
         self.room.mkdir()
 
     def size(self) -> int:
-        """The size of the crate's text, in bytes."""
+        """Returns the size of the crate's text, in bytes."""
         files = itertools.chain(*((self.folder / part).rglob("*.*") for part in SOURCES))
         return sum(it.stat().st_size for it in files)
 
@@ -203,8 +208,8 @@ class Crate:
     def _checked_in(
         self, folder: pathlib.Path, kept: pathlib.Path, paths: Iterable[str]
     ) -> tuple[int, list[str]]:
-        """Checks the crate's text in a folder, or only the parts that the paths name. Returns the
-        exit status and the message lines.
+        """Checks the crate's text in a folder; if paths are given, checks only the parts that they
+        name. Returns the exit status and the message lines.
         """
         only = [word for path in sorted(set(paths)) for word in ("--only", path)]
         ran = said_by(folder, *self._words(), *only, "--incremental", str(kept))
@@ -260,7 +265,7 @@ class Crate:
 
     def begin(self, group: list[WrongBody], others: list[WrongBody]) -> tuple[int, list[str]]:
         """Makes the first check, on a copy with the wrong bodies of a group. Checks the functions
-        of all bodies. Returns the exit status and the message lines.
+        of these and of the other bodies. Returns the exit status and the message lines.
         """
         every = [*group, *others]
         with self._turned(group) as folder:
@@ -284,7 +289,7 @@ class Crate:
             paths = [] if is_whole else self._paths(bodies)
             status, said = self._checked_in(folder, kept, paths)
             if all(body.functions for body in bodies):
-                # This check may have proved functions that the previous check had mutated.
+                # This check may have proved functions that were mutated in the previous check.
                 self._go_on_from(kept)
             return status, said
 
@@ -318,7 +323,7 @@ class Crate:
 
     @staticmethod
     def _copied(start: pathlib.Path, kept: pathlib.Path) -> pathlib.Path:
-        """Copies the results of a check to a folder, if there are any, and returns the folder."""
+        """If there are results of a check, copies them to a folder. Returns that folder."""
         if start.exists():
             shutil.copytree(start, kept, copy_function=linked)
         return kept
@@ -362,7 +367,7 @@ def copy_parts(start: pathlib.Path, folder: pathlib.Path) -> None:
 
 
 def lent(one: str, other: str) -> None:
-    """Links a file to which nobody writes, or copies it if a link is not possible."""
+    """Links a file that nobody modifies, or copies it if it cannot be linked."""
     try:
         os.link(one, other)
     except OSError:
@@ -370,8 +375,8 @@ def lent(one: str, other: str) -> None:
 
 
 def linked(one: str, other: str) -> None:
-    """Copies a file that a check stored. The file of a proof is linked, because a check replaces it
-    instead of writing to it.
+    """Copies a file that a check stored. A file with a proof is linked instead, because a check
+    replaces such a file and never writes to it.
     """
     if one.endswith(".oantt"):
         lent(one, other)
@@ -391,13 +396,13 @@ def unread_in(said: list[str]) -> str | None:
 
 
 def is_not_proved(status: int, said: list[str]) -> bool:
-    """Whether a check parsed all texts, but failed because something is not proved."""
+    """Returns whether a check parsed all texts, but failed because something is not proved."""
     is_told = any(it.startswith(("logic=not-proved", "only=")) for it in said)
     return status == 1 and is_told and not unread_in(said)
 
 
 def is_of_a_contract(said: list[str]) -> bool:
-    """Whether a refusal shows more than that a proof file uses a removed name."""
+    """Returns whether a refusal shows more than that a proof file uses a removed name."""
     told = [line for line in said if is_fault(line)]
     return not told or any(not GONE.match(line) for line in told)
 
@@ -434,12 +439,13 @@ def refusal_alone(crate: Crate, body: WrongBody) -> str:
 
 
 def refusals_told(group: Group, status: int, said: list[str]) -> dict[WrongBody, str]:
-    """Returns the bodies that a check of the whole group refuses, with the messages; none if that
-    is unclear.
+    """Returns the bodies that a check of the whole group refuses, with the messages. Returns none
+    if the check does not show which bodies are refused.
     """
     if not is_not_proved(status, said):
         return {}
-    # A changed function that is proved may have no contract. Then others may fail because of it.
+    # If a changed function is proved, it may have no contract. Then other functions may fail
+    # because of the change.
     if any(it.is_proved_in(said) for body in group for it in body.functions):
         return {}
     counted = [line for line in said if not GONE.match(line)]
@@ -452,8 +458,8 @@ def tell(crate: Crate, body: WrongBody, line: str) -> None:
 
 
 def left_of(crate: Crate, group: Group, refused: dict[WrongBody, str]) -> Tried:
-    """Prints the bodies of a group that one check refused. Returns their number, and the others in
-    groups.
+    """Prints the bodies of a group that one check refused. Returns their number, and the remaining
+    bodies in groups.
     """
     for body, line in refused.items():
         tell(crate, body, line)
@@ -484,7 +490,7 @@ def try_alone(crate: Crate, body: WrongBody) -> Tried:
 
 
 def name_in(line: str) -> str:
-    """Returns the crate in a line of crates.txt, or ""."""
+    """Returns the name of the crate in a line of crates.txt, or ""."""
     return "" if line.startswith("#") else line.partition(":")[0].partition(" ")[0]
 
 
@@ -496,12 +502,14 @@ def rows() -> list[str]:
 
 @functools.cache
 def uses() -> dict[str, list[str]]:
-    """Returns the crates of this repository, each with the libraries that its line names."""
+    """Returns the libraries that each crate of this repository uses, according to its line in
+    crates.txt.
+    """
     return {name_in(line): line.partition(":")[2].split() for line in rows() if name_in(line)}
 
 
 def with_below(names: list[str]) -> list[str]:
-    """Returns these crates and those below them, in the order of crates.txt."""
+    """Returns these crates and those that they use, in the order of crates.txt."""
     known, left, found = uses(), list(names), set()
     while left:
         name = left.pop()
@@ -523,7 +531,7 @@ def lay(room: pathlib.Path, names: list[str]) -> None:
 
 
 def are_built(names: list[str]) -> bool:
-    """Whether these crates are built in this repository, from the present sources."""
+    """Returns whether these crates are built in this repository, from the present sources."""
     script = '. tools/lib/proved.sh && are_built "$@"'
     return said_by(TOP, "sh", "-c", script, "sh", *names).returncode == 0
 
@@ -546,8 +554,8 @@ def prove(room: pathlib.Path) -> None:
 
 @contextlib.contextmanager
 def files_in_memory(number: int) -> Iterator[None]:
-    """Lets this number of simultaneous checks write their files to memory if they fit, or to TMPDIR
-    if that is set.
+    """Makes this number of simultaneous checks write their files to a folder in memory if they fit,
+    or to TMPDIR if that is set.
     """
     script = f". tools/lib/memory.sh && folder_for_proofs {number}"
     made = "" if os.environ.get("TMPDIR") else said_by(TOP, "sh", "-c", script).stdout.strip()
@@ -570,8 +578,8 @@ def parsed() -> argparse.Namespace:
 
 
 def begin(crate: Crate, groups: list[Group]) -> Tried:
-    """Makes the first check of a crate: of its first group, if that group changes functions and no
-    body needs a check of the whole crate, and otherwise of the unchanged crate.
+    """Makes the first check of a crate. If its first group changes functions and no body needs a
+    check of the whole crate, that group is checked; otherwise the unchanged crate is checked.
     """
     first, *others = groups
     has_functions = all(body.to_check() for group in groups for body in group)
@@ -587,8 +595,9 @@ def begin(crate: Crate, groups: list[Group]) -> Tried:
 
 
 def try_crate(crate: Crate, groups: list[Group]) -> Tried:
-    """Tries those groups of a crate that change functions, in sequence, because each check
-    continues from the previous one. Returns the number of refused bodies, and the other groups.
+    """Tries those groups of a crate that change functions. They are tried in sequence, because each
+    check continues from the previous one. Returns the number of refused bodies, and the groups that
+    are left.
     """
     refused, left = begin(crate, groups)
     others = [group for group in left if not group[0].functions]
@@ -646,7 +655,7 @@ def main() -> int:
         print(f"{applied} of {wanted} wrong bodies can be applied")
         return 0 if applied == wanted else 1
     jobs = int(os.environ.get("JOBS") or os.cpu_count() or 1)
-    # A check does not return memory to the system, like the checks of tools/lib/rt_ci.sh.
+    # As in tools/lib/rt_ci.sh, a check does not return memory to the system.
     os.environ.setdefault("MIMALLOC_PURGE_DELAY", "-1")
     with tempfile.TemporaryDirectory() as folder, files_in_memory(jobs):
         refused = tried(pathlib.Path(folder), names, jobs)

@@ -1,5 +1,5 @@
-//! The code under test: it gets random bytes from a TPM, which is any function from a command
-//! to a response.
+//! The code under test: it gets random bytes from a TPM. The TPM can be any function that returns a
+//! response to a command.
 
 /// Sends TPM2_GetRandom. Returns the bytes, or the response code if the TPM refuses.
 pub fn random_bytes(send: &mut dyn FnMut(&[u8]) -> Vec<u8>, count: u16) -> Result<Vec<u8>, u32> {

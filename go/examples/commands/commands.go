@@ -1,4 +1,5 @@
-// Package commands makes the bytes of the commands that the examples need. A program would use a TPM library.
+// Package commands makes the bytes of the commands that the examples need. A real program would use
+// a TPM library.
 package commands
 
 import (
@@ -21,7 +22,8 @@ const (
 	Trial  = 3
 )
 
-// By authorizes a handle: the entry of the authorization area. Value is a password or an HMAC.
+// By is the authorization for a handle: an entry of the authorization area. Value is a password or
+// an HMAC.
 type By struct {
 	Session    uint32
 	Nonce      []byte
@@ -32,8 +34,8 @@ type By struct {
 // Password returns the authorization by a password.
 func Password(value string) *By { return &By{Session: 0x40000009, Value: []byte(value)} }
 
-// ByPolicy returns the authorization by a policy session. The value is the password if the policy
-// requires one.
+// ByPolicy returns the authorization by a policy session. If the policy requires a password, value
+// is that password.
 func ByPolicy(session uint32, value string) *By {
 	return &By{session, make([]byte, 16), 1, []byte(value)}
 }
@@ -48,13 +50,13 @@ type Answer struct {
 	Parameters, Entry []byte
 }
 
-// Buffer removes and returns the sized buffer at the front.
+// Buffer removes the first sized buffer from the parameters, and returns it.
 func (it *Answer) Buffer() (buffer []byte) {
 	buffer, it.Parameters = Front(it.Parameters)
 	return buffer
 }
 
-// Front returns the sized buffer at the front of bytes, and the bytes after it.
+// Front returns the first sized buffer in some bytes, and the bytes after it.
 func Front(rest []byte) (buffer, after []byte) {
 	size := 2 + binary.BigEndian.Uint16(rest)
 	return rest[2:size], rest[size:]
@@ -80,7 +82,7 @@ func Selection(pcrs ...int) []byte {
 	return append([]byte{0, 0, 0, 1, 0, 0x0b, 3}, bits...)
 }
 
-// Command returns the bytes of a command, with this authorization of the first handle.
+// Command returns the bytes of a command, with this authorization for its first handle.
 func Command(code uint32, handles []uint32, by *By, parameters ...[]byte) []byte {
 	var body []byte
 	for _, handle := range handles {
@@ -95,7 +97,7 @@ func Command(code uint32, handles []uint32, by *By, parameters ...[]byte) []byte
 	return Join(tag, Number(uint32(10+len(body))), Number(code), body)
 }
 
-// Send sends a command, with this authorization of the first handle.
+// Send sends a command, with this authorization for its first handle.
 func Send(tpm *tpmsim.TPM, code uint32, handles []uint32, by *By, parameters ...[]byte) (*Answer, error) {
 	rest, err := tpm.Execute(Command(code, handles, by, parameters...))
 	if err != nil {
@@ -152,14 +154,16 @@ func DigestOf(tpm *tpmsim.TPM, tell func(session uint32) error) []byte {
 	return digest
 }
 
-// StorageKey returns an AES storage key in the owner hierarchy; the same template always recreates it.
+// StorageKey returns an AES storage key in the owner hierarchy. The same template always results in
+// the same key.
 func StorageKey(tpm *tpmsim.TPM, owner string) uint32 {
 	template := []byte{0, 0x25, 0, 0x0b, 0, 3, 4, 0x72, 0, 0, 0, 6, 0, 0x80, 0, 0x43, 0, 0}
 	parameters := Join(Sized(make([]byte, 4)), Sized(template), make([]byte, 6))
 	return Must(tpm, 0x131, []uint32{Owner}, Password(owner), parameters).Handle
 }
 
-// Sealed seals data under a storage key, with an authorization value and a policy, and loads the object.
+// Sealed seals data in a child of a storage key, with an authorization value and a policy, and
+// loads the object.
 func Sealed(tpm *tpmsim.TPM, parent uint32, value string, policy []byte, data string) uint32 {
 	sensitive := Join(Sized([]byte(value)), Sized([]byte(data)))
 	public := Join([]byte{0, 8, 0, 0x0b, 0, 0, 0, 0x12}, Sized(policy), []byte{0, 0x10, 0, 0})
@@ -196,7 +200,7 @@ func Read(tpm *tpmsim.TPM, value string) ([]byte, error) {
 // Measure measures data into a PCR, and returns the digest for the SHA-256 bank.
 func Measure(tpm *tpmsim.TPM, pcr uint32, data string) []byte {
 	answer := Must(tpm, 0x13c, []uint32{pcr}, Password(""), Sized([]byte(data)))
-	// The number of digests, and the SHA-1 digest with its algorithm, come before this digest.
+	// This digest follows the number of digests, and the SHA-1 digest with its algorithm.
 	return answer.Parameters[4+2+20+2:][:32]
 }
 

@@ -12,7 +12,8 @@ import (
 	"tpmsim"
 )
 
-// Attributes of an entry: what the device does with the first parameter, of the command or of the response.
+// Attributes of a session: the device decrypts the first parameter of the command, or encrypts that
+// of the response.
 const (
 	Decrypt = 0x20
 	Encrypt = 0x40
@@ -20,8 +21,8 @@ const (
 
 const continues = 1
 
-// A Session computes HMACs, is bound to the entity that it authorizes, and encrypts with AES-128 in CFB
-// mode.
+// A Session computes HMACs, is bound to the entity that it authorizes, and encrypts with AES-128 in
+// CFB mode.
 type Session struct {
 	handle                uint32
 	key                   []byte
@@ -54,7 +55,7 @@ func newNonce() []byte {
 	return nonce
 }
 
-// StartBound starts a session that is bound to a handle with this value.
+// StartBound starts a session that is bound to a handle with this authorization value.
 func StartBound(tpm *tpmsim.TPM, bind uint32, value string) *Session {
 	nonce := newNonce()
 	parameters := Join(Sized(nonce), []byte{0, 0, 0, 0, 6, 0, 0x80, 0, 0x43, 0, 0x0b})
@@ -74,8 +75,8 @@ func (it *Session) stream(make func(cipher.Block, []byte) cipher.Stream, newer, 
 	return make(block, both[16:])
 }
 
-// Entry returns the entry of a command whose handles have these Names, and its parameters. The first
-// parameter is encrypted if the attributes say so.
+// Entry returns the authorization entry of a command whose handles have these Names, and the
+// command's parameters. If the attributes request it, the first parameter is encrypted.
 func (it *Session) Entry(code uint32, names, parameters []byte, attributes byte) (*By, []byte) {
 	it.nonceCaller = newNonce()
 	parameters = Join(parameters)
@@ -89,7 +90,7 @@ func (it *Session) Entry(code uint32, names, parameters []byte, attributes byte)
 	return &By{it.handle, it.nonceCaller, attributes, hmac}, parameters
 }
 
-// Answered checks that the response is the device's, and returns the decrypted parameters.
+// Answered checks that the response came from the device, and returns the decrypted parameters.
 func (it *Session) Answered(code uint32, by *By, answer *Answer) ([]byte, error) {
 	nonce, after := Front(answer.Entry)
 	given, _ := Front(after[1:])

@@ -1,5 +1,5 @@
-// A disk's key is sealed to PCRs 7 and 11 and a PIN. It is refused after PCR 11 has changed, and recovered with
-// a second branch of its policy, which requires the owner's passphrase.
+// A disk's key is sealed to PCRs 7 and 11 and a PIN. After PCR 11 has changed, the TPM no longer
+// releases it. The second branch of its policy, which requires the owner's passphrase, recovers it.
 package main
 
 import (
@@ -13,7 +13,7 @@ const (
 	passphrase = "kept in a drawer"
 )
 
-// byPIN is the first branch: the current values of the PCRs, and the PIN.
+// byPIN satisfies the first branch: the current values of the PCRs, and the PIN.
 func byPIN(tpm *tpmsim.TPM, session uint32) error {
 	_, err := Send(tpm, 0x17f, []uint32{session}, nil, []byte{0, 0}, Selection(7, 11))
 	if err == nil {
@@ -22,20 +22,20 @@ func byPIN(tpm *tpmsim.TPM, session uint32) error {
 	return err
 }
 
-// byPassphrase is the second branch: TPM2_PolicySecret of the owner.
+// byPassphrase satisfies the second branch: TPM2_PolicySecret of the owner.
 func byPassphrase(tpm *tpmsim.TPM, session uint32, passphrase string) error {
 	_, err := Send(tpm, 0x151, []uint32{Owner, session}, Password(passphrase), make([]byte, 10))
 	return err
 }
 
-// either is TPM2_PolicyOR of the branches.
+// either executes TPM2_PolicyOR of the branches.
 func either(tpm *tpmsim.TPM, session uint32, branches [2][]byte) error {
 	digests := Join(Number(2), Sized(branches[0]), Sized(branches[1]))
 	_, err := Send(tpm, 0x171, []uint32{session}, nil, digests)
 	return err
 }
 
-// opened returns the disk's key, with the first branch that holds, or the reason for the refusal.
+// opened returns the disk's key if one of the branches is satisfied, or the reason for the refusal.
 func opened(tpm *tpmsim.TPM, disk uint32, branches [2][]byte, pin, passphrase string) (string, error) {
 	session := StartSession(tpm, Policy)
 	defer Flush(tpm, session)

@@ -1,5 +1,6 @@
-// A secret is sent to the TPM encrypted, in a session that is bound to the owner, whose authorization value is
-// not sent either. An eavesdropper learns neither of them, and cannot replay the commands.
+// A secret is sent to the TPM in encrypted form. The session is bound to the owner, whose
+// authorization value is not sent at all. An eavesdropper learns neither of them, and cannot replay
+// the commands.
 package main
 
 import (
@@ -16,12 +17,13 @@ const (
 	secret = "a secret of 24 bytes, ok"
 	owner  = "the owner's value"
 
-	// An NV index that the owner writes and reads; the device adds that it is written.
+	// The attributes of an NV index that the owner writes and reads, and the one that the device adds
+	// when it is written.
 	byOwner = 0x0002_0002
 	written = 0x2000_0000
 )
 
-// heard is everything that was sent to and from the TPM, and last the last command.
+// heard contains everything that was sent to and from the TPM, and last the last command.
 var heard, last []byte
 
 func wasHeard(what string) string {
@@ -31,7 +33,7 @@ func wasHeard(what string) string {
 	return "not heard"
 }
 
-// area is the public area of the index, with more attributes.
+// area returns the public area of the index, with more attributes.
 func area(more uint32) []byte {
 	return Join(Number(Index), []byte{0, 0x0b}, Number(byOwner|more), []byte{0, 0, 0, byte(len(secret))})
 }

@@ -1,5 +1,6 @@
-// A measured boot: each piece of software is measured into a PCR before it runs, and its digest is logged. A
-// verifier with the log and the PCRs replays the log, and trusts it if this leads to the same values.
+// A measured boot: each piece of software is measured into a PCR before it runs, and its digest is
+// logged. A verifier that gets the log and the PCR values replays the log, and trusts it if the
+// values are the same.
 package main
 
 import (
@@ -30,7 +31,7 @@ var boot = []struct {
 
 var pcrs = []int{0, 4, 7, 11}
 
-// measured is the log of a boot.
+// measured boots the TPM, and returns the log.
 func measured(tpm *tpmsim.TPM) (log []measurement) {
 	for _, it := range boot {
 		log = append(log, measurement{it.pcr, Measure(tpm, it.pcr, it.data)})
@@ -38,10 +39,10 @@ func measured(tpm *tpmsim.TPM) (log []measurement) {
 	return log
 }
 
-// valuesOf are the values of the PCRs.
+// valuesOf returns the values of the PCRs.
 func valuesOf(tpm *tpmsim.TPM) map[int][]byte {
 	answer := Must(tpm, 0x17e, nil, nil, Selection(pcrs...))
-	// The update counter, the selection and the number of values come before the values.
+	// The values follow the update counter, the selection and the number of values.
 	answer.Parameters = answer.Parameters[4+10+4:]
 	values := map[int][]byte{}
 	for _, pcr := range pcrs {

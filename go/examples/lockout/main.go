@@ -1,5 +1,5 @@
-// Wrong PINs are counted. After three of them the TPM checks no more PINs until an hour of device time has
-// passed, or until the lockout is reset with lockoutAuth.
+// Wrong PINs are counted. After three of them the TPM checks no more PINs until an hour of device
+// time has passed, or until the lockout is reset with lockoutAuth.
 package main
 
 import (
@@ -10,7 +10,7 @@ import (
 	. "tpmsim/examples/commands"
 )
 
-// An index that is written and read with its own authorization value.
+// The attributes of an index that is written and read with its own authorization value.
 const byValue = 0x00040004
 
 const (

@@ -1,5 +1,6 @@
-// A counter contains the lowest version that may be started. A key that is sealed for a version is released
-// while the counter is not above that version. The counter never decreases, whatever happens to its index.
+// A counter contains the lowest version that may be started. A key that is sealed for a version is
+// released as long as the counter does not exceed that version. The counter never decreases, even
+// if its index is deleted and defined again.
 package main
 
 import (
@@ -11,7 +12,8 @@ import (
 	. "tpmsim/examples/commands"
 )
 
-// A counter that is written and read with its own authorization value or with the owner's.
+// The attributes of a counter that is written and read with its own authorization value or with the
+// owner's.
 const counter = 0x00060016
 
 const key = "the key of this version."
@@ -26,7 +28,7 @@ func lowest(tpm *tpmsim.TPM) uint64 {
 	return binary.BigEndian.Uint64(data)
 }
 
-// atMost is TPM2_PolicyNV: the counter is at most this version.
+// atMost executes TPM2_PolicyNV: the counter is at most this version.
 func atMost(tpm *tpmsim.TPM, session uint32, version uint64) error {
 	operand := Sized(binary.BigEndian.AppendUint64(nil, version))
 	handles := []uint32{Index, Index, session}

@@ -14,18 +14,18 @@ pub const TRIAL: u8 = 3;
 /// The commands that return a handle: CreatePrimary, Load and StartAuthSession.
 const WITH_HANDLE: [u32; 3] = [0x131, 0x157, 0x176];
 
-/// What authorizes a handle.
+/// The authorization for a handle.
 pub enum By<'a> {
-    /// Its value, as a password.
+    /// The authorization value, as a password.
     Password(&'a [u8]),
-    /// A policy session, and the value if the policy requires it as a password.
+    /// A policy session, and the authorization value if the policy requires it as a password.
     Policy(u32, &'a [u8]),
-    /// A session, with an entry that contains its HMAC.
+    /// A session. The entry contains its HMAC.
     Entry(&'a [u8]),
 }
 
 impl By<'_> {
-    /// The entry of the authorization area.
+    /// Returns the entry for the authorization area.
     fn entry(&self) -> Vec<u8> {
         match self {
             By::Password(value) => [&number(0x4000_0009)[..], &[0, 0, 0], &sized(value)].concat(),
@@ -45,7 +45,7 @@ pub struct Answer {
 }
 
 impl Answer {
-    /// Returns this many sized buffers from the start of the parameters.
+    /// Returns the first sized buffers of the parameters; `count` is their number.
     pub fn buffers(&self, count: usize) -> Vec<Vec<u8>> {
         let mut rest = &self.parameters[..];
         (0..count)
@@ -58,7 +58,7 @@ impl Answer {
     }
 }
 
-/// Returns the sized buffer at the front of bytes, and the bytes after it.
+/// Returns the first sized buffer in some bytes, and the bytes after it.
 pub fn front(bytes: &[u8]) -> (&[u8], &[u8]) {
     let size = usize::from(bytes[0]) << 8 | usize::from(bytes[1]);
     bytes[2..].split_at(size)
@@ -72,7 +72,7 @@ pub fn sized(bytes: &[u8]) -> Vec<u8> {
     [&(bytes.len() as u16).to_be_bytes()[..], bytes].concat()
 }
 
-/// A selection of PCRs in the SHA-256 bank.
+/// Encodes a selection of PCRs in the SHA-256 bank.
 pub fn selection(pcrs: &[u8]) -> Vec<u8> {
     let mut bits = [0; 3];
     for pcr in pcrs {
@@ -81,7 +81,7 @@ pub fn selection(pcrs: &[u8]) -> Vec<u8> {
     [&[0, 0, 0, 1, 0, 0x0b, 3][..], &bits].concat()
 }
 
-/// Returns the bytes of a command, with this authorization of the first handle.
+/// Returns the bytes of a command, with this authorization for its first handle.
 pub fn command(code: u32, handles: &[u32], by: Option<&By>, parameters: &[u8]) -> Vec<u8> {
     let mut body: Vec<u8> = handles.iter().flat_map(|it| number(*it)).collect();
     if let Some(by) = by {
@@ -107,7 +107,7 @@ pub fn answer_of(code: u32, has_entries: bool, mut rest: &[u8]) -> Answer {
     Answer { handle, parameters: parameters.to_vec(), entries: entries.to_vec() }
 }
 
-/// Sends a command, with this authorization of the first handle.
+/// Sends a command, with this authorization for its first handle.
 pub fn send(
     tpm: &mut Device,
     code: u32,
@@ -137,14 +137,16 @@ pub fn digest_of(tpm: &mut Device, trial: u32) -> Result<Vec<u8>, Refusal> {
     Ok(digest)
 }
 
-/// Makes an AES storage key in the owner hierarchy; the same template always recreates it.
+/// Makes an AES storage key in the owner hierarchy. The same template always results in the same
+/// key.
 pub fn storage_key(tpm: &mut Device, owner: &[u8]) -> Result<u32, Refusal> {
     let template = [0, 0x25, 0, 0x0b, 0, 3, 4, 0x72, 0, 0, 0, 6, 0, 0x80, 0, 0x43, 0, 0];
     let parameters = [sized(&[0; 4]), sized(&template), vec![0; 6]].concat();
     Ok(send(tpm, 0x131, &[OWNER], Some(By::Password(owner)), &parameters)?.handle)
 }
 
-/// Seals data under a storage key, with an authorization value and a policy, and loads the object.
+/// Seals data in a child of a storage key, with an authorization value and a policy, and loads the
+/// object.
 pub fn sealed(
     tpm: &mut Device,
     parent: u32,
@@ -173,11 +175,11 @@ pub fn define(tpm: &mut Device, attributes: u32, value: &[u8]) -> Result<(), Ref
     send(tpm, 0x12a, &[OWNER], Some(By::Password(b"")), &parameters).map(|_| ())
 }
 
-/// Measures data into a PCR; returns the digest for the SHA-256 bank.
+/// Measures data into a PCR. Returns the digest for the SHA-256 bank.
 pub fn measure(tpm: &mut Device, pcr: u8, data: &[u8]) -> Result<Vec<u8>, Refusal> {
     let by = Some(By::Password(b""));
     let digests = send(tpm, 0x13c, &[pcr.into()], by, &sized(data))?.parameters;
-    // The number of digests, and the SHA-1 digest with its algorithm, come before this digest.
+    // This digest follows the number of digests, and the SHA-1 digest with its algorithm.
     Ok(digests[4 + 2 + 20 + 2..][..32].to_vec())
 }
 

@@ -1,4 +1,5 @@
-//! SHA-256, HMAC, KDFa, and AES-128 in CFB mode, as a session needs them. A program would use a crate.
+//! SHA-256, HMAC, KDFa, and AES-128 in CFB mode, which a session needs. A real program would use a
+//! crate.
 
 pub type Digest = [u8; 32];
 
@@ -17,7 +18,7 @@ const SHA256_ROUNDS: [u32; 64] = [
     0x748f82ee, 0x78a5636f, 0x84c87814, 0x8cc70208, 0x90befffa, 0xa4506ceb, 0xbef9a3f7, 0xc67178f2,
 ];
 
-/// One block of 64 bytes.
+/// Adds one block of 64 bytes to the state of SHA-256.
 fn compress(state: &mut [u32; 8], block: &[u8]) {
     let mut words = [0u32; 64];
     for (word, bytes) in words.iter_mut().zip(block.chunks(4)) {
@@ -57,7 +58,7 @@ pub fn sha256(text: &[u8]) -> Digest {
     digest
 }
 
-/// HMAC-SHA-256; the key is at most 64 bytes long.
+/// Returns the HMAC-SHA-256 of a text. The key has at most 64 bytes.
 pub fn hmac(key: &[u8], text: &[u8]) -> Digest {
     let mut block = [0; 64];
     block[..key.len()].copy_from_slice(key);
@@ -72,12 +73,13 @@ pub fn kdfa(key: &[u8], label: &str, newer: &[u8], older: &[u8]) -> Digest {
     hmac(key, &[&one, label.as_bytes(), &[0], newer, older, &bits].concat())
 }
 
-/// Twice an element of AES's field.
+/// Returns twice an element of AES's field.
 fn doubled(byte: u8) -> u8 {
     byte << 1 ^ if byte & 0x80 == 0 { 0 } else { 0x1b }
 }
 
-/// The S-box of AES: `power` runs through all elements except zero, and `inverse` is its inverse.
+/// Returns the S-box of AES. In the loop, `power` runs through all elements except zero, and
+/// `inverse` is its inverse.
 fn substitutions() -> [u8; 256] {
     let mut table = [0x63; 256];
     let (mut power, mut inverse) = (1u8, 1u8);
@@ -128,7 +130,8 @@ pub enum Way {
     Decrypt,
 }
 
-/// AES-128 in CFB mode, with a key and an initial vector.
+/// Encrypts or decrypts data with AES-128 in CFB mode. `both` consists of the key and the initial
+/// vector.
 pub fn cfb(both: &Digest, way: Way, data: &[u8]) -> Vec<u8> {
     let (key, start) = both.split_at(16);
     let key = key.try_into().expect("a key has 16 bytes");

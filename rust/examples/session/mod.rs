@@ -1,4 +1,5 @@
-//! A session that computes HMACs, is bound to the entity that it authorizes, and encrypts with AES-128-CFB.
+//! A session that computes HMACs, is bound to the entity that it authorizes, and encrypts with
+//! AES-128-CFB.
 
 mod crypto;
 
@@ -10,7 +11,8 @@ use tpmsim::{Device, Refusal};
 
 pub use crypto::sha256;
 
-/// Attributes of an entry: what the device does with the first parameter, of the command or of the response.
+/// Attributes of a session: the device decrypts the first parameter of the command, or encrypts
+/// that of the response.
 pub const DECRYPT: u8 = 0x20;
 pub const ENCRYPT: u8 = 0x40;
 
@@ -30,14 +32,14 @@ fn new_nonce() -> io::Result<[u8; 16]> {
     Ok(nonce)
 }
 
-/// Returns the parameters with the first one, a sized buffer, encrypted or decrypted.
+/// Returns the parameters after encrypting or decrypting the first one, which is a sized buffer.
 fn with_first_changed(keys: &Digest, way: Way, parameters: &[u8]) -> Vec<u8> {
     let (data, rest) = front(parameters);
     [&sized(&cfb(keys, way, data))[..], rest].concat()
 }
 
 impl Session {
-    /// Starts a session that is bound to a handle with this value.
+    /// Starts a session that is bound to a handle with this authorization value.
     pub fn start(tpm: &mut Device, bind: u32, value: &[u8]) -> Result<Session, Refusal> {
         let nonce_caller = new_nonce().expect("the system has random bytes");
         let rest = [0, 0, 0, 0, 6, 0, 0x80, 0, 0x43, 0, 0x0b];
@@ -49,13 +51,13 @@ impl Session {
         Ok(Session { handle: answer.handle, key, nonce_tpm, nonce_caller, value })
     }
 
-    /// Returns the encryption keys for two nonces.
+    /// Returns the key and the initial vector for two nonces.
     fn keys(&self, newer: &[u8], older: &[u8]) -> Digest {
         kdfa(&[&self.key[..], &self.value].concat(), "CFB", newer, older)
     }
 
-    /// Returns the entry of a command whose handles have these Names, and its parameters; the first one is
-    /// encrypted if the attributes say so.
+    /// Returns the authorization entry of a command whose handles have these Names, and the
+    /// command's parameters. If the attributes request it, the first parameter is encrypted.
     pub fn entry(
         &mut self,
         code: u32,
@@ -77,7 +79,7 @@ impl Session {
         ([&number(self.handle)[..], &nonce, &attributes, &mac].concat(), parameters)
     }
 
-    /// Checks that the response is the device's, and returns the decrypted parameters.
+    /// Checks that the response came from the device, and returns the decrypted parameters.
     pub fn answered(&mut self, code: u32, answer: &Answer) -> Vec<u8> {
         let (nonce, rest) = front(&answer.entries);
         let attributes = &rest[..1];
