@@ -108,14 +108,15 @@ def block(tools: list[str], results: Results) -> str:
     nowhere = [tool for tool in tools if not does(tool, results.swtpm) and not does(tool, results.tpmsim)]
     theirs, ours = (passed(each[: results.of_day]) for each in (results.swtpm, results.tpmsim))
     parts = [
-        f"Of the {results.of_day} steps of a working day swtpm passes {theirs}, and a device in a folder {ours}. On this "
-        f"device {len(whole)} of the {len(tools)} tools do all that they did on swtpm: {listed(whole)}.",
-        "The other tools do less on a device in a folder, each for a reason:",
-        f"Tools that do nothing here, and nothing on swtpm either: {listed(nowhere)}.",
-        f"On a served device {len(served)} tools do something: {listed(served)}.",
+        f"Of the {results.of_day} steps of a working day, swtpm passes {theirs} and a device in a folder {ours}. On a device "
+        f"in a folder, {len(whole)} of the {len(tools)} tools do all that they do on swtpm: {listed(whole)}.",
+        "The other tools do less on a device in a folder than on swtpm, for these reasons:",
+        f"Tools that do nothing on either TPM: {listed(nowhere)}.",
+        f"On a served device, these {len(served)} tools do at least part of their work: {listed(served)}.",
     ]
     paragraphs = [paragraph(part) for part in parts]
-    table = "| why | these do nothing | these do the rest |\n|---|---|---|\n" + "\n".join(rows(tools, results)) + "\n"
+    head = "| reason | tools that do nothing | tools that do the rest of their work |\n|---|---|---|\n"
+    table = head + "\n".join(rows(tools, results)) + "\n"
     return "\n".join([*paragraphs[:2], table, *paragraphs[2:]])
 
 

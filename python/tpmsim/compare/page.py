@@ -11,27 +11,27 @@ from tpmsim.model.player import BadLine
 
 HEAD = """# Other TPMs
 
-This page lists where another TPM, {version}, differs from tpmsim. If your program passes its tests here,
-also try these points there. `tpmsim-compare` plays a script on both TPMs, and computes the sessions for
-each. It compares the response codes, the response fields, the HMACs, and the state that can be read at
-the end:
+This page lists the differences between tpmsim and another TPM, {version}. If your program
+passes its tests with tpmsim, also try these points on the other TPM. `tpmsim-compare` plays a script on both,
+and computes the sessions for each. It compares the response codes, the response fields, the HMACs, and the state
+that can be read at the end:
 
 ```sh
 PYTHONPATH=python python3 -m tpmsim.compare.main tests/pcrs/pcr_read.tpm --with swtpm
 ```
 
 `--with` also accepts `swtpm:path=..`, `swtpm:host=..,port=..`, `mssim:host=..,port=..` and
-`device:/dev/tpmrm0` as the other TPM. This command makes the page, from all stored scripts:
+`device:/dev/tpmrm0`. This command makes the page, from all stored scripts:
 
 ```sh
 PYTHONPATH=python python3 -m tpmsim.compare.page tests/*/*.tpm examples/*.tpm > docs/OTHER_TPMS.md
 ```
 
 The {scripts} scripts contain {commands} commands. {own} of these have different responses, and {follow} more
-differ only because an earlier command did. {missing} cannot be compared. The reason for most is that a stream
-cannot carry their size; the others need a session or an object that only one TPM has.
+differ only because an earlier command did. {missing} cannot be compared: most because a stream cannot carry
+their size, and the others because they need a session or an object that only one TPM has.
 
-| what differs | times | example | here | there | our decision |
+| what differs | times | example | tpmsim | swtpm | our decision |
 |---|---|---|---|---|---|"""
 
 
