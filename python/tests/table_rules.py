@@ -144,7 +144,7 @@ class Rules:
                     self.command(found[1], link, text)
 
     def command(self, name, link, text):
-        if found := re.search(r"Parameters?: (.*?)(?:\sAnswer:|\n\n|$)", text, re.DOTALL):
+        if found := re.search(r"Parameters?:\s+(?:- )?(.*?)(?:\sAnswer:|\n\n|$)", text, re.DOTALL):
             self.add(f"{name}/parameters", found[1], link)
         if like := re.search(r"Checks and effect: those of TPM2_(\w+)", text):
             page = sections_of(link.partition("#")[0])
