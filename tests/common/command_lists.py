@@ -151,7 +151,7 @@ def nv_access_of(code: CC) -> str:
 
 
 UNSESSIONED = "the command has entries (tag 8002), and is"
-KEEPING = "except those of these commands"
+KEEPING = "unless it is one of these"
 CHECKS: dict[str, Check] = {
     "docs/table/README.md, the list of commands": the_list,
     "docs/table, the sections and their lines": sections,
