@@ -73,8 +73,8 @@ def interrupted(number):
 
 
 def is_interrupted(act, number, then):
-    """Returns whether `act` executes this many lines. If so, it is interrupted. `then` checks what
-    it left, before the exception releases the objects that it refers to.
+    """Returns whether `act` executes this many lines. If so, `act` is interrupted, and `then`
+    checks what `act` left, before the exception is dropped with the objects that it refers to.
     """
     try:
         with interrupted(number):
