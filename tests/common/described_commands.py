@@ -117,8 +117,8 @@ class Answer:
         return (self.check, self.code) == (check, frames.code_of(name))
 
     def is_behind(self, check: str, refusal: str) -> bool | str:
-        """Returns whether the command passed a check. No other check refuses with the given
-        response code.
+        """Returns false if `check` refused the command with the response code `refusal`, which no
+        other check uses, and true if the command passed `check`. Otherwise describes the refusal.
         """
         if self.is_refusal(check, refusal):
             return False

@@ -30,8 +30,8 @@ OTHERS = (
 FOREVER = 1_000_000_000
 CALLS = pathlib.Path("calls")
 
-# The data that is exchanged with turns.h: before a run its two numbers, and after the run its
-# status, and whether the shim has marked it.
+# The data that is exchanged with turns.h: before a run, the two numbers of the run; after the run,
+# its exit status, and whether the shim has marked the run.
 TURN, REPORT = struct.Struct("ll"), struct.Struct("ii")
 
 

@@ -32,7 +32,8 @@ SECONDS, LEAST_LINES = 5, 5
 # in seconds.
 SIGNALS, MOST_DELAY = 400, 200e-6
 
-# How long the lock is held, and when the signal comes, in seconds. The lock is released much later.
+# How long the lock is held, and when the signal comes, in seconds. The lock is released long after
+# the signal.
 HELD_SECONDS, SIGNAL_SECONDS = 0.4, 0.1
 
 
