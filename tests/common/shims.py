@@ -31,7 +31,7 @@ FOREVER = 1_000_000_000
 CALLS = pathlib.Path("calls")
 
 # The data that is exchanged with turns.h: before a run, the two numbers of the run; after the run,
-# its exit status, and whether the shim has marked the run.
+# its status from waitpid, and whether the shim has marked the run.
 TURN, REPORT = struct.Struct("ll"), struct.Struct("ii")
 
 
