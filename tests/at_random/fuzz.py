@@ -104,8 +104,8 @@ class Kind:
 
 
 def shrunken(lines, differs):
-    """Removes lines from an input for a limited time, as long as the results for the rest still
-    differ. Returns the rest.
+    """Removes lines from an input, as long as the program and the Python device still differ on the
+    rest. Stops after a limited time. Returns the rest.
     """
     until = time.monotonic() + SHRINKING_SECONDS
     size, before = len(lines), len(lines)
@@ -124,8 +124,8 @@ def shrunken(lines, differs):
 
 
 def shown(wanted, given):
-    """Yields both texts. Long texts are shortened: they begin shortly before the first character
-    that differs.
+    """Yields the expected and the actual text. Long texts are shortened: they begin shortly before
+    the first character that differs.
     """
     same = next((at for at, (a, b) in enumerate(zip(wanted, given)) if a != b), 0)
     first = max(0, same - SHOWN // 4) if max(len(wanted), len(given)) > SHOWN else 0
@@ -186,7 +186,9 @@ class Fuzz:
             self.leave(f"{name}.shrunken.{kind.ending}", lines, found)
 
     def leave(self, name, lines, found):
-        """Writes an input to a file, and prints how the two results for it differ."""
+        """Writes an input to a file, and prints the expected and the actual result where they
+        differ.
+        """
         self.folder = self.folder or pathlib.Path(tempfile.mkdtemp(prefix="fuzz."))
         path = self.folder / name
         path.write_bytes(bytes_text(lines))

@@ -87,7 +87,8 @@ class Devices:
             raise Differs("the state texts differ")
 
     def go_on(self):
-        """Restores the other two devices from the state text of the device that is never restored.
+        """Restores two of the three devices from the state text of the device that is never
+        restored.
         """
         text = self.whole.state()
         self.restored.close()

@@ -6,8 +6,9 @@ device:
 The test takes one line for each command from assemble.lines. Each way to alter a token is applied
 to every third token of these lines. For each way the test prints how many lines it altered, how
 many of them assemble to a buffer, how many have each kind of fault, and for how many the program's
-result differs. Lines that begin with DIFFERS report differences. Then the test plays some altered
-lines in scripts. Finally it inserts and replaces single bytes in script lines, at each offset.
+result differs from that of lines.py. Lines that begin with DIFFERS report differences. Then the
+test plays some altered lines in scripts. Finally it inserts and replaces single bytes in script
+lines, at each offset.
 """
 
 import collections
@@ -128,7 +129,9 @@ BENDS |= {
 
 
 def first_lines():
-    """Returns the lines in the first section of assemble.lines, which has one for each command."""
+    """Returns the lines in the first section of assemble.lines, which has one line for each
+    command.
+    """
     lines_of = (TESTS / "lines/assemble.lines").read_bytes().split(b"\n# ")[0].splitlines()[1:]
     return sorted(line for line in lines_of if line)
 

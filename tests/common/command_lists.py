@@ -4,7 +4,7 @@
 
 For each list the test prints its number of entries. It prints a line that begins with DIFFERS for
 each missing or extra entry. Then the test makes one mistake in a document at a time, and checks
-that the comparison finds it.
+that comparing the lists again finds the mistake.
 """
 
 import re
@@ -61,7 +61,7 @@ class List:
 Check = Callable[[Documents], List]
 
 
-# Functions that compare one list each.
+# Functions that each compare one list of a document.
 
 
 def the_list(texts: Documents) -> List:
@@ -166,7 +166,7 @@ CHECKS: dict[str, Check] = {
         REFUSALS, UNSESSIONED, "|", lambda it: it.has(Fact.NO_SESSIONS)
     ),
     "order_of_refusals.md, commands that are not served": not_served,
-    # The document names TPM2_Shutdown only in the sentence after this list.
+    # state.md names TPM2_Shutdown only in the sentence after this list.
     "state.md, commands that keep what was saved": named(
         STATE, KEEPING, ". ", lambda it: it.has(Fact.KEEPS_SAVED) and it != CC.Shutdown
     ),
@@ -174,7 +174,8 @@ CHECKS: dict[str, Check] = {
     "counts of commands": counts,
 }
 
-# Mistakes that the comparison must find: a document, a text in it, and its replacement.
+# Mistakes that the test must find. Each has a document, a text in it, and the wrong text that
+# replaces it.
 WRONG = (
     (LIST, "| [TPM2_Clear](", "| [TPM2_Clean]("),
     (LIST, "| [TPM2_Create](", "| TPM2_Create ("),

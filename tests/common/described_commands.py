@@ -4,8 +4,8 @@
 
 The test asks the program about each fact of each command. For each kind of fact it prints the
 number of questions. Lines that begin with DIFFERS report differences. Then the test changes one
-fact of one command in the description at a time, for each kind of fact, and checks that the
-comparison finds the mistake.
+fact of one command in the description at a time, for each kind of fact, and checks that comparing
+the changed description with the program finds the mistake.
 """
 
 import concurrent.futures
@@ -117,8 +117,8 @@ class Answer:
         return (self.check, self.code) == (check, frames.code_of(name))
 
     def is_behind(self, check: str, refusal: str) -> bool | str:
-        """Returns whether the command passed a check. No other check refuses with the given
-        response code.
+        """Returns false if `check` refused the command with the response code `refusal`, which no
+        other check uses, and true if the command passed `check`. Otherwise describes the refusal.
         """
         if self.is_refusal(check, refusal):
             return False
@@ -158,7 +158,9 @@ def buffer_of(code: CC, handles: list[int], *entries: bytes) -> bytes:
 
 
 def attributes(program: Program, codes: list[CC]) -> Iterator[Asked]:
-    """Compares command attributes with TPM2_GetCapability, and the number of commands."""
+    """Compares the described command attributes, and the number of commands, with those that
+    TPM2_GetCapability reports.
+    """
     asking = [f"do GetCapability {COMMANDS} {it:#x} 1" for it in codes]
     total = f"do GetCapability 6 {TOTAL_COMMANDS:#x} 1"
     printed = program.run(["do Startup 0", *asking, total])[1:]
@@ -168,7 +170,9 @@ def attributes(program: Program, codes: list[CC]) -> Iterator[Asked]:
 
 
 def served(program: Program, codes: list[CC]) -> Iterator[Asked]:
-    """Compares which commands the device supports, and which commands a policy can name."""
+    """Compares the description with the program: which commands the device supports, and which
+    commands a policy can name.
+    """
     numbers = range(0x100, 0x200) if len(codes) == len(CC) else [int(it) for it in codes]
     for wanted, refusal, buffer in (
         ("served", "COMMAND_CODE", lambda it: frames.command(it, b"\0")),
@@ -190,15 +194,17 @@ def naming(code: int) -> bytes:
 
 
 def told(program: Program, word: str, said: list[str], wanted: Callable) -> Iterator[Asked]:
-    """Compares the results of `tpmsim asm` or `tpmsim line` for these arguments."""
+    """Compares the results of `tpmsim asm` or `tpmsim line` for these arguments with the expected
+    results.
+    """
     with concurrent.futures.ThreadPoolExecutor(AT_ONCE) as pool:
         for it, found in zip(said, pool.map(lambda it: program.told(word, it), said)):
             yield Asked(f"{word} {it}", wanted(it), found)
 
 
 def parameters(program: Program, codes: list[CC]) -> Iterator[Asked]:
-    """Compares the names of commands, and the number and kinds of their parameters, with `tpmsim
-    asm`.
+    """Compares the described names of commands, and the number and kinds of their parameters, with
+    what `tpmsim asm` accepts.
     """
     said = [line for code in codes for line in parameter_lines(code)]
     return told(program, "asm", said, lambda it: assembled(it.encode()))
@@ -230,14 +236,18 @@ def sample(parameter) -> str:
 
 
 def words(program: Program, codes: list[CC]) -> Iterator[Asked]:
-    """Compares how `tpmsim line` prints the parameters of commands."""
+    """Compares the output of `tpmsim line` for commands with the output that the description
+    implies.
+    """
     ended = [assembled(line.encode()) for code in codes for line in parameter_lines(code)]
     buffers = list(dict.fromkeys(it.output.decode().strip() for it in ended if not it.status))
     return told(program, "line", buffers, lambda it: line_told(bytes.fromhex(it)))
 
 
 def kinds_of_handles(program: Program, codes: list[CC]) -> Iterator[Asked]:
-    """Compares which handles a command accepts, both for existing and for missing entities."""
+    """Compares the description with the program: which handles a command accepts, both for existing
+    and for missing entities.
+    """
     for code in codes:
         right, wanted, buffers = right_handles(code), [], []
         for place, handle in enumerate(code.handles, 1):
@@ -250,8 +260,9 @@ def kinds_of_handles(program: Program, codes: list[CC]) -> Iterator[Asked]:
 
 
 def authorizations(program: Program, codes: list[CC]) -> Iterator[Asked]:
-    """Compares which handles need authorization, and whether a command accepts entries. A password
-    entry is refused with a code of its own if no handle of the command needs it.
+    """Compares the description with the program: which handles need authorization, and whether a
+    command accepts entries. A password entry is refused with a code of its own if no handle of the
+    command needs it.
     """
     for code in codes:
         handles = right_handles(code)
@@ -267,8 +278,8 @@ def authorizations(program: Program, codes: list[CC]) -> Iterator[Asked]:
 
 
 def encryption(program: Program, codes: list[CC]) -> Iterator[Asked]:
-    """Compares which commands and responses have a sized buffer as their first parameter. Only then
-    may a session encrypt that parameter.
+    """Compares the description with the program: which commands and responses have a sized buffer
+    as their first parameter. Only then may a session encrypt that parameter.
     """
     for code in codes:
         if code.has(Fact.NO_SESSIONS):
@@ -287,8 +298,9 @@ def encryption(program: Program, codes: list[CC]) -> Iterator[Asked]:
 
 
 def roles(program: Program, codes: list[CC]) -> Iterator[Asked]:
-    """Compares which commands have the ADMIN role when an object or an index authorizes them. The
-    ADMIN role needs a policy that names the command; the USER role does not.
+    """Compares the description with the program: which commands have the ADMIN role when an object
+    or an index authorizes them. The ADMIN role needs a policy that names the command; the USER role
+    does not.
     """
     untold = frames.entry(POLICY_SESSION, bytes(16))
     for code in codes:
@@ -302,8 +314,9 @@ def roles(program: Program, codes: list[CC]) -> Iterator[Asked]:
 
 
 def nv_attributes(program: Program, codes: list[CC]) -> Iterator[Asked]:
-    """Compares whether a command that an index authorizes needs the index's attributes for reading
-    or those for writing. The authorization value of an index never authorizes the ADMIN role.
+    """Compares the description with the program: whether a command that an index authorizes needs
+    the index's attributes for reading or those for writing. The authorization value of an index
+    never authorizes the ADMIN role.
     """
     for code in codes:
         if not code.authorized or not takes(code.handles[0], READ_INDEX):
@@ -322,8 +335,8 @@ def nv_attributes(program: Program, codes: list[CC]) -> Iterator[Asked]:
 
 
 def saved_state(program: Program) -> list[tuple[CC, str, str]]:
-    """Returns the script's events. Each has a command (None for a power cycle), the check that
-    refused it, and the response.
+    """Returns the events of saved_state.tpm. Each has a command (None for a power cycle), the check
+    that refused it, and the response.
     """
     script = (TESTS / "general/saved_state.tpm").read_text("ascii").splitlines()
     printed = iter(program.run(script, "--trace"))
@@ -339,8 +352,8 @@ def saved_state(program: Program) -> list[tuple[CC, str, str]]:
 
 
 def keeping(program: Program, codes: list[CC]) -> Iterator[Asked]:
-    """Compares which commands leave a saved state valid, so that the next TPM2_Startup can resume
-    it.
+    """Compares the description with the program: which commands leave a saved state valid, so that
+    the next TPM2_Startup can resume it.
     """
     events = saved_state(program)
     kept = {CC.Startup: is_kept_by(program, ["power", "do Startup 1"])}
@@ -479,9 +492,7 @@ WRONG = (
 
 
 def is_missing_one_found(program: Program) -> bool:
-    """Returns whether the comparison finds a supported command that is missing from the
-    description.
-    """
+    """Returns whether `served` finds a supported command that is missing from the description."""
     with mock.patch.dict(NUMBERED):
         del NUMBERED[READ]
         return any(it.described != it.found for it in served(program, [READ]))

@@ -79,7 +79,7 @@ class Script:
 
     def check_run(self, turn, ending):
         """Compares all responses with those of the Python device. Returns the numbers of the
-        commands that got MEMORY. Only commands in GROWING may get it.
+        commands that got the response MEMORY. Only commands in GROWING may get it.
         """
         if ending == MEMORY:
             return []

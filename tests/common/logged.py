@@ -116,8 +116,8 @@ def count_on(tpm, *others):
 
 
 def answered(*parts):
-    """Calls each part with the caller of a new connection, one after another. Returns all
-    responses.
+    """Calls the functions `parts` one after another, each with a caller on a new connection.
+    Returns all responses.
     """
     responses = []
     for part in parts:

@@ -4,8 +4,8 @@
 
 The first line of each code block names a file in FOLDER. The block's other lines must be
 consecutive lines of that file, apart from indentation. Each heading of the third level must have
-such a block. Then the test changes one letter in each block, and the comparison must find the
-change. The status is 1 if something differs.
+such a block. Then the test changes one letter in each block, and must find the change. The status
+is 1 if something differs.
 """
 
 import pathlib

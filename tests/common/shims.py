@@ -30,8 +30,8 @@ OTHERS = (
 FOREVER = 1_000_000_000
 CALLS = pathlib.Path("calls")
 
-# The data that is exchanged with turns.h: before a run its two numbers, and after the run its
-# status, and whether the shim has marked it.
+# The data that is exchanged with turns.h: before a run, the two numbers of the run; after the run,
+# its status from waitpid, and whether the shim has marked the run.
 TURN, REPORT = struct.Struct("ll"), struct.Struct("ii")
 
 
@@ -106,7 +106,7 @@ class Room:
 
     @property
     def left(self):
-        """Returns the names of other files that a run has left in the folder."""
+        """Returns the names of the files that a run has left in the folder, except those in OWN."""
         return tuple(sorted({path.name for path in self.path.iterdir()} - OWN))
 
 
@@ -273,8 +273,8 @@ class Refusals(Shim):
         return turn
 
     def check(self, label, words, whole, memory, stdin=b"", needed=FOREVER, explains=False):
-        """Like `compare`, but for how a run ends. If no allocation fails, it must end as `whole`
-        says.
+        """Like `compare`, but begins the runs itself, and compares how they end. If no allocation
+        fails, a run must end as `whole` says.
         """
         with Turns(self, words) as turns:
             run = functools.partial(turns.run, stdin=stdin)

@@ -50,9 +50,9 @@ def without_clock(device: Model) -> bytes:
 
 
 class Connection:
-    """The bytes that a connection sends, in pieces of one size. Also stores the bytes that are not
-    yet a complete command, and the commands so far. Each command has the number of the line that
-    completes it, and its response.
+    """The bytes that a connection sends, in pieces of one size. The class also stores the bytes
+    that are not yet a complete command, and the commands so far. Each command has the number of the
+    line that completes it, and its response.
     """
 
     def __init__(self, piece: int) -> None:

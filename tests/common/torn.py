@@ -48,7 +48,7 @@ OTHERS = (
     " sendfile sendmsg sendto shutdown splice stat sync unlinkat writev"
 ).split()
 
-# Further results of a call that fails, as they are printed.
+# Texts that the test prints for further effects of a failed call.
 NONE, ALONE = "", ", that connection alone ends"
 OLD, NEW = ", the old image stays", ", the new image is there"
 

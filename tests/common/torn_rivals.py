@@ -17,8 +17,7 @@ A_WHILE = 0.3
 
 class Rival:
     """A process that serves many connections. Before its call number `at`, it waits until the file
-    `go` exists. It shares all files with the other process except `own`, which is `image` or
-    `socket`.
+    `go` exists. The two rivals share all files except `own`, which is `image` or `socket`.
     """
 
     def __init__(self, program, name, own, at=0):

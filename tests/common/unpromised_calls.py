@@ -6,8 +6,8 @@ docs/THEOREMS.md:
 FOLDER contains the crates. The list is the table after the words "These public functions promise
 nothing". Each row names a crate, the files of its src/ that contain public functions without
 `ensures` clauses, and the reason. The test prints a line for each difference, and then the number
-of functions. Then it removes one file from the list, and adds a wrong one; the comparison must find
-both mistakes. The status is 1 if there is a difference, or if a mistake is not found.
+of functions. Then it removes one file from the list, and adds a wrong one; it must find both
+mistakes. The status is 1 if there is a difference, or if a mistake is not found.
 """
 
 import collections
@@ -75,7 +75,7 @@ def differences(found: Found, rows: dict[str, set[str]]) -> list[str]:
 
 
 def are_found(found: Found, rows: dict[str, set[str]]) -> bool:
-    """Returns whether the comparison finds both a file that is missing from the list and one that
+    """Returns whether `differences` finds both a file that is missing from the list and one that
     should not be in it.
     """
     lacking = {crate: set(sorted(files)[1:]) for crate, files in rows.items()}

@@ -14,8 +14,8 @@ from tests.general.bends import pieces, Walk
 
 HEADER_BYTES = 10
 
-# Descriptions of a cut within these handles and parameters. For all others the description is
-# "within", followed by the name from Part 3.
+# Descriptions of a cut within some handles and parameters. For all other handles and parameters,
+# the description is "within", followed by the name from Part 3.
 WORDS = {
     "digests": "within its digests",
     "eventData": "within its data",

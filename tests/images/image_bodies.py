@@ -1,4 +1,4 @@
-"""Bodies of images with one error each, paired with the most similar good body. Also good bodies
+"""Bodies of images with one error each, paired with the most similar good body; and good bodies
 with values that are not checked.
 """
 
@@ -27,8 +27,8 @@ WRITTEN = BY_OWNER | Attribute.WRITTEN
 FIRST = 0x8100_0000
 WITH_VALUES = RH_OWNER, RH_ENDORSEMENT, RH_PLATFORM, RH_LOCKOUT
 
-# The offsets in a new device's image of the three bytes that have few valid values. The counts of
-# objects and indices follow the last of these bytes.
+# Offsets in a new device's image, of the three bytes for which only few values are valid. The
+# counts of objects and indices follow the last of these bytes.
 DISABLE_CLEAR, CLOSED, SAVED = 16 + 4 * 66 + 2, 16 + 4 * 66 + 19, 361 - DIGEST_AT_END - 5
 SAVED_BANKS = SAVED_PCRS * (20 + 32)
 
@@ -327,7 +327,7 @@ def not_looked_at():
 
 
 def cases():
-    """Yields all cases. Each bad one is followed by the most similar good one."""
+    """Yields all cases. Each bad image is followed by the most similar good image."""
     yield from version_cases()
     yield from hierarchy_cases()
     yield from flag_cases()

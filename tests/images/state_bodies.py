@@ -1,4 +1,4 @@
-"""Bodies of state texts with one error each, paired with the most similar good body. Also the
+"""Bodies of state texts with one error each, paired with the most similar good body; and the
 largest body.
 """
 
@@ -19,7 +19,9 @@ MOST_TIME = 1000 * 2**32
 
 
 def largest():
-    """Returns a device whose fields are all as large as possible, and its completing layer."""
+    """Returns a device whose fields are all as large as possible, and its completing layer
+    (`--complete`).
+    """
     device = image_bodies.largest()
     told = State(bytes(32), 1, 1, bytes(32), True)
     bound = bytes(34), b"v" * 32, LOCKOUT_AUTH

@@ -349,8 +349,8 @@ class Case:
         return met, told, "; ".join(told.strange)
 
     def check(self, room: pathlib.Path, shim: Shim, share: int) -> tuple[int, int]:
-        """Makes only one in `share` of the runs. Returns their number, and the number of wrong
-        ones.
+        """Makes only one in `share` of the runs. Returns the number of runs made, and the number of
+        wrong runs.
         """
         runs, wrongs, untold = 0, 0, collections.Counter[str]()
         for turn, variant in enumerate(VARIANTS):

@@ -254,8 +254,8 @@ class Case:
         return met, f"{wrong}: {acts}" if wrong else "", ""
 
     def check(self, room: pathlib.Path, shim: Shim, share: int) -> tuple[int, int]:
-        """Makes only one in `share` of the runs. Returns their number, and the number of wrong
-        ones.
+        """Makes only one in `share` of the runs. Returns the number of runs made, and the number of
+        wrong runs.
         """
         runs, wrongs, without = 0, 0, 0
         for turn, variant in enumerate(VARIANTS):

@@ -32,7 +32,8 @@ SECONDS, LEAST_LINES = 5, 5
 # in seconds.
 SIGNALS, MOST_DELAY = 400, 200e-6
 
-# How long the lock is held, and when the signal comes, in seconds. The lock is released much later.
+# How long the lock is held, and when the signal comes, in seconds. The lock is released long after
+# the signal.
 HELD_SECONDS, SIGNAL_SECONDS = 0.4, 0.1
 
 
@@ -73,8 +74,8 @@ def interrupted(number):
 
 
 def is_interrupted(act, number, then):
-    """Returns whether `act` executes this many lines. If so, it is interrupted. `then` checks what
-    it left, before the exception releases the objects that it refers to.
+    """Returns whether `act` executes this many lines. If so, `act` is interrupted, and `then`
+    checks what `act` left, before the exception is dropped with the objects that it refers to.
     """
     try:
         with interrupted(number):

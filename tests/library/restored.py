@@ -80,7 +80,8 @@ class Played:
         extend(self.device)
 
     def told(self, allowed):
-        """Describes what the device reports after an interrupt, and checks that it can be restored.
+        """Describes what the device reports after an interrupt, and checks that the device can be
+        restored.
         """
         try:
             said = "known" if values(self.device) in allowed else "unknown values"

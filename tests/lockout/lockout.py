@@ -61,7 +61,7 @@ tpm.written("One with TPMA_NV_NO_DA", free, SECRET, auth=PIN)
 
 
 def sealed_objects():
-    """Creates the two objects, which a power cycle removes."""
+    """Creates two sealed objects, one with noDA and one without. A power cycle removes them."""
     for words, handle, more in (("without", GUARDED, 0), ("with", FREE, ObjectAttribute.NO_DA)):
         said, template = tpm(f"A sealed object {words} noDA"), sealed(attributes=PROTECTED | more)
         made = said.owned(template, user_auth=PIN, data=SECRET)

@@ -80,7 +80,7 @@ def check(name, handle, use):
         if way.tell:
             tpm.restarts(sessions[4])
         tpm.unlocks()
-    # Ways to use entities without a protected value still work during the lockout.
+    # During the lockout, entries that involve no protected authorization value still work.
     unbound, to_owner, bound, to_lockout, told, bound_policy = sessions
     tpm.chapter(f"What is no try, {name}.")
     others = (

@@ -48,7 +48,9 @@ def general_refusals(code, handles, cut, uses):
 
 
 def changes(code, what, index, locked, parameters, faults=(), ranges=()):
-    """Tests one of the four commands that change an index. The index `locked` has another type."""
+    """Tests one of the four commands that change an index. The index `locked` is locked, and has a
+    type that the command cannot change.
+    """
     tpm.chapter(f"TPM2_{code.name}{what}.")
     uses = [VALUE, Use(session, 1 | DECRYPT) if code.takes_sized else Use(session)]
     general_refusals(code, [index, index], parameters[:-1] or b"\0", uses)

@@ -10,8 +10,8 @@ tpm = PolicyTeller(__name__, __doc__)
 
 
 def other(count):
-    """Returns digests with the size of the session's policyDigest. It is never equal to one of
-    them.
+    """Returns digests with the size of the session's policyDigest. The policyDigest is never equal
+    to one of them.
     """
     return [digest(session.algorithm, b"branch %d" % it) for it in range(count)]
 

@@ -17,7 +17,8 @@ def accepted(what, **parameters):
 
 
 def refused(words, *choices):
-    """Sends TPM2_PolicySecret with each of these sets of parameters. It must be refused."""
+    """Sends TPM2_PolicySecret with each of these sets of parameters. Each command must be refused.
+    """
     tpm.refused(words, *(tpm.secret(session, **it) for it in choices))
 
 

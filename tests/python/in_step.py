@@ -152,8 +152,8 @@ def interrupted(act, left):
 
 def told(device, size):
     """After an interrupted command, sends a command for a different number of bytes, and describes
-    its response. A pipe responds with the command itself. A device that was power-cycled responds
-    with INITIALIZE.
+    its response. A FileDevice on a pipe reads back the command that it wrote. A device that was
+    power-cycled responds with INITIALIZE.
     """
     try:
         response = device.execute(asking(size)).response

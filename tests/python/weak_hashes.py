@@ -1,6 +1,7 @@
-"""Makes hashes in policies weak: each case replaces the hash of certain texts. A session then gets
-the digest of a policy that it does not satisfy, and the device and its history accept the session.
-The audit must report this. In the last case the session satisfies the policy anyway.
+"""Simulates a weak hash function in policies. Each case replaces the hash of certain texts. A
+session then gets the digest of a policy that it does not satisfy, and the device and its history
+accept the session. The audit must report that the policy is not satisfied. In the last case the
+session satisfies the policy anyway.
 
     weak_hashes.py FOLDER
 

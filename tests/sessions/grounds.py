@@ -43,7 +43,7 @@ class Entity(NamedTuple):
 
 
 def with_policy(auth_policy):
-    """Creates a sealed object and defines an index that only this policy authorizes. Returns the
+    """Creates a sealed object and defines an index. Only this policy authorizes them. Returns the
     object and functions that prepare commands on both.
     """
     handle = tpm.sealed_object("An object and an index with this policy", auth_policy)

@@ -54,7 +54,7 @@ class Start:
         self.session.nonce_tpm = self.at_first.nonce_tpm
 
     def otherwise(self, what, seed=SEED, nonce=None):
-        """Starts another session in the same slot, which the caller does not use."""
+        """Starts another session, which the caller does not use, in the slot of this session."""
         assert self.sent(what, seed, nonce or self.nonce).handle == self.session.handle
 
 

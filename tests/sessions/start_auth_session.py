@@ -23,12 +23,15 @@ def start(**changes):
 
 
 def refused(words, *choices):
-    """Sends TPM2_StartAuthSession with each of these sets of values. It must be refused."""
+    """Sends TPM2_StartAuthSession with each of these sets of values. Each command must be refused.
+    """
     tpm.raw(words, *(start(**it) for it in choices))
 
 
 def each(words, name, *values):
-    """Sends TPM2_StartAuthSession with each of these values of one field. It must be refused."""
+    """Sends TPM2_StartAuthSession with each of these values of one field. Each command must be
+    refused.
+    """
     refused(words, *({name: it} for it in values))
 
 

@@ -57,7 +57,9 @@ def is_masked(prepared, plain, place=1, auth_value=b""):
 
 
 def masking(what, prepared, plain, place=1, auth_value=b""):
-    """Sends a command with a masked first parameter. It must be accepted. Returns its response."""
+    """Sends a command with a masked first parameter. The command must be accepted. Returns its
+    response.
+    """
     is_masked(prepared, plain, place, auth_value)
     return tpm.accepted(what, prepared)[1]
 

@@ -1,6 +1,6 @@
 """A device that is stopped while it has a bound and an unbound HMAC session, a policy session,
-objects, contexts of the completing layer, and a dynamic launch. Also the commands that it must
-accept when it continues.
+objects, contexts of the completing layer, and a dynamic launch. This module also prepares the
+commands that the device must accept when it continues.
 """
 
 from tests.swtpm.called import Called

@@ -1,6 +1,7 @@
 """Writes tests/swtpm/journal_state: the states of a running device, and the commands that it must
-accept afterwards. They come from an older library, whose volatile state is its journal. The same
-library made journal_of_objects, where the journal has a TPM2_ContextSave of an object:
+accept afterwards. The states come from an older library, whose volatile state is its journal. The
+same library made the states in journal_of_objects, whose journal has a TPM2_ContextSave of an
+object:
 
     tools/python.sh tests/swtpm/make_journal_state.py CALLER LIBRARY SHIM
 

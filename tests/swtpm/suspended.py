@@ -76,7 +76,7 @@ class Pair:
 
     def cycle_power(self) -> None:
         """Power-cycles the devices. Each continues with its present permanent state, because the
-        stored one has an older Clock.
+        stored permanent state has an older Clock.
         """
         for device in self.devices:
             device.done("get permanent permanent", "GetState")
