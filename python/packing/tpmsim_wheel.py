@@ -159,8 +159,8 @@ def write_wheel(folder: str, machine: str | None) -> pathlib.Path:
 
 
 def this_machine() -> str | None:
-    """Returns this machine if dist/ has a library for it and its C library is recent enough for
-    that library; otherwise None.
+    """Returns this machine's name if dist/ has a libtpmsim for it and the installed C library is
+    recent enough to load that libtpmsim; otherwise None.
     """
     system, version = platform.libc_ver()
     numbers = tuple(int(it) for it in version.split(".") if it.isdigit())

@@ -42,9 +42,9 @@ def but_clock(image: bytes) -> bytes:
 
 
 class ImageFile:
-    """The file of an image. It holds the lock that `tpmsim` takes until `close`. Raises
-    FileExistsError if the lock is already taken, and OSError if the folder is not writable. The
-    file belongs to the process that opened it, and not to a forked child.
+    """The file of an image. Until `close`, it holds the same lock that the `tpmsim` program takes.
+    Raises FileExistsError if the lock is already taken, and OSError if the folder is not writable.
+    The file belongs to the process that opened it, and not to a forked child.
     """
 
     is_left = False

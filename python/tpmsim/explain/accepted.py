@@ -28,8 +28,8 @@ def before(scene: Scene) -> list[Reason]:
 
 
 def garbage(scene: Scene) -> Iterator[Reason]:
-    """Reports a first parameter that does not decrypt to a text, but would do so if the caller had
-    encrypted it in another way.
+    """Reports a first parameter that decrypts to garbage, but would have decrypted to readable
+    bytes if the caller had encrypted it differently.
     """
     if ingredients.decrypting_use(scene) is None or scene.plain is None:
         return

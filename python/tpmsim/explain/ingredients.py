@@ -113,7 +113,8 @@ class Use:
 
     @property
     def is_bound_now(self) -> bool:
-        """Whether the session is still bound to the authorized entity, whose value has not changed.
+        """Whether the session is bound to the authorized entity, and the entity's authValue is
+        unchanged since the session was started.
         """
         return self.handle is not None and self.scene.model.is_bound(self.session, self.handle)
 

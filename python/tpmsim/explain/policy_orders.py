@@ -64,8 +64,8 @@ def without(items: Items) -> Iterator[Arranged]:
 
 
 def twice(items: Items) -> Iterator[Arranged]:
-    """Yields arrangements that repeat one assertion, or that start from an empty text instead of
-    zeros.
+    """Yields arrangements that repeat one assertion, or that start from an empty buffer instead of
+    a zero digest.
     """
     for at, it in enumerate(items):
         words = f"With {it.words} twice it would match."

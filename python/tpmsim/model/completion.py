@@ -71,8 +71,8 @@ Place = Callable[[Object], int | None]
 
 @dataclass(frozen=True)
 class Completed:
-    """The outcome of a command, the outcome of the device itself, and what the layer did, if
-    anything.
+    """The final outcome of a command, the outcome that the device alone gave, and what the layer
+    did, if anything.
     """
 
     outcome: Outcome

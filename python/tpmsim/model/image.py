@@ -35,8 +35,8 @@ class Fault(TpmsimError):
 
 @dataclass(frozen=True)
 class Version:
-    """The limits on NV indices and on the size of their data, and whether the image contains
-    them.
+    """A version of the image format: the limits on NV indices and on the size of their data, and
+    whether these limits are stored in the image.
     """
 
     number: int

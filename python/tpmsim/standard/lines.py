@@ -367,8 +367,9 @@ def words_of(fields: Fields) -> list[str]:
 
 
 def traced(outcome: Outcome, locality: int, elapsed: int) -> str:
-    """Returns the trace of a command's event: the name, the locality, the elapsed milliseconds, the
-    check and the response code. If a command is refused before its code is known, the name is `?`.
+    """Returns the trace of a command: its name, the locality, the elapsed milliseconds, the check
+    that decided the response, and the response code. If a command is refused before its code is
+    known, the name is `?`.
     """
     code = NUMBERED.get(outcome.row.code)
     name = code.name if code else "?"
