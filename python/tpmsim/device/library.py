@@ -137,7 +137,7 @@ os.register_at_fork(after_in_child=give_up_all)
 NAME = "libtpmsim.so.0"
 RESPONSE_BYTES = 4096
 
-# Large enough for any image and any state text.
+# The size of a buffer that can hold any image and any state text.
 TEXT_BYTES = 36_195
 
 # The results of a call (library/tpmsim.h): NO_MEMORY, the faults of an image from 4 on, and those

@@ -107,8 +107,8 @@ def offline_guesses(scene: Scene) -> Iterator[Reason]:
 
 
 def after(scene: Scene) -> Iterator[Reason]:
-    """Yields notes after the command took effect: that the random bytes are zeros, which is said
-    once, and that a nonceTPM repeats.
+    """Yields notes after the command took effect: that a nonceTPM repeats and, once per log, that
+    the random bytes are zeros.
     """
     if scene.code in DRAWS and not any(scene.random) and "random" not in scene.past.told_once:
         scene.past.told_once.add("random")

@@ -86,8 +86,7 @@ class Formed:
 
 
 def forms_of(value: bytes) -> Iterator[Formed]:
-    """Yields the values that one form makes, then those that two forms make, the inner form first.
-    """
+    """Yields the value in each single form, and then in each combination of two forms."""
     seen = {value, b""}
 
     def fresh(before: tuple[Form, ...], form: Form, turned: bytes) -> Iterator[Formed]:

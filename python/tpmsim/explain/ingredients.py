@@ -18,8 +18,8 @@ def joined(*parts: bytes) -> bytes:
 
 class Ingredients(NamedTuple):
     """The ingredients of an HMAC. `code` precedes the Names in cpHash; `auth_value` is empty if it
-    is not in the key. The last fields combine the parts: into the key, the text of cpHash, cpHash,
-    the HMAC's text and the HMAC.
+    is not in the key. The last five fields are functions, which compute from the other fields the
+    key, the text of cpHash, cpHash, the HMAC's text and the HMAC.
     """
 
     algorithm: int

@@ -145,7 +145,7 @@ def moved(use: Use, step: Step, then: Banks, found: Reason) -> str:
     return listed(dict.fromkeys(said)) + "." if said else "in what PolicyPCR was given."
 
 
-# If the expected digest was made outside this log:
+# The explanation if the expected digest was computed outside this log.
 
 
 def from_outside(use: Use, steps: Sequence[Step], wanted: bytes, found: Reason) -> str:

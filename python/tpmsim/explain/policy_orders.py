@@ -51,7 +51,7 @@ def arrangements(items: Items, missing: Sequence[Item]) -> Iterator[Arranged]:
 
 
 def others(items: Items, missing: Sequence[Item]) -> Iterator[Arranged]:
-    """Yields arrangements with one mistake each, which is not a mistake in the order."""
+    """Yields arrangements with one mistake each, in which the order is correct."""
     yield from without(items)
     yield from with_another(items, missing)
     yield from twice(items)

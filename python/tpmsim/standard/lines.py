@@ -153,7 +153,9 @@ class Words:
         return self.values.write(self.parsed(token))
 
     def word(self, fields: Fields) -> str:
-        """Returns the token for the next value of the fields; raises NoWords if there is none."""
+        """Returns the token for the next value of the fields; raises NoWords if no token encodes
+        that value.
+        """
         try:
             return self.shown(self.values.read(fields))
         except KeyError:
@@ -343,7 +345,7 @@ def assemble(line: bytes) -> bytes:
 
 
 def line_of(buffer: bytes) -> str | None:
-    """Returns the line that encodes a buffer, or None if there is none."""
+    """Returns the line that encodes a buffer, or None if no line does."""
     try:
         line = " ".join(words_of(Fields(buffer)))
         return line if assemble(line.encode("ascii")) == buffer else None
