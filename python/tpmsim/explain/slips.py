@@ -94,8 +94,8 @@ class Search:
         return []
 
     def part_words(self, made: bytes) -> str:
-        """Returns, as text, how the sent HMAC contains `made` or is contained in it; empty if
-        neither is so.
+        """Returns, as text, how the sent HMAC is a part of `made`, or begins with it; empty if it
+        does neither.
         """
         given, algorithm = self.given, self.use.session.algorithm
         has = f"{size_words(len(given))}, and one by {HASH_WORDS[algorithm]} has "

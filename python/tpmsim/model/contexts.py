@@ -50,8 +50,8 @@ FAULTS = TRUNCATED, SAVED_HANDLE, HIERARCHY, SIZE, INTEGRITY
 
 @dataclass(frozen=True)
 class Binding:
-    """The values to which a context is bound: the number of the completing layer's start, resetCount
-    and restartCount.
+    """The values to which a context is bound: the number of the completing layer's start,
+    resetCount and restartCount.
     """
 
     start: int

@@ -29,8 +29,8 @@ T = TypeVar("T")
 MAGIC, VERSION = b"TPMS", 2
 
 # In version 1, the layer has two numbers for each object: the number of its context, and the number
-# of its flush. When a text of version 1 is read, an object that was flushed, and whose context could
-# still be loaded, is left out.
+# of its flush. When a text of version 1 is read, an object is left out if it was flushed, but its
+# context could still be loaded.
 VERSION_1 = 1
 VERSIONS = VERSION_1, VERSION
 
