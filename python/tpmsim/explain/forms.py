@@ -86,7 +86,9 @@ class Formed:
 
 
 def forms_of(value: bytes) -> Iterator[Formed]:
-    """Yields the value in each single form, and then in each combination of two forms."""
+    """Yields the value in each single form, and then in those combinations of two forms that are
+    tried. In a combination, the form that is applied first comes first.
+    """
     seen = {value, b""}
 
     def fresh(before: tuple[Form, ...], form: Form, turned: bytes) -> Iterator[Formed]:

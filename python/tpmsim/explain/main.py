@@ -16,14 +16,14 @@ it shows the HMAC's ingredients, and the common mistake that makes the given one
 commands it points out suspicious details. It also reports how much the completing layer answered.
 
     --at LINE    shows all of the command in one line of the log, accepted or refused
-    --try VALUE  tries a text, or bytes as hex:00ff, in each place of a wrong HMAC or password, or
-                 of a policy digest; it may be given several times
+    --try VALUE  tries a text, or bytes as hex:00ff, in each place of a wrong HMAC or password, or of a
+                 policy digest; it may be given several times
     --json       the same as JSON
     --html       one page to look at, with nothing fetched from elsewhere
 
 The status is 0. It is 1 if an answer of the log differs from the model's. It is 2 if the arguments,
 a file or the image is wrong, or if a line is not a script's; everything before that line is
-reported. It needs only python3.
+reported. It needs python3, and no program.
 """
 
 import json
