@@ -25,7 +25,7 @@ LIBRARY, KEPT_LIBRARY, PROGRAM = "libtpmsim.so.0", "libtpmsim-kept.so.0", "tpmsi
 # The HTML page that shows explained logs, and the page's path in the package.
 PAGE, PAGE_PLACE = DISTRIBUTION / "tpmsim.html", "tpmsim/explain/tpmsim.html"
 
-# The version of glibc that the program and the library need.
+# The version of glibc that the program `tpmsim` and the libraries need.
 GLIBC = 2, 34
 
 # The earliest time that a zip file can store.
@@ -111,8 +111,8 @@ def described(machine: str | None) -> list[Entry]:
 
 
 def contents(machine: str | None) -> Iterator[Entry]:
-    """Returns the files that a wheel installs: the package, and the libraries and the program for a
-    machine.
+    """Returns the files that a wheel installs: the package, and for a machine also the libraries
+    and the program `tpmsim`.
     """
     yield from package()
     if machine:
@@ -159,8 +159,8 @@ def write_wheel(folder: str, machine: str | None) -> pathlib.Path:
 
 
 def this_machine() -> str | None:
-    """Returns this machine if dist/ has a library for it and its C library is recent enough for
-    that library; otherwise None.
+    """Returns this machine's name if dist/ has a libtpmsim for it and the installed C library is
+    recent enough to load that libtpmsim; otherwise None.
     """
     system, version = platform.libc_ver()
     numbers = tuple(int(it) for it in version.split(".") if it.isdigit())

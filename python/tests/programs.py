@@ -9,14 +9,15 @@ import shutil
 import tempfile
 import unittest
 
-# The program that tests/python/python.sh has built, or else the installed one.
+# The path of tpmsim-simulator: the program that tests/python/python.sh has built, or else the
+# installed program.
 SIMULATOR = os.environ.get("TPMSIM_SIMULATOR") or shutil.which("tpmsim-simulator")
 NEEDS_SIMULATOR = unittest.skipUnless(SIMULATOR, "there is no tpmsim-simulator")
 
 
 def folder_of_compiled():
-    """Returns the folder for the compiled modules of a Python program: the one in the environment,
-    or a new one.
+    """Returns the folder for the compiled modules of a Python program: $PYTHONPYCACHEPREFIX if it
+    is set, otherwise a new folder.
     """
     kept = os.environ.get("PYTHONPYCACHEPREFIX")
     if kept:

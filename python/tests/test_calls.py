@@ -139,7 +139,7 @@ class Words(unittest.TestCase):
             storage_key("sha3")
 
     def test_structures(self):
-        """If a field of a structure does not fit, the exception names that field too."""
+        """If a field of a structure does not fit, the exception names that field."""
         for name, public in (
             ("data_size", area(size=70_000)),
             ("auth_policy", area(auth_policy="x")),

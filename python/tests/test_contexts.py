@@ -88,8 +88,8 @@ class Computed(unittest.TestCase):
             self.assertEqual(contexts.opened(device_of(), START, context), key)
 
     def test_bindings(self):
-        """A context is bound to the proof, the start and resetCount. With stClear it is also bound
-        to restartCount.
+        """A context is bound to the proof, the number of the layer's start, and resetCount. With
+        stClear it is also bound to restartCount.
         """
         ordinary, st_clear = map(bytes.fromhex, CONTEXTS)
         for device, start, wanted in (

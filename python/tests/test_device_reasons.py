@@ -126,7 +126,8 @@ class Reasons(unittest.TestCase):
             self.assertIn("The password of the entry is not", why_refused(log_of(device)))
 
     def test_what_was_there_before(self):
-        """If a device had an index before its first event, its refusals are not explained wrongly.
+        """If a device had an index before its first recorded event, no refusal is explained
+        wrongly.
         """
         with ChildDevice(image=self.folder / "image") as device:
             index = use(device)

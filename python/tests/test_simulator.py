@@ -28,7 +28,8 @@ STARTUP = bytes.fromhex("80010000000c000001440000")
 GET_RANDOM = bytes.fromhex("80010000000c0000017b0010")
 
 # LEAST_BUFFER is the size of the host's buffer for a client that never reads. It is small, so that
-# it is soon full. If the server accepts nothing more for STUCK seconds, it waits for that client.
+# it is soon full. If the server accepts no more data for STUCK seconds, the test assumes that it is
+# waiting for that client.
 LEAST_BUFFER, STUCK = 4096, 0.2
 
 

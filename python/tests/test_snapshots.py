@@ -43,8 +43,9 @@ def in_library():
 
 
 class Pair(Transport):
-    """The library's device and the model's. They receive the same events, and must return the same
-    responses. After each command, each of them continues from the other's state text.
+    """A device of the library and a device of the model. Both receive the same events, and must
+    return the same responses. After each command, each device continues from the state text of
+    the other device.
     """
 
     def __init__(self):
@@ -199,8 +200,7 @@ class OverModel(Told, unittest.TestCase):
 
 
 class InFolder:
-    """Tests of devices in a folder. When a device is restored, its completing layer gets a new
-    start.
+    """Tests of devices in a folder. When a device is restored, its completing layer starts again.
     """
 
     def assert_same(self, found, wanted):

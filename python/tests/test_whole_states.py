@@ -48,8 +48,8 @@ def before():
 
 
 def text_of_version_1(device, layer=None, held=((0, 0),) * 8):
-    """Returns a state text in version 1, whose layer has two numbers for each slot of an object,
-    after its other numbers.
+    """Returns a state text in version 1, whose layer has two numbers for each object slot, after
+    the layer's other numbers.
     """
     body = state_text.device_text(device)
     if layer is None:

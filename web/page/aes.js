@@ -9,7 +9,7 @@ const BLOCK = 16;
  */
 const doubled = (byte) => ((byte << 1) ^ (byte & 0x80 ? 0x11b : 0)) & 0xff;
 
-/** Returns the S-box, which it computes from the powers of 3 and of its inverse. */
+/** Returns the S-box, which it computes from the powers of 3 and of the inverse of 3. */
 function substitution() {
   const box = new Uint8Array(256);
   let power = 1;

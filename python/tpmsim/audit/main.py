@@ -5,18 +5,19 @@
 
 OUTPUT is what `tpmsim run --trace SCRIPT` printed; `-` is standard input. A journal contains
 checksums of its own answers, and needs no OUTPUT. The device was new, unless --image or the head of
-a journal names another one: the device of that image, after a power cycle, or the device of that
-state text, unchanged. Each --policy is a policy in words, as docs/USING.md describes it. With
---digest nothing is checked, and the digests of the policies are printed.
+a journal provides an image or a state text: an image is opened as after a power cycle, and the
+device of a state text continues unchanged. Each --policy is a policy in words, as docs/USING.md
+describes it. With --digest nothing is checked, and the digests of the policies are printed.
 
-It prints what the log shows: the PCRs, the policies, each use of an entity with the ground on which
-it was accepted, the reasons for refusals that no entry caused, the counters, and the failed
-guesses. For each policy in words it prints which entities have it, and how each use of them met it.
+It prints what the log shows: the PCRs, the policies, each use of an entity with the reason why it
+was accepted, the reasons for refusals that no entry caused, the counters, and the failed guesses.
+For each policy in words it prints which entities have it, and how each use of these entities
+satisfied it.
 
 The status is 0 if everything agrees. It is 1, with a line on standard error, if the log is cut, if
 no device with this start returns these responses, if the script has a bad line, if no entity has a
-given policy, or if a use does not meet its policy. It is 2 if the arguments, a file, a policy or
-the image is wrong. It needs python3, and no program.
+given policy, or if a use does not satisfy its policy. It is 2 if the arguments, a file, a policy or
+the image is wrong. It needs only python3.
 """
 
 import os

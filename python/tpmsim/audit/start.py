@@ -71,9 +71,9 @@ def add_state(history: History, device: Model) -> None:
 
 
 def of_log(script: bytes, given: bytes | None) -> Start:
-    """Returns the device that a log starts with: the one of the text that was passed, the one of
-    the text at the start of the log, or else a new one. Raises Fault if a text is invalid, or if
-    the two texts are of different devices.
+    """Returns the device with which a log starts: the device of the log's head, else the device of
+    the `given` image or state text, else a new one. Raises Fault if one of the two texts is
+    invalid, or if they are of different devices.
     """
     begun = first_of(script)
     if begun is None:
@@ -96,8 +96,8 @@ def first_of(script: bytes) -> records.Begin | None:
 
 
 def has_answers(script: bytes) -> bool:
-    """Whether a log records the response to its first command, as a journal does. So does a log
-    with a head and no command.
+    """Whether a log records the response to its first command, as a journal does. A log without
+    commands counts as one that does if it has a head.
     """
     commands = (it for it in records.steps_of(script) if isinstance(it, records.Command))
     first = next(commands, None)

@@ -116,7 +116,7 @@ class Caller(Calls, PreparedCommands):
 
     def tell_branch(self, use: Use, step: Step) -> None:
         """Executes the first branch that the device accepts. If it accepts none, raises the refusal
-        of the last one.
+        of the last branch.
         """
         refused: Refused | None = None
         for branch in step.branches:

@@ -108,8 +108,8 @@ class Knowledge:
 
     def key(self, use: Use, handle: int | None) -> bytes:
         """Returns the key of an hmac. In an HMAC session it includes the authorization value,
-        unless the session is bound to the entity and the value has not changed since its start. In
-        a policy session it includes the value if the policy demands it.
+        unless the session is bound to the entity and the value is unchanged since the session's
+        start. In a policy session it includes the value if the policy demands it.
         """
         session = use.session
         if handle is None:
@@ -242,7 +242,9 @@ class Knowledge:
     def note_answer(
         self, prepared: Prepared, request: bytes, handle: int | None, parameters: bytes
     ) -> None:
-        """Learns all other changes from the command and its response. Both are decrypted."""
+        """Learns the remaining effects of an accepted command from the decrypted parameters of the
+        command and of its response.
+        """
         code, fields = prepared.code, Fields(request)
         if code == CC.NV_ReadPublic:
             self.note_public(nv.Public.read(Fields(parameters).sized()))

@@ -269,8 +269,8 @@ class Comparison:
                 self.keep_step(entry, handle)
 
     def keep_step(self, entry: Entry, handle: int | None) -> None:
-        """After an entry used a session on this device only: ends the session on the other TPM too,
-        or restarts its policy there.
+        """Handles an entry that used a session on this device only: ends the session on the other
+        TPM too, or restarts the session's policy there.
         """
         handles = self.translation.handles
         if not entry.attributes & CONTINUE_SESSION:

@@ -105,7 +105,7 @@ class Reference:
 
     def open_empty(self, step: records.Begin) -> bool:
         """Continues with the device of a head, if that device was just powered on and contains
-        nothing that a new device lacks. Returns whether it continues with it.
+        nothing that a new device lacks. Returns False for any other device, which is not opened.
         """
         begun = opened(step.content, step.start)
         found = begun.device

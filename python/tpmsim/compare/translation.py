@@ -140,8 +140,8 @@ class Translation:
         return sessions.entry_hmac(*given, use.attributes)
 
     def password(self, given: bytes, handle: int | None, there: int | None) -> bytes:
-        """Returns the password for the other TPM. If a correct password differs from the
-        authorization value there, it is replaced by that value.
+        """Returns the password for the other TPM: the other TPM's own authorization value if the
+        password is correct on this device, otherwise the password unchanged.
         """
         value, other = self.here.model.auth_value(handle), self.known.auth_value(there)
         return other if sessions.trimmed(given) == value != other else given

@@ -87,9 +87,9 @@ def lines_told(event: str | Executed) -> list[str]:
 class Snapshot(bytes):
     """A device's state text (docs/table/state_text.md), which may be stored, compared and restored
     anywhere. It also has what the text does not contain: the locality of the next commands, the
-    milliseconds that pass before the next one, and the events so far. `begun` is the image or the
-    state text of the device that received the events. It is empty for a script's device, and None
-    if it is not known.
+    milliseconds that pass before the next one, and the events so far. `begun` is the image or state
+    text from which the device started, before those events. It is empty for a script's device, and
+    None if unknown.
     """
 
     locality: int

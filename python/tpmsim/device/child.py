@@ -15,12 +15,12 @@ from tpmsim.device.shipped import shipped
 from tpmsim.device.told import Device, Path
 from tpmsim.standard import CC
 
-# The beginning of the program's message about a file that is not a state text.
+# The beginning of the message that `tpmsim` prints about a file that is not a state text.
 NO_STATE_TEXT = "tpmsim: snapshot "
 
 
 def program_found() -> str:
-    """Returns the path of the program: the one that $TPMSIM names, the one of this repository, one
+    """Returns the path of `tpmsim`: the one that $TPMSIM names, the one of this repository, one
     on the path, or the one next to the interpreter, where a wheel installs it. Raises
     FileNotFoundError if there is none.
     """
@@ -85,14 +85,14 @@ class ChildDevice(InStep, Device):
         self.start_anew()
 
     def start_anew(self) -> None:
-        """Ends the program, and starts it again."""
+        """Ends the process of `tpmsim`, and starts a new one."""
         self.why_closed = NOT_ENDED
         self.end()
         self.told_locality, self.process = 0, self.started()
         self.why_closed = ""
 
     def say(self, *lines: str) -> None:
-        """Writes lines to the program."""
+        """Writes lines to the standard input of `tpmsim`."""
         assert self.process.stdin is not None
         try:
             self.process.stdin.write("".join(f"{it}\n" for it in lines).encode("ascii"))
@@ -101,7 +101,7 @@ class ChildDevice(InStep, Device):
             raise self.ended() from None
 
     def heard(self) -> str:
-        """Returns the next line that the program prints."""
+        """Returns the next line that `tpmsim` prints."""
         assert self.process.stdout is not None
         text = self.process.stdout.readline()
         if not text.endswith(b"\n"):
@@ -109,7 +109,7 @@ class ChildDevice(InStep, Device):
         return text.decode("ascii").rstrip("\n")
 
     def ended(self) -> DeviceEnded:
-        """Returns the exception that says how the program ended."""
+        """Returns the exception that says how `tpmsim` ended."""
         assert self.process.stderr is not None
         words = self.process.stderr.read().decode("utf-8", "replace").strip()
         return DeviceEnded(f"status {self.process.wait()}: {words}")
@@ -175,7 +175,7 @@ class ChildDevice(InStep, Device):
         self.start_anew()
 
     def asked(self, *words: str) -> bytes:
-        """Runs the program with these arguments, and returns what it prints; raises BadState or
+        """Runs `tpmsim` with these arguments, and returns what it prints; raises BadState or
         DeviceEnded if it fails.
         """
         done = subprocess.run([self.program, *words], capture_output=True, check=False)
@@ -187,7 +187,7 @@ class ChildDevice(InStep, Device):
         raise DeviceEnded(f"status {done.returncode}: {said}")
 
     def end(self) -> None:
-        """Closes the pipes, and waits until the program has ended."""
+        """Closes the pipes, and waits until `tpmsim` has ended."""
         for pipe in (self.process.stdin, self.process.stdout, self.process.stderr):
             assert pipe is not None
             try:

@@ -42,9 +42,9 @@ def but_clock(image: bytes) -> bytes:
 
 
 class ImageFile:
-    """The file of an image. It holds the lock that `tpmsim` takes until `close`. Raises
-    FileExistsError if the lock is already taken, and OSError if the folder is not writable. The
-    file belongs to the process that opened it, and not to a forked child.
+    """The file of an image. Until `close`, it holds the same lock that the `tpmsim` program takes.
+    Raises FileExistsError if the lock is already taken, and OSError if the folder is not writable.
+    The file belongs to the process that opened it, and not to a forked child.
     """
 
     is_left = False
@@ -137,7 +137,7 @@ os.register_at_fork(after_in_child=give_up_all)
 NAME = "libtpmsim.so.0"
 RESPONSE_BYTES = 4096
 
-# Large enough for any image and any state text.
+# The size of a buffer that can hold any image and any state text.
 TEXT_BYTES = 36_195
 
 # The results of a call (library/tpmsim.h): NO_MEMORY, the faults of an image from 4 on, and those

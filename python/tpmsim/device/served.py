@@ -163,7 +163,7 @@ POWER_ON, POWER_OFF, SEND_COMMAND, NV_ON, SESSION_END = 1, 2, 8, 11, 20
 
 class SimulatorDevice(InStep, LocatedDevice):
     """A device that speaks Microsoft's protocol: it receives commands on a port, and requests to
-    the platform on the next one. Its power is switched on at first; `power_cycle` switches it off
+    the platform on the next port. Its power is switched on at first; `power_cycle` switches it off
     and on.
 
     >>> SimulatorDevice("127.0.0.1", 1)

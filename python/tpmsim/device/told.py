@@ -247,7 +247,7 @@ class Device(Transport):
 
 class ModelDevice(Device):
     """The device in plain Python, in this process, manufactured with the bytes 00 to ff; or a given
-    model that was just powered on. Its trace is a script too, although the program did not execute
+    model that was just powered on. Its trace is a script too, although `tpmsim` did not execute
     it.
 
     >>> with ModelDevice() as device:

@@ -28,8 +28,8 @@ def before(scene: Scene) -> list[Reason]:
 
 
 def garbage(scene: Scene) -> Iterator[Reason]:
-    """Reports a first parameter that does not decrypt to a text, but would do so if the caller had
-    encrypted it in another way.
+    """Reports a first parameter that decrypts to garbage, but would have decrypted to readable
+    bytes if the caller had encrypted it differently.
     """
     if ingredients.decrypting_use(scene) is None or scene.plain is None:
         return
@@ -107,8 +107,8 @@ def offline_guesses(scene: Scene) -> Iterator[Reason]:
 
 
 def after(scene: Scene) -> Iterator[Reason]:
-    """Yields notes after the command took effect: that the random bytes are zeros, which is said
-    once, and that a nonceTPM repeats.
+    """Yields notes after the command took effect: that a nonceTPM repeats and, once per log, that
+    the random bytes are zeros.
     """
     if scene.code in DRAWS and not any(scene.random) and "random" not in scene.past.told_once:
         scene.past.told_once.add("random")

@@ -24,7 +24,7 @@ class Contexts:
         self.saved: dict[bytes, Saved] = {}
 
     def note(self, line: int, context: bytes, model: Model, start: int) -> None:
-        """Notes a context that a line saved, if it is an object's."""
+        """Notes a context that a line saved, if it is the context of an object."""
         try:
             head = read_head(Fields(context))
         except Fault:

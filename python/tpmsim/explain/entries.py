@@ -70,7 +70,7 @@ def locked(scene: Scene, place: int, entry: Entry, handle: int | None) -> Reason
 
 
 def wrong(scene: Scene, place: int, entry: Entry, handle: int | None) -> Reason:
-    # The HMAC or the password begins after its size.
+    # The HMAC or the password begins after its size field.
     at = scene.entry_at(place) + 4 + 2 + len(entry.nonce) + 1 + 2
     found = Reason(f"{scene.check}/{scene.name}", "", at=at)
     use = ingredients.use_of(scene, place)

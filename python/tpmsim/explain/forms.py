@@ -86,7 +86,8 @@ class Formed:
 
 
 def forms_of(value: bytes) -> Iterator[Formed]:
-    """Yields the values that one form makes, then those that two forms make, the inner form first.
+    """Yields the value in each single form, and then in those combinations of two forms that are
+    tried. In a combination, the form that is applied first comes first.
     """
     seen = {value, b""}
 

@@ -70,7 +70,7 @@ MOST_OTHERS = 8
 
 
 def with_others(scene: Scene, handle: int, found: Reason) -> Reason:
-    """Adds the existing entities that have the same kind as the missing one."""
+    """Adds the existing entities that have the same kind as the missing entity."""
     model, past = scene.model, scene.past
     held = sorted({*model.sessions, *model.objects, *model.indices})
     kind = [it for it in held if first_byte(it) == first_byte(handle)]

@@ -18,8 +18,8 @@ def joined(*parts: bytes) -> bytes:
 
 class Ingredients(NamedTuple):
     """The ingredients of an HMAC. `code` precedes the Names in cpHash; `auth_value` is empty if it
-    is not in the key. The last fields combine the parts: into the key, the text of cpHash, cpHash,
-    the HMAC's text and the HMAC.
+    is not in the key. The last five fields are functions, which compute from the other fields the
+    key, the text of cpHash, cpHash, the HMAC's text and the HMAC.
     """
 
     algorithm: int
@@ -113,7 +113,8 @@ class Use:
 
     @property
     def is_bound_now(self) -> bool:
-        """Whether the session is still bound to the authorized entity, whose value has not changed.
+        """Whether the session is bound to the authorized entity, and the entity's authValue is
+        unchanged since the session was started.
         """
         return self.handle is not None and self.scene.model.is_bound(self.session, self.handle)
 

@@ -39,7 +39,7 @@ class Event:
     number of responses in the log. If it is examined as a whole, `entries` contains the ingredients
     of the HMACs, by position, and `answered` the decrypted response parameters. `comments` contains
     the paragraphs of comments before it. With `completes`, the completing layer was present:
-    `layer` says what it did, if anything, and `own` is the outcome of the device itself.
+    `layer` says what it did, if anything, and `own` is the outcome that the device alone gave.
     """
 
     line: int
@@ -391,7 +391,7 @@ class Play(Watched):
         return self.shown(event, b"power")
 
     def is_same(self, step: records.Begin, is_first: bool) -> bool:
-        """Whether the device of a head is the observed one."""
+        """Whether the device of a head is the device that is already observed."""
         is_same = goes_on(self.model, step.content)
         if is_first and self.given is not None and not is_same:
             words = "the device in the log is another one than that of --image"

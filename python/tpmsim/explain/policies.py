@@ -58,7 +58,7 @@ def difference(use: Use, wanted: bytes, found: Reason) -> str:
     return from_outside(use, steps, wanted, found)
 
 
-# If the expected digest was made earlier in this log:
+# The explanation if the expected digest was already computed earlier in this log.
 
 
 def from_earlier(use: Use, steps: Sequence[Step], earlier: Made, found: Reason) -> str:
@@ -145,7 +145,7 @@ def moved(use: Use, step: Step, then: Banks, found: Reason) -> str:
     return listed(dict.fromkeys(said)) + "." if said else "in what PolicyPCR was given."
 
 
-# If the expected digest was made outside this log:
+# The explanation if the expected digest was computed outside this log.
 
 
 def from_outside(use: Use, steps: Sequence[Step], wanted: bytes, found: Reason) -> str:

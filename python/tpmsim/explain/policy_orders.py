@@ -51,7 +51,7 @@ def arrangements(items: Items, missing: Sequence[Item]) -> Iterator[Arranged]:
 
 
 def others(items: Items, missing: Sequence[Item]) -> Iterator[Arranged]:
-    """Yields arrangements with one mistake each, which is not a mistake in the order."""
+    """Yields arrangements with one mistake each, in which the order is correct."""
     yield from without(items)
     yield from with_another(items, missing)
     yield from twice(items)
@@ -64,8 +64,8 @@ def without(items: Items) -> Iterator[Arranged]:
 
 
 def twice(items: Items) -> Iterator[Arranged]:
-    """Yields arrangements that repeat one assertion, or that start from an empty text instead of
-    zeros.
+    """Yields arrangements that repeat one assertion, or that start from an empty buffer instead of
+    a zero digest.
     """
     for at, it in enumerate(items):
         words = f"With {it.words} twice it would match."

@@ -17,10 +17,10 @@ Changes = Mapping[str, Any]
 
 @dataclass(frozen=True)
 class Slip:
-    """The changes that a mistake makes to the ingredients. It has a name and a description, or two
-    of each if one ingredient contains two mistakes. An unpaired mistake is not combined with
-    others. `turn` makes the changes to ingredients that another mistake has already changed, if
-    that is possible.
+    """A caller's mistake: what it changes in the ingredients of an HMAC. `told` is the mistake's
+    name and description, or two such pairs if one ingredient contains two mistakes. A mistake that
+    is not paired is never combined with others. `turn`, if set, computes the changes when another
+    mistake has already changed the ingredients.
     """
 
     told: tuple[Told, ...] = ()

@@ -22,7 +22,7 @@ from tpmsim.standard import trimmed
 MOST_ALONE, MOST_PAIRS = 10_000, 100_000
 
 # The number of old nonces that are tried together with another mistake, and the number of nonces of
-# a session that are tried at all, in addition to its first one.
+# a session that are tried at all, in addition to the session's first nonce.
 PAIRED, MOST_NONCES = 3, 100
 
 # The least size of a truncated HMAC. A shorter one would equal the beginning of too many HMACs.
@@ -94,7 +94,9 @@ class Search:
         return []
 
     def part_words(self, made: bytes) -> str:
-        """Returns how the sent HMAC or `made` is a part of the other one; empty if neither is."""
+        """Returns, as text, how the sent HMAC is a part of `made`, or begins with it; empty if it
+        does neither.
+        """
         given, algorithm = self.given, self.use.session.algorithm
         has = f"{size_words(len(given))}, and one by {HASH_WORDS[algorithm]} has "
         has += str(digest_bytes(algorithm))

@@ -1,1 +1,1 @@
-"""A second implementation of the device, in plain Python, which shares no code with the program."""
+"""A second implementation of the device, in plain Python, which shares no code with `tpmsim`."""

@@ -71,8 +71,8 @@ Place = Callable[[Object], int | None]
 
 @dataclass(frozen=True)
 class Completed:
-    """The outcome of a command, the outcome of the device itself, and what the layer did, if
-    anything.
+    """The final outcome of a command, the outcome that the device alone gave, and what the layer
+    did, if anything.
     """
 
     outcome: Outcome
@@ -128,9 +128,9 @@ def names_session(context: bytes) -> bool:
 
 
 class Completion:
-    """What the layer remembers about a device: the number of the layer's start, by which it
-    recognizes its own contexts; the sequence of the last context; and for each saved session the
-    sequence of its context.
+    """What the layer remembers about a device: a number that is new at each start of the layer, by
+    which the layer recognizes its own contexts; the sequence of the last context; and for each
+    saved session the sequence of its context.
     """
 
     def __init__(self, start: int = 0) -> None:
@@ -232,7 +232,7 @@ class Completion:
 
     @staticmethod
     def unserved(wanted: int) -> list[tuple[int, bytes]] | None:
-        """Returns the elements of a list that the device refused."""
+        """Returns the elements of a list that the device refused to return."""
         if wanted == OF_ALGORITHMS:
             return [(it, number(it, 2) + number(told, 4)) for it, told in ALGORITHMS.items()]
         if wanted == OF_PCR_PROPERTIES:

@@ -50,7 +50,8 @@ FAULTS = TRUNCATED, SAVED_HANDLE, HIERARCHY, SIZE, INTEGRITY
 
 @dataclass(frozen=True)
 class Binding:
-    """The values to which a context is bound: the start of the layer, resetCount and restartCount.
+    """The values to which a context is bound: the number of the completing layer's start,
+    resetCount and restartCount.
     """
 
     start: int
@@ -84,8 +85,9 @@ class Head:
 
 
 def key_and_iv(proof: bytes, start: int, head: Head) -> tuple[bytes, bytes]:
-    """Returns the key and the IV with which the object is encrypted. Part 1 does not require the
-    start; with it, contexts of different starts have different keys.
+    """Returns the key and the IV with which the object is encrypted. They also depend on `start`,
+    although Part 1 does not require this, so that the contexts of each start of the completing
+    layer have different keys.
     """
     newer, older = number(head.sequence, 8), number(head.saved_handle, 4) + number(start, 8)
     made = kdfa(SHA256, proof, b"CONTEXT", newer, older, 2 * aes.BLOCK)

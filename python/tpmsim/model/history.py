@@ -2,8 +2,8 @@
 the values of its PCRs, its counters, its authorization values, and the start, key, nonce and policy
 of each session.
 
-Each of these is a fold over the accepted events, starting with the earliest. It uses only what the
-events show of the device. The rules are those of docs/THEOREMS.md.
+Each of these is a fold over the accepted events, starting with the earliest. The fold uses only
+what the events show of the device. The rules are those of docs/THEOREMS.md.
 """
 
 from __future__ import annotations

@@ -35,8 +35,8 @@ class Fault(TpmsimError):
 
 @dataclass(frozen=True)
 class Version:
-    """The limits on NV indices and on the size of their data, and whether the image contains
-    them.
+    """A version of the image format: the limits on NV indices and on the size of their data, and
+    whether these limits are stored in the image.
     """
 
     number: int
@@ -178,8 +178,8 @@ def open_image(text: bytes, block_cipher: aes.BlockCipher = encrypt_block) -> Mo
 
 
 def goes_on(device: Model, text: bytes) -> bool:
-    """Whether an image is of this device. Its clock may be later; the device then continues from
-    that clock.
+    """Whether an image is of this device. The image's clock may be later than the device's; the
+    device then continues from the image's clock.
     """
     found, clock = open_image(text), device.clock
     device.clock = found.clock

@@ -44,8 +44,8 @@ HANDLE_KINDS = {
 }
 PLACE_BITS = 0xFF_FFFF
 
-# The response MEMORY to a command for which allocation fails, and the name of that check in a
-# trace.
+# The response MEMORY, which means that allocation failed for the command, and the name of this
+# refusal in a trace.
 STARVED, MEMORY_CHECK = frames.refusal(0x904), "M"
 
 

@@ -28,9 +28,9 @@ T = TypeVar("T")
 
 MAGIC, VERSION = b"TPMS", 2
 
-# In version 1, the layer has two numbers for each object: one of its context, and one of its flush.
-# When such a text is read, an object that was flushed, and whose context could still be loaded, is
-# left out.
+# In version 1, the layer has two numbers for each object: the number of its context, and the number
+# of its flush. When a text of version 1 is read, an object is left out if it was flushed, but its
+# context could still be loaded.
 VERSION_1 = 1
 VERSIONS = VERSION_1, VERSION
 
@@ -44,8 +44,9 @@ LOCKOUT_TIMES = range(MILLISECONDS * 2**32)
 
 @dataclass
 class Layer:
-    """What the completing layer remembers: the number of its start, the sequence of its last
-    context, and for each saved session the sequence of its context, otherwise 0.
+    """What the completing layer remembers: a number that is new at each start of the layer; the
+    sequence of its last context; and for each session slot the sequence of the saved session's
+    context, or 0 if no session is saved there.
     """
 
     start: int = 0

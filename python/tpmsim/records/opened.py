@@ -36,8 +36,8 @@ def opened(text: bytes, start: int = 0) -> Opened:
 
 
 def goes_on(device: Model, text: bytes) -> bool:
-    """Whether a text is of this device. Its clock may be later; the device then continues from that
-    clock.
+    """Whether a text is of this device. The text's clock may be later than the device's; the device
+    then continues from the text's clock.
     """
     if not is_state_text(text):
         return image.goes_on(device, text)

@@ -231,7 +231,7 @@ class Reading:
 
 
 def answers_come_first(lines: list[bytes]) -> bool:
-    """Whether responses come before their commands, as `tpmsim script` prints them. This is so if a
+    """Whether responses come before their commands, as `tpmsim script` prints them: whether a
     response comes before the first command.
     """
     for line in lines:

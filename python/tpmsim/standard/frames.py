@@ -333,8 +333,8 @@ def spelled_code(code: int) -> tuple[str, str]:
 
 @functools.cache
 def code_of(name: str) -> int:
-    """Returns the number of a response code such as HASH/p1: the number of HASH plus that of the
-    place.
+    """Returns the number of a response code such as HASH/p1: the number of HASH plus the number of
+    the place p1.
     """
     code, slash, place = name.partition("/")
     added = PLACES[place[0]] + 0x100 * int(place[1:]) if slash else 0

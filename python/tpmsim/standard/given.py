@@ -96,7 +96,7 @@ def write_in_order(code: CC, *values: Any) -> bytes:
 
 def write_all(code: CC, values: dict[str, Any]) -> bytes:
     """Returns the encoding of parameters, by their names in Part 3; raises TypeError for a missing
-    or unknown one.
+    or unknown parameter.
     """
     names = [it.name for it in code.parameters]
     if set(values) != set(names):

@@ -153,7 +153,9 @@ class Words:
         return self.values.write(self.parsed(token))
 
     def word(self, fields: Fields) -> str:
-        """Returns the token for the next value of the fields; raises NoWords if there is none."""
+        """Returns the token for the next value of the fields; raises NoWords if no token encodes
+        that value.
+        """
         try:
             return self.shown(self.values.read(fields))
         except KeyError:
@@ -343,7 +345,7 @@ def assemble(line: bytes) -> bytes:
 
 
 def line_of(buffer: bytes) -> str | None:
-    """Returns the line that encodes a buffer, or None if there is none."""
+    """Returns the line that encodes a buffer, or None if no line does."""
     try:
         line = " ".join(words_of(Fields(buffer)))
         return line if assemble(line.encode("ascii")) == buffer else None
@@ -367,8 +369,9 @@ def words_of(fields: Fields) -> list[str]:
 
 
 def traced(outcome: Outcome, locality: int, elapsed: int) -> str:
-    """Returns the trace of a command's event: the name, the locality, the elapsed milliseconds, the
-    check and the response code. If a command is refused before its code is known, the name is `?`.
+    """Returns the trace of a command: its name, the locality, the elapsed milliseconds, the check
+    that decided the response, and the response code. If a command is refused before its code is
+    known, the name is `?`.
     """
     code = NUMBERED.get(outcome.row.code)
     name = code.name if code else "?"

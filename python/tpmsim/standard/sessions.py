@@ -59,8 +59,8 @@ def kdfa(algorithm: int, key: bytes, label: bytes, newer: bytes, older: bytes, s
 
 
 def session_key(algorithm: int, auth_value: bytes, nonce_tpm: bytes, nonce_caller: bytes) -> bytes:
-    """Returns a bound session's key, made from its entity's authorization value at the start
-    (19.6.8).
+    """Returns a bound session's key, made from the authorization value that the bind entity had
+    when the session was started (19.6.8).
     """
     size = digest_bytes(algorithm)
     return kdfa(algorithm, auth_value, b"ATH", nonce_tpm, nonce_caller, size)

@@ -157,7 +157,7 @@ def read_time(fields: Fields) -> Time:
 
 
 def answered_alone(value: Any) -> bytes:
-    """Raises TypeError, since only responses, and no commands, have a parameter of this kind."""
+    """Raises TypeError: a parameter of this kind occurs only in responses, never in commands."""
     raise TypeError("it is answered alone")
 
 
