@@ -1,8 +1,8 @@
 #!/bin/sh
-# Prints the shares of the instructions of `tpmsim run` that the device and the script's text (reading lines,
-# decoding hex, printing) take for each command. The script consists of GetRandom lines. It runs a short and a
-# long script under callgrind and subtracts the counts, so that the start and the end of the program are not
-# counted. Needs valgrind, and rt if tpmsim is not built yet. Not part of the gate.
+# Prints how many instructions of `tpmsim run` each command takes, and which shares of them are for the device
+# and for the script's text: reading lines, decoding hex, printing. The commands are GetRandom lines. Runs a
+# short and a long script under callgrind and subtracts the counts, so that the start and the end of the program
+# are not counted. Needs valgrind, and rt if tpmsim is not built yet. Not part of the gate.
 #
 # The device's instructions are those of `Machine::execute_into` and of everything that it calls. The rest is
 # for the text.

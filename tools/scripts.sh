@@ -156,7 +156,7 @@ for name do
 done
 
 # make_scripts TEST..: generates the scripts among these tests that are not stored. If these tests include all
-# such scripts, the tests that play all scripts do not generate them again.
+# generated scripts, the tests that play all scripts do not generate them again.
 make_scripts() {
     for test do
         shift

@@ -1,7 +1,8 @@
 #!/usr/bin/env python3
-"""Tries the wrong bodies (mutants) under wrong/: each of them changes the meaning of one function
-or definition, and the prover must refuse it. The gate tries only those in the crates' must-fail/.
-All others are tried before a piece of work is declared done (docs/gate.json names its commit).
+"""Tries the wrong bodies (mutants) under wrong/. Each wrong body changes the meaning of one function
+or definition, and the prover must refuse it. The gate tries only the wrong bodies in the must-fail/
+folders of crates. Those under wrong/ are tried before a piece of work is declared done;
+docs/gate.json names the commit at which they were last tried.
 
     tools/soak/wrong_bodies.py                       all of them
     tools/soak/wrong_bodies.py tpm_pcr               those of one crate, or of several
