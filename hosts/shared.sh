@@ -1,8 +1,8 @@
 #!/bin/sh
-# Builds dist/libtpmsim-kept.so.0, which keeps devices in folders for programs in any language. Updates
-# its entries in dist/PROVED: the checksums of its sources and of itself, and the compiler. The object is
-# written in C and tested, not proved. It exports only the names tpmsim_kept_*. If the process has not loaded a
-# libtpmsim.so.0, it loads the one next to itself.
+# Builds dist/libtpmsim-kept.so.0, which keeps devices in folders for programs in any language. Updates its
+# entries in dist/PROVED: the checksums of its sources and of itself, and the compiler. The object is written in
+# C and tested, not proved. It exports only the names tpmsim_kept_*. If the process has not loaded a
+# libtpmsim.so.0, the object loads the one next to itself.
 #
 #   hosts/shared.sh           builds it
 #   hosts/shared.sh --check   builds it again, and compares it with dist/libtpmsim-kept.so.0: the bytes, if

@@ -11,7 +11,7 @@ pub enum Fault {
     Short,
     /// The bytes do not begin like an image or a state text.
     Magic,
-    /// The version in the header is unknown.
+    /// The version is unknown.
     Version,
     /// The length field is not equal to the number of bytes.
     Length,

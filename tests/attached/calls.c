@@ -1,6 +1,6 @@
-/* Tests faults of the system calls with which a device in a folder accesses its files, the clock and
- * random bytes. Each call in turn fails, transfers only half of its bytes, or is interrupted. Each
- * allocation in turn fails. The arguments are the file with the expected PCR values, and an
+/* Tests faults of the system calls with which a device in a folder accesses its files, the clock
+ * and random bytes. Each call in turn fails, transfers only half of its bytes, or is interrupted.
+ * Each allocation in turn fails. The arguments are the file with the expected PCR values, and an
  * image. */
 #include "calls.h"
 #include <dirent.h>
