@@ -6,7 +6,7 @@ docs/gate.json names the commit at which they were last tried.
 
     tools/soak/wrong_bodies.py                       all wrong bodies under wrong/
     tools/soak/wrong_bodies.py tpm_pcr               the wrong bodies of one crate, or of several
-    tools/soak/wrong_bodies.py --apply [CRATE..]     checks only whether each can be applied; needs no rt
+    tools/soak/wrong_bodies.py --apply [CRATE..]     only checks whether each applies; needs no rt
 
 The crates need the libraries that `rt ci` built here. If a source is newer, `rt ci` first proves them
 in a copy without wrong bodies. Then the wrong bodies of each crate are tried, for as many crates at a
