@@ -17,9 +17,9 @@ trap 'rm -rf "$folder"' EXIT
 # uses one repeated instruction, which callgrind counts once for each byte.
 limits=glibc.cpu.x86_rep_stosb_threshold=1000000:glibc.cpu.x86_rep_movsb_threshold=1000000
 
-# counts LINES: runs a script of LINES lines, and prints three instruction counts: the total; that of
-# `Machine::execute_into` with everything that it calls; and the part of the latter that clears and copies
-# memory.
+# counts LINES: runs a script of LINES lines, and prints three instruction counts: the total; that of the
+# device, which is `Machine::execute_into` with everything that it calls; and that of the device's clearing and
+# copying of memory.
 counts() {
     "$top/bench/script.sh" "$1" >"$folder/script"
     GLIBC_TUNABLES=$limits valgrind --tool=callgrind --callgrind-out-file="$folder/calls" \

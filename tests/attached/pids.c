@@ -20,8 +20,8 @@ static const uint8_t GET_MORE[] = {0x80, 0x01, 0, 0, 0, 12, 0, 0, 0x01, 0x7b, 0,
 /* Whether the kernel wipes a page at a fork, as far as the device knows. */
 static bool wipes;
 
-/* The pipes with which a parent and its child wait for each other. Also whether the parent waits
- * for the child before its next record. */
+/* The pipes with which a parent and its child wait for each other, and whether the parent waits for
+ * the child before its next record. */
 static int go[2], told[2];
 static bool is_to_wait;
 
