@@ -12,8 +12,8 @@ static const char STARTUP[] = "80010000000c000001440000";
 static const char DEFINE[] = "80020000002d0000012a40000001000000094000000900000000000000"
                              "000e01500020000b0006000600000040";
 
-/* The commands: the name; the first bytes, in hex; the size of a filling that follows, whose first
- * byte differs each time; and the last bytes, in hex. */
+/* The commands. Each has a name, its first bytes in hex, the size of the filling after these bytes,
+ * and its last bytes in hex. The first byte of the filling differs each time. */
 static const struct {
     const char *name, *front;
     size_t filling;

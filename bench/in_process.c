@@ -12,8 +12,8 @@
  *     sizes                           prints the bytes of an image, of a state text, and of the
  *                                     volatile state of libtpms
  *
- * DEVICE is `tpms`, the device of libtpms; `sim`, the device of libtpmsim, which gets new random
- * bytes for those that a command drew; or `still`, the same device with constant random bytes. The
+ * DEVICE is `tpms`, the device of libtpms; `sim`, the device of libtpmsim, whose random bytes are
+ * replaced after a command drew them; or `still`, the same device with constant random bytes. The
  * lines from `time` to `volatile` print the elapsed nanoseconds. If a command is refused, the
  * program ends. */
 #define _GNU_SOURCE

@@ -1,8 +1,8 @@
 #!/bin/sh
-# Prints the shares of the instructions of `tpmsim run` that the device and the script's text (reading lines,
-# decoding hex, printing) take for each command. The script consists of GetRandom lines. It runs a short and a
-# long script under callgrind and subtracts the counts, so that the start and the end of the program are not
-# counted. Needs valgrind, and rt if tpmsim is not built yet. Not part of the gate.
+# Prints how many instructions of `tpmsim run` each command takes, and which shares of them are for the device
+# and for the script's text: reading lines, decoding hex, printing. The commands are GetRandom lines. Runs a
+# short and a long script under callgrind and subtracts the counts, so that the start and the end of the program
+# are not counted. Needs valgrind, and rt if tpmsim is not built yet. Not part of the gate.
 #
 # The device's instructions are those of `Machine::execute_into` and of everything that it calls. The rest is
 # for the text.
@@ -17,9 +17,9 @@ trap 'rm -rf "$folder"' EXIT
 # uses one repeated instruction, which callgrind counts once for each byte.
 limits=glibc.cpu.x86_rep_stosb_threshold=1000000:glibc.cpu.x86_rep_movsb_threshold=1000000
 
-# counts LINES: runs a script of LINES lines, and prints three instruction counts: the total; that of
-# `Machine::execute_into` with everything that it calls; and the part of the latter that clears and copies
-# memory.
+# counts LINES: runs a script of LINES lines, and prints three instruction counts: the total; that of the
+# device, which is `Machine::execute_into` with everything that it calls; and that of the device's clearing and
+# copying of memory.
 counts() {
     "$top/bench/script.sh" "$1" >"$folder/script"
     GLIBC_TUNABLES=$limits valgrind --tool=callgrind --callgrind-out-file="$folder/calls" \

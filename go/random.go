@@ -6,8 +6,8 @@ import (
 	"strconv"
 )
 
-// source provides random bytes, from a seed or from the system. The next command gets those system
-// bytes again that no command has drawn.
+// source provides random bytes, from a seed or from the system. System bytes that a command did not
+// draw are passed to the next command again.
 type source struct {
 	seeded bool
 	seed   []byte

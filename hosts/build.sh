@@ -3,13 +3,13 @@
 # the same sources always result in the same bytes.
 #
 #   hosts/build.sh tcti FOLDER        libtss2-tcti-tpmsim.so.0, the module for libtss2, and tpmsim-power
-#   hosts/build.sh libtpms FOLDER     libtpms.so.0, with which swtpm is a tpmsim; tpmsim-swtpm, which starts
-#                                     it so; for libvirt's path, swtpm and swtpm_setup
+#   hosts/build.sh libtpms FOLDER     libtpms.so.0, with which swtpm uses a tpmsim; tpmsim-swtpm, which
+#                                     starts swtpm with that library; swtpm and swtpm_setup, for libvirt's path
 #   hosts/build.sh simulator FOLDER   tpmsim-simulator
 #
 # The archive is the one in dist/ for this machine, or the one that TPMSIM_ARCHIVE names, with tpmsim.h next to
-# it. CC, NM and STRIP name the tools, for example those for another machine. CFLAGS are further arguments for
-# CC; if it is set, nothing is stripped. Needs a C compiler and Debian's binutils; tcti needs the headers of
+# it. CC, NM and STRIP name the tools, for example those for another machine. CFLAGS contains further arguments
+# for CC; if it is set, nothing is stripped. Needs a C compiler and Debian's binutils; tcti needs the headers of
 # libtss2-dev, and libtpms those of libtpms-dev.
 set -u
 LC_ALL=C

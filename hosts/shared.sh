@@ -1,15 +1,16 @@
 #!/bin/sh
-# Builds dist/libtpmsim-kept.so.0, which keeps devices in folders for programs in any language. Writes its lines
-# in dist/PROVED: the checksums of its sources and of itself, and the compiler. The object is written in C and
-# tested, not proved. It exports only the names tpmsim_kept_*, and loads the libtpmsim.so.0 next to itself if
-# the process has not loaded another one.
+# Builds dist/libtpmsim-kept.so.0, which keeps devices in folders for programs in any language. Updates its
+# entries in dist/PROVED: the checksums of its sources and of itself, and the compiler. The object is written in
+# C and tested, not proved. It exports only the names tpmsim_kept_*. If the process has not loaded a
+# libtpmsim.so.0, the object loads the one next to itself.
 #
 #   hosts/shared.sh           builds it
 #   hosts/shared.sh --check   builds it again, and compares it with dist/libtpmsim-kept.so.0: the bytes, if
 #                             the compiler is the one that PROVED names, and otherwise only the checksums
 #   hosts/shared.sh --target aarch64 [--check]   the same for dist/aarch64
 #
-# Needs gcc and Debian's binutils, or gcc-aarch64-linux-gnu. CC is the compiler, else gcc.
+# Needs gcc and Debian's binutils, or gcc-aarch64-linux-gnu. Set CC to choose the compiler; the default is
+# gcc, or aarch64-linux-gnu-gcc for ARM64.
 set -u
 LC_ALL=C
 export LC_ALL

@@ -26,7 +26,7 @@ fail() {
 }
 
 # compile_here CRATE FILE: compiles a crate for ARM64, and prints the prover's verdict. Each crate has a
-# separate log, because both are compiled at the same time.
+# separate log, because two crates are compiled at the same time.
 compile_here() {
     log=$log.$1
     compile "$top" "$1" "$work/$2" --target "$target" --cpu generic >"$log" 2>&1 &&

@@ -30,7 +30,7 @@ export PYTHONPYCACHEPREFIX="$work/compiled"
 cd "$work" || exit 1
 
 failed=0
-# The first line of such a program names the files that it writes. These files are removed first.
+# The first line of a program that writes stored files names these files. They are removed before it runs.
 grep -lE '^"""Writes [a-z_0-9]+[.](tpm|out)' tests/*/*.py examples/*.py >programs
 while read -r program; do
     rm -f "${program%.py}.tpm" "${program%.py}.out"

@@ -55,7 +55,7 @@ faults_of_library() {
     done
 }
 
-# Prints the faults of dist/aarch64, if it exists. The files there are not built again either. Their checksums
+# Prints the faults of dist/aarch64, if it exists. The files there are not built again. Their checksums
 # must be those in dist/aarch64/PROVED, and they must have been built from the current sources.
 faults_of_aarch64() (
     ship aarch64

@@ -4,7 +4,7 @@
 # with the responses and traces of the Python model. The script tests both programs that `rt ci` builds, and
 # also the program in dist/ if its bytes differ. Then tpmsim_lists, which stores the device's state in lists and
 # not in arrays of fixed size, plays the scripts that must succeed, and must print the same bytes. The last
-# tests are the shell tests of that program, of the library in dist/, and of the hosts that use the library. If
+# tests are the shell tests of tpmsim_lists, of the library in dist/, and of the hosts that use the library. If
 # nothing was built here, only the files in dist/ are tested, which needs no `rt`.
 #
 #   tools/scripts.sh                   all tests
@@ -156,7 +156,7 @@ for name do
 done
 
 # make_scripts TEST..: generates the scripts among these tests that are not stored. If these tests include all
-# such scripts, the tests that play all scripts do not generate them again.
+# generated scripts, the tests that play all scripts do not generate them again.
 make_scripts() {
     for test do
         shift

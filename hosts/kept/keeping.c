@@ -53,8 +53,8 @@ static void note_cut(struct keeping *keeping, const tpmsim_ask *ask) {
     refuse(&keeping->notice, keeping->folder.path, JOURNAL_NAME ":", said, 0);
 }
 
-/* ---- the tasks. A task that fails sets the reason, or the reason is made later from the keeper's
-   fault and errno. */
+/* ---- the tasks. A task that fails sets the reason. If it does not, the reason is made later from
+   the keeper's fault and errno. */
 
 static uint8_t look(struct keeping *keeping, struct reason *reason) {
     const struct folder *folder = &keeping->folder;
@@ -74,7 +74,7 @@ static uint8_t look(struct keeping *keeping, struct reason *reason) {
     return TPMSIM_GOT_DONE;
 }
 
-/* Reads the whole journal from an offset on. */
+/* Reads the journal from an offset to its end. */
 static bool read_from(struct keeping *keeping, uint64_t at, struct reason *reason) {
     size_t size = (size_t)(keeping->size - at);
     if (!reserve(keeping, size, reason)) return false;

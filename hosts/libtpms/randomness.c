@@ -20,8 +20,8 @@ const uint8_t *random_bytes(void) {
             report("the system gives no random bytes: %s", strerror(errno));
             return NULL;
         }
-        /* getrandom fills the buffer from the beginning. If it returns fewer bytes, those at the
-         * end are still stale. */
+        /* getrandom fills the buffer from the beginning. If it returns fewer bytes, the bytes
+         * at the end are still stale. */
         if ((size_t)given == stale) stale = 0;
     }
     return bytes;

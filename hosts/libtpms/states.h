@@ -1,4 +1,5 @@
-/* The states of a device: those that swtpm sets before power-on, or else those that it stores. */
+/* The states of a device. A state that swtpm set before power-on is used instead of the stored
+ * one. */
 #ifndef STATES_H
 #define STATES_H
 

@@ -13,8 +13,8 @@ struct board {
     struct digests launched;
 };
 
-/* Each function returns false with the reason if the device cannot continue. The simulator then
- * ends. */
+/* Each of the following functions returns false with the reason if the device cannot continue. The
+ * simulator then ends. */
 
 /* Executes a command. The response is empty if the power is off, and LOCALITY for a locality above
  * 4. */

@@ -16,8 +16,8 @@ struct listeners {
 bool listeners_open(struct listeners *listeners, const struct options *options,
                     struct reason *reason);
 
-/* Writes the address and the port of commands to standard output, one line for each device. Returns
-   false with the reason. */
+/* Writes each device's address and command port to standard output, one line per device. On
+   failure, returns false and sets the reason. */
 bool listeners_tell(const struct listeners *listeners, struct reason *reason);
 
 void listeners_close(struct listeners *listeners);

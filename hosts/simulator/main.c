@@ -29,7 +29,8 @@ static bool close_devices(struct board *boards, unsigned count, struct reason *r
     return is_done;
 }
 
-/* Serves clients until the simulator ends. Then ends the devices before the clients see the end. */
+/* Serves clients until the simulator ends. Then ends the devices, and finally closes all
+ * connections. */
 static bool serve(struct board *boards, const struct options *options,
                   const struct listeners *listeners, struct reason *reason) {
     struct server *server = server_of(listeners, boards, reason);

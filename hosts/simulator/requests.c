@@ -51,8 +51,8 @@ static enum outcome done(struct answer *answer) {
     return GOES_ON;
 }
 
-/* Returns the end of a request with a size field at this offset. If the request is too long, only
-   the header of its command is read, or none of its data in HASH_DATA. */
+/* Returns the end of a request with a size field at this offset. If the field's value is too large,
+   only the first `most_head` bytes after the field are read: the command's header, or nothing. */
 static size_t sized_end(const uint8_t *bytes, size_t size, size_t size_at, size_t most_head) {
     size_t start = size_at + NUMBER;
     if (size < start) return start;

@@ -30,7 +30,8 @@ static void forget(struct loaded *loaded, uint32_t handle) {
     loaded->count = left;
 }
 
-/* Adds a handle to the list, where a handle that is used again must be only once. */
+/* Adds a handle to the end of the list. If the list contained the handle already, the old entry is
+ * removed. */
 static void remember(struct loaded *loaded, uint32_t handle) {
     forget(loaded, handle);
     if (loaded->count < LOADED_MOST) loaded->handles[loaded->count++] = handle;

@@ -25,9 +25,9 @@ void loaded_begin(struct loaded *loaded);
 void loaded_follow(struct loaded *loaded, const uint8_t *command, size_t size,
                    const uint8_t *response, size_t response_size);
 
-/* Flushes the remaining objects and sessions, the latest first. If the device refuses to flush one
- * of them, that one no longer exists. Returns false with the reason if a command was not answered;
- * the rest then stays loaded. */
+/* Flushes the remaining objects and sessions, the latest first. An object or session that the
+ * device refuses to flush no longer exists. Returns false with the reason if a command was not
+ * answered; the objects and sessions that are left then stay loaded. */
 bool loaded_flush(struct loaded *loaded, struct kept *kept, uint8_t locality,
                   struct reason *reason);
 

@@ -120,7 +120,7 @@ static TSS2_RC set_locality(TSS2_TCTI_CONTEXT *handed, uint8_t locality) {
     return TSS2_RC_SUCCESS;
 }
 
-/* There is no resource manager in between, so the handles are the device's own. */
+/* There is no resource manager above the device, so the handles are the device's own. */
 static TSS2_RC make_sticky(TSS2_TCTI_CONTEXT *handed, TPM2_HANDLE *handle, uint8_t sticky) {
     (void)sticky;
     if (!context_of(handed)) return TSS2_TCTI_RC_BAD_CONTEXT;

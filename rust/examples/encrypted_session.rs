@@ -12,8 +12,8 @@ use tpmsim::{Device, Refusal};
 const SECRET: &[u8] = b"a secret of 24 bytes, ok";
 const OWNERS_VALUE: &[u8] = b"the owner's value";
 
-/// The attributes of an NV index that the owner writes and reads, and the one that the device adds
-/// when it is written.
+/// The attributes of an NV index that the owner writes and reads, and the attribute that the device
+/// adds when the index is written.
 const BY_OWNER: u32 = 0x0002_0002;
 const WRITTEN: u32 = 0x2000_0000;
 

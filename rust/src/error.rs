@@ -9,11 +9,11 @@ use std::io;
 pub enum Fault {
     /// There are fewer than 42 bytes.
     Short,
-    /// They do not begin like an image or a state text.
+    /// The bytes do not begin like an image or a state text.
     Magic,
-    /// Their version is unknown.
+    /// The version is unknown.
     Version,
-    /// Their length field is not the number of bytes.
+    /// The length field is not equal to the number of bytes.
     Length,
     /// The last 32 bytes are not the SHA-256 of the bytes before them.
     Digest,

@@ -6,7 +6,7 @@ use std::io;
 
 /// The random bytes that a command may draw.
 pub(crate) enum Source {
-    /// Bytes from the system. The next command gets those again that no command has drawn.
+    /// Bytes from the system. Those that a command did not draw are passed to the next command.
     System([u8; RANDOM_BYTES]),
     /// Bytes that are derived from a seed. The fields are the bytes, the seed, and the number of
     /// commands that have received their bytes.

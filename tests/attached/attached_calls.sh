@@ -1,4 +1,4 @@
-# Makes each system call fail in turn that accesses a device kept in a folder. See attached/calls.c.
+# Makes each system call that accesses a device in a folder fail in turn. See attached/calls.c.
 tests=$(cd "$(dirname "$0")/.." && pwd -P)
 . "$tests/common/cases.sh"
 . "$tests/common/library.sh"

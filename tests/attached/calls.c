@@ -1,6 +1,6 @@
-/* Makes each system call fail in turn with which a device in a folder accesses its files, the clock
- * and random bytes. Also makes each call transfer only half of its bytes, interrupts each call, and
- * makes each allocation fail. The arguments are the file with the expected PCR values, and an
+/* Tests faults of the system calls with which a device in a folder accesses its files, the clock
+ * and random bytes. Each call in turn fails, transfers only half of its bytes, or is interrupted.
+ * Each allocation in turn fails. The arguments are the file with the expected PCR values, and an
  * image. */
 #include "calls.h"
 #include <dirent.h>

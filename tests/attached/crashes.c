@@ -9,8 +9,8 @@
 #include <sys/prctl.h>
 #include <sys/wait.h>
 
-/* The numbers of commands since the last power-on that were answered, and of those that were sent
- * and not answered. The processes that use the device store them here. */
+/* Counts of the commands since the last power-on: those that were answered, and those that were
+ * sent but not answered. The processes that use the device update these counts. */
 static struct {
     atomic_long extends, asked;
     atomic_bool is_started, is_starting, is_cycling;

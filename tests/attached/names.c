@@ -12,7 +12,7 @@ static const char FOLDER[] = "state";
 /* The call after which this process is killed, if any. */
 static enum { NOWHERE, BEHIND_MKDIR, BEHIND_RENAME } killed_at;
 
-/* The numbers of syncs of the folder, its parent folder, other files and whole file systems. Also
+/* The numbers of syncs of the folder, its parent folder, other files and whole file systems; and
    whether the parent folder can be synced. */
 static unsigned folders, above, others, systems;
 static bool above_is_forced = true;

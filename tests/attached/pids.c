@@ -17,11 +17,11 @@ static const char FOLDER[] = "state";
 /* TPM2_GetRandom of RANDOM_BYTES bytes, more than GET_RANDOM draws. */
 static const uint8_t GET_MORE[] = {0x80, 0x01, 0, 0, 0, 12, 0, 0, 0x01, 0x7b, 0, RANDOM_BYTES};
 
-/* Whether the kernel wipes a page at a fork, as far as the device knows. */
+/* Whether the kernel appears to the device to wipe a page at a fork. */
 static bool wipes;
 
-/* The pipes with which a parent and its child wait for each other. Also whether the parent waits
- * for the child before its next record. */
+/* The pipes with which a parent and its child wait for each other, and whether the parent waits for
+ * the child before its next record. */
 static int go[2], told[2];
 static bool is_to_wait;
 

@@ -173,7 +173,8 @@ static void save(void) {
     show("after contexts that were loaded and not used");
 }
 
-/* Forks a child that finalizes the context. It flushes only the objects that it loaded itself. */
+/* Forks a child that finalizes the context. The child flushes only the objects that it loaded
+ * itself. */
 static void forked(bool loads) {
     TSS2_TCTI_CONTEXT *context = begun(RM);
     object(context);

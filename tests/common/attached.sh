@@ -13,7 +13,7 @@ in_c() {
 }
 
 # parts WORDS..: prints the folder with the compiled parts of the host in C, and compiles them first if
-# necessary. Passes those of the arguments that begin with -f or -g to the compiler. If tools/scripts.sh sets
+# necessary. Passes the arguments that begin with -f or -g to the compiler. If tools/scripts.sh sets
 # TPMSIM_BUILT to a folder, the parts are compiled once for all its tests.
 parts() {
     how=$(printf '%s\n' "$@" | grep '^-[fg]')

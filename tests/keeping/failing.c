@@ -62,7 +62,8 @@ static int is_object(struct dl_phdr_info *info, size_t size, void *unused) {
 void failing_goes_on(int goes_on);
 void failing_goes_on(int goes_on) { is_on = goes_on; }
 
-/* Sets whether the clock jumps. For callers in the same process. */
+/* Sets whether the clock jumps. Only a program with a host in the same process calls this
+ * function. */
 void failing_jumps(int does_jump);
 void failing_jumps(int does_jump) { jumps = does_jump; }
 

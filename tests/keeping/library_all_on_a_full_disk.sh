@@ -1,5 +1,5 @@
-# Like library_all_at_once.sh, but on a disk that is sometimes full. The disk is mounted only for this test, by
-# root or by a user who may be root in a namespace.
+# Runs hosts of each kind on one device at the same time, like library_all_at_once.sh, but on a disk that is
+# sometimes full. The disk is mounted only for this test, by root or by a user who may be root in a namespace.
 if [ -z "${own_mounts:-}" ]; then
     for user in '' '--user --map-root-user'; do
         # shellcheck disable=SC2086 # word splitting is intended

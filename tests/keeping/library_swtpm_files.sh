@@ -1,6 +1,6 @@
-# Runs swtpm with this repository's libtpms.so.0, and makes one call on its state files fail, fail after its
-# effect, or do half of its work, or kills swtpm at that call. swtpm_states.py executes every tenth of these
-# runs.
+# Runs swtpm many times with this repository's libtpms.so.0. In each run, one call on the state files fails,
+# takes effect but reports failure, or completes only half; or swtpm is killed at that call. swtpm_states.py
+# executes every tenth of these runs.
 tests=$(cd "$(dirname "$0")/.." && pwd -P)
 . "$tests/common/cases.sh"
 . "$tests/common/library.sh"

@@ -128,14 +128,14 @@ static void load_and_show(const char *name) {
     show(name, command, load_command(command));
 }
 
-/* Continues with the other handle. */
+/* Swaps the two handles, so that the next calls use the other one. */
 static void swap_handles(void) {
     tpmsim before = device;
     device = other;
     other = before;
 }
 
-/* Opens the journal in the other handle, and continues with that handle. */
+/* Opens the journal in the handle `other`, and continues with that handle. */
 static void open_other(void) {
     size_t size_taken;
     uint8_t told = tpmsim_journal_open(&other, text, text_size, &size_taken);

@@ -1,5 +1,5 @@
-/* Tests what a keeper reports about a command, the time of a command, damaged journals, calls
- * without a text argument, and the texts of the keeper's faults. */
+/* Tests a keeper: its report on a command, the time of a command, damaged journals, the calls that
+ * have no text argument, and the texts that describe the keeper's faults. */
 #define _GNU_SOURCE
 #include "../common/same_state.h"
 #include "keeper_known.h"
@@ -240,8 +240,9 @@ static void check_otherwise(void) {
 
 /* ---- calls without a text argument */
 
-/* Makes a command and a power cycle that cut damage off before they continue. If the keeper has a
-   device in memory, the device is opened again. */
+/* Checks that a command and a power cycle first cut off the journal's damage, if the caller has
+   allowed this, and refuse the damaged journal otherwise. To cut the journal, the keeper opens
+   the device again, even if it has the device in memory. */
 static void check_cuts(void) {
     turn(sizes[4]);
     must(tpmsim_keeper_cuts(&alive.keeper, 1) == TPMSIM_DONE, "damage cannot be cut");

@@ -118,8 +118,9 @@ static inline void history_adds(const uint8_t *command, size_t size) {
 }
 
 /* Cuts the file to `cut` bytes, then writes the first `count` bytes of a text of `size` bytes at
- * the offset `at`. After a whole text was written that begins at or before the end of the synced
- * bytes, no dropped bytes are missing. `adds` says whether the text ends with a command's entry. */
+ * the offset `at`. If a whole text was written, and it begins at or before the end of the synced
+ * bytes, then no dropped bytes are missing any more. `adds` says whether the text ends with a
+ * command's entry. */
 static inline void file_puts(file *it, size_t cut, size_t at, const uint8_t *text, size_t count,
                              size_t size, int adds) {
     content *now = &it->now;

@@ -281,8 +281,8 @@ static void goes_on(process *it, const seen *told) {
 
 /* ---- events */
 
-/* Returns the number by which a process holds the lock. A process and its forked child have two
- * numbers. */
+/* Returns the number that identifies a process as the holder of the lock. A process and its forked
+ * child have different numbers. */
 static int holder_of(int number) { return is_child ? PROCESSES + number : number; }
 
 /* Acquires the lock, unless another process holds it. */

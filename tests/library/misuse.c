@@ -37,7 +37,7 @@ static uint8_t image[ROOM], before[ROOM], behind[ROOM];
 /* The size of the device's image, in bytes. */
 static size_t image_size;
 
-/* A state text of that device, and its size in bytes. */
+/* A state text of the device, and its size in bytes. */
 static uint8_t state[ROOM];
 static size_t state_size;
 

@@ -49,7 +49,8 @@ static void have_one_text(struct tpmsim *device, struct tpmsim *other) {
     if (size > largest) largest = size;
 }
 
-/* Restores the moved device into the other handle, which contains an earlier device. */
+/* Restores the moved device from its state text into its other handle, which contains an earlier
+ * device. */
 static void move(struct player *player) {
     size_t size = text_of(moved(player), text);
     struct tpmsim *before = moved(player);

@@ -1,5 +1,5 @@
 # Tests the limits of a script: the number of bytes in a line, the number of lines, and the sum of the waits.
-# Also checks that no response is lost if there are many.
+# Also checks that no response is lost if a script has many commands.
 tests=$(cd "$(dirname "$0")/.." && pwd -P)
 . "$tests/common/cases.sh"
 

@@ -1,6 +1,6 @@
 # Checks the man pages. man must print each of them without a warning. They must describe everything that the
-# program's help, the header and the documents describe. The man page must contain each subcommand that the
-# program's --help lists, also a new one.
+# program's help, the header and the documents describe. The program's page must contain each subcommand that
+# its --help lists, even a new one.
 tests=$(cd "$(dirname "$0")/.." && pwd -P)
 . "$tests/common/cases.sh"
 needs python3 man groff

@@ -1,5 +1,5 @@
 # Checks that all files with a version have the same version. Then changes the version in each file of a copy in
-# turn, which the check must detect.
+# turn. tools/version.sh must report each change.
 tests=$(cd "$(dirname "$0")/.." && pwd -P)
 . "$tests/common/cases.sh"
 top=${tests%/*}

@@ -65,7 +65,7 @@ second 'do '
 second 'do  Startup 0'
 second "do PCR_Event NULL pw:- $(zeros 4096)" 'do PCR_Event with 4096 bytes'
 
-# Faults in words of each kind: handles, entries and parameters. Also an extra word, and a missing word.
+# Faults in words of each kind: in handles, entries and parameters; an extra word; and a missing word.
 second 'do PCR_Reset 10 pw:-'
 second 'do NV_Write OWNER 0100000 pw:- 616263 0'
 second 'do NV_Write 4000000 01000000 pw:- 616263 0'

@@ -1,4 +1,4 @@
-# Runs the unit tests of the package in python/. Those that need a program run the program under test. The
+# Runs the unit tests of the package in python/. Tests that need a program run the program under test. The
 # package's types are not checked here, but by tools/python_types.sh, because that needs mypy.
 tests=$(cd "$(dirname "$0")/.." && pwd -P)
 . "$tests/common/cases.sh"

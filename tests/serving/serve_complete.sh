@@ -29,7 +29,7 @@ serve 'without the layer'
 cp state/journal without
 "$program" power state || echo 'no power cycle'
 serve 'with the layer' --complete
-# Each entry of the journal records whether the layer was on, with --save-each as without it.
+# Each journal entry records whether the completing layer was on, with or without --save-each.
 "$program" power state || echo 'no power cycle'
 serve 'with the layer, and each response forced to the disk' --save-each --complete
 "$program" script state | grep -c '^# completed'

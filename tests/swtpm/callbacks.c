@@ -1,5 +1,5 @@
-/* Looks up the functions of a library by name and version. Also contains callbacks like those that
-   swtpm registers. They store states in files. */
+/* Looks up the functions of a library by name and version, and defines callbacks like those that
+   swtpm registers. The callbacks store states in files. */
 #include "caller.h"
 
 #include <dlfcn.h>

@@ -91,8 +91,8 @@ static void get_state(const char *type, const char *path) {
     free(bytes);
 }
 
-/* Tries to set a state. The library must refuse it, and log that in one line. Counts the states for
- * which it does not. */
+/* Tries to set a state. The library must refuse the state, and log the refusal in one line. Adds to
+ * `wrong` if it does not refuse the state, or does not log one line. */
 static void must_be_refused(const char *type, const unsigned char *bytes, size_t size, size_t *wrong) {
     if (library.set_state(type_of(type), bytes, (uint32_t)size) != TPM_FAIL) ++*wrong;
     if (logged_lines() != 1) ++*wrong;

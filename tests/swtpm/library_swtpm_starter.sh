@@ -1,5 +1,5 @@
-# Tests tpmsim-swtpm, which libvirt also runs as its swtpm, and swtpm_setup. A stand-in for swtpm prints its
-# arguments and environment. hosts/build.sh must produce the same bytes of libtpms each time, and reports which
+# Tests tpmsim-swtpm, which libvirt runs under the name swtpm, and swtpm_setup. A stand-in for swtpm prints its
+# arguments and environment. hosts/build.sh must produce the same bytes of libtpms each time, and report which
 # tools are missing.
 tests=$(cd "$(dirname "$0")/.." && pwd -P)
 . "$tests/common/cases.sh"

@@ -69,14 +69,14 @@ serve() {
     done
 }
 
-# measure WHERE: with tpm2-tools, extends and reads a PCR, and draws random bytes.
+# measure LABEL: uses tpm2-tools to extend and read a PCR, and to draw random bytes.
 measure() {
     check "$1: pcrextend" tool pcrextend "16:sha256=$(printf %064d 1)"
     check "$1: pcrread" reads_pcr
     check "$1: getrandom" draws
 }
 
-# keep WHERE: defines, writes and reads an NV index.
+# keep LABEL: defines, writes and reads an NV index.
 keep() {
     printf 12345678 >data
     check "$1: nvdefine" tool nvdefine -C o -s 8 0x1000001

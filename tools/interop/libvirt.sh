@@ -86,7 +86,7 @@ is_stored() {
     find "$folder/home" -name tpm2-00.permall | grep -q .
 }
 
-# Returns whether TPM2_HierarchyChangeAuth was executed, the firmware's last command before it boots.
+# Succeeds if the firmware's last command before it boots, TPM2_HierarchyChangeAuth, was executed.
 is_used() {
     grep -q '^cmd 8002.\{8\}00000129' "$folder/home/record"/boot-*.tpm
 }

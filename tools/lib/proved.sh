@@ -22,7 +22,7 @@ system=$(uname -sm)
 machine=${TPMSIM_MACHINE:-${system#Linux }}
 ship "$machine"
 
-# uses CRATE: prints the libraries that the line of the crate in crates.txt names.
+# uses CRATE: prints the libraries listed on CRATE's line in crates.txt.
 uses() {
     sed -n -e "s/^$1\( [^:]*\)\{0,1\}://p" crates.txt
 }

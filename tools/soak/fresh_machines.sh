@@ -6,8 +6,9 @@
 #   tools/soak/fresh_machines.sh           each machine of the list below
 #   tools/soak/fresh_machines.sh NAME..    only these machines
 #
-# Needs root, Debian's debootstrap and util-linux, some 5 GB in TMPDIR, and a mirror: MIRROR, or else
-# deb.debian.org. It mounts only in its own namespace, which ends with the script, and removes its folder.
+# Needs root, Debian's debootstrap and util-linux, some 5 GB in TMPDIR, and a mirror: the one that MIRROR
+# names, by default deb.debian.org. It mounts only in its own namespace, which ends with the script, and removes
+# its folder.
 set -u
 top=$(CDPATH='' cd "$(dirname "$0")/../.." && pwd -P) || exit 1
 mirror=${MIRROR:-http://deb.debian.org/debian}

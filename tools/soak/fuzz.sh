@@ -5,7 +5,7 @@
 # in several runs with the same image. Some of the buffers in it are incomplete or have wrong sizes, and some
 # images are altered. A round depends only on its seed.
 #
-#   tools/soak/fuzz.sh 600             rounds for 600 seconds, from a seed on that is taken from the clock and printed
+#   tools/soak/fuzz.sh 600             rounds for 600 seconds; prints the first seed, taken from the clock
 #   tools/soak/fuzz.sh 600 7           the same, with the seeds 7, 8, and so on
 #   tools/soak/fuzz.sh --rounds 60 1   the rounds of the seeds 1 to 60, always the same: about a minute
 #   tools/soak/fuzz.sh --replay FILE   plays a script or a stream that an earlier run kept

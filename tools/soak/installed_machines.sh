@@ -1,8 +1,9 @@
 #!/bin/sh
 # Installs each package in a new Debian system, and uses it there as its documents describe:
 #
-#   deb      apt-get installs it: the loader and man find it, and README's commands, the examples in words, C and
-#            Python, tpm2-tools and a program in C run. apt-get removes everything again.
+#   deb      apt-get installs it: the loader and man find it, and README's commands, the examples in
+#            examples/words, in C and in Python, tpm2-tools and a program in C run. Then apt-get removes
+#            everything again.
 #   wheel    pip installs it in a plain venv without a network, and README's first example in Python runs.
 #   crate    Debian's cargo tests the unpacked crate, and README's example in Rust runs.
 #   module   Debian's go tests the folder go/ of a clone, and README's example in Go runs.
@@ -12,7 +13,7 @@
 #
 # It prints a line for each check, with the output if the check fails. The status is 1 if a check fails. Needs
 # root, what tools/deb.sh and tools/crate.sh need, Debian's debootstrap and util-linux, 3 GB in TMPDIR, and a
-# mirror: MIRROR, or else deb.debian.org. It is not part of the gate.
+# mirror: the one that MIRROR names, by default deb.debian.org. It is not part of the gate.
 set -u
 top=$(CDPATH='' cd "$(dirname "$0")/../.." && pwd -P) || exit 1
 mirror=${MIRROR:-http://deb.debian.org/debian}

@@ -1,11 +1,12 @@
 #!/usr/bin/env python3
-"""Tries the wrong bodies (mutants) under wrong/: each of them changes the meaning of one function
-or definition, and the prover must refuse it. The gate tries only those in the crates' must-fail/.
-All others are tried before a piece of work is declared done (docs/gate.json names its commit).
+"""Tries the wrong bodies (mutants) under wrong/. Each wrong body changes the meaning of one
+function or definition, and the prover must refuse it. The gate tries only the wrong bodies in the
+must-fail/ folders of crates. Those under wrong/ are tried before a piece of work is declared done;
+docs/gate.json names the commit at which they were last tried.
 
-    tools/soak/wrong_bodies.py                       all of them
-    tools/soak/wrong_bodies.py tpm_pcr               those of one crate, or of several
-    tools/soak/wrong_bodies.py --apply [CRATE..]     only whether each can be applied; needs no rt
+    tools/soak/wrong_bodies.py                       all wrong bodies under wrong/
+    tools/soak/wrong_bodies.py tpm_pcr               the wrong bodies of one crate, or of several
+    tools/soak/wrong_bodies.py --apply [CRATE..]     only checks whether each applies; needs no rt
 
 The crates need the libraries that `rt ci` built here. If a source is newer, `rt ci` first proves them
 in a copy without wrong bodies. Then the wrong bodies of each crate are tried, for as many crates at a
@@ -22,7 +23,7 @@ results in the crate's out/.
 It prints a line for each body, and at the end `N of M wrong bodies refused`. The status is 0 if all
 are refused. It is 1 if a body is not refused, or is bad. A body is bad if it cannot be applied,
 compiled or parsed, or is refused only because a proof file names something that the body removed.
-Such a refusal shows nothing about a contract. The program needs `rt`.
+Such a refusal shows nothing about a contract. This tool needs `rt`.
 """
 
 from __future__ import annotations

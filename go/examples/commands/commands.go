@@ -200,7 +200,8 @@ func Read(tpm *tpmsim.TPM, value string) ([]byte, error) {
 // Measure measures data into a PCR, and returns the digest for the SHA-256 bank.
 func Measure(tpm *tpmsim.TPM, pcr uint32, data string) []byte {
 	answer := Must(tpm, 0x13c, []uint32{pcr}, Password(""), Sized([]byte(data)))
-	// This digest follows the number of digests, and the SHA-1 digest with its algorithm.
+	// The SHA-256 digest comes after the number of digests, and after the SHA-1 digest. Each digest
+	// is preceded by its algorithm.
 	return answer.Parameters[4+2+20+2:][:32]
 }
 

@@ -12,8 +12,8 @@ import (
 	"tpmsim"
 )
 
-// Attributes of a session: the device decrypts the first parameter of the command, or encrypts that
-// of the response.
+// Attributes of a session: the device decrypts the first parameter of the command, or encrypts the
+// first parameter of the response.
 const (
 	Decrypt = 0x20
 	Encrypt = 0x40

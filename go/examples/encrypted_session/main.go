@@ -17,13 +17,13 @@ const (
 	secret = "a secret of 24 bytes, ok"
 	owner  = "the owner's value"
 
-	// The attributes of an NV index that the owner writes and reads, and the one that the device adds
-	// when it is written.
+	// The attributes of an NV index that the owner writes and reads, and the attribute that the
+	// device adds when the index is written.
 	byOwner = 0x0002_0002
 	written = 0x2000_0000
 )
 
-// heard contains everything that was sent to and from the TPM, and last the last command.
+// heard contains everything that was sent to and from the TPM, and last contains the last command.
 var heard, last []byte
 
 func wasHeard(what string) string {

@@ -179,7 +179,8 @@ pub fn define(tpm: &mut Device, attributes: u32, value: &[u8]) -> Result<(), Ref
 pub fn measure(tpm: &mut Device, pcr: u8, data: &[u8]) -> Result<Vec<u8>, Refusal> {
     let by = Some(By::Password(b""));
     let digests = send(tpm, 0x13c, &[pcr.into()], by, &sized(data))?.parameters;
-    // This digest follows the number of digests, and the SHA-1 digest with its algorithm.
+    // The SHA-256 digest comes after the number of digests, and after the SHA-1 digest. Each digest
+    // is preceded by its algorithm.
     Ok(digests[4 + 2 + 20 + 2..][..32].to_vec())
 }
 

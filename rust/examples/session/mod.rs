@@ -12,7 +12,7 @@ use tpmsim::{Device, Refusal};
 pub use crypto::sha256;
 
 /// Attributes of a session: the device decrypts the first parameter of the command, or encrypts
-/// that of the response.
+/// the first parameter of the response.
 pub const DECRYPT: u8 = 0x20;
 pub const ENCRYPT: u8 = 0x40;
 
