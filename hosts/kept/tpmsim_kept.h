@@ -101,7 +101,7 @@ uint8_t tpmsim_kept_snapshot(tpmsim_kept_device *kept, uint8_t text[TPMSIM_STATE
 uint8_t tpmsim_kept_restore(tpmsim_kept_device *kept, const uint8_t *text, size_t size,
                             char reason[TPMSIM_KEPT_REASON_SIZE]);
 
-/* Writes a sentence that describes what the last call cut off the journal, with a 0 at its end. The
+/* Writes a zero-terminated sentence that describes what the last call cut off the journal. The
    sentence is empty if the call cut nothing. */
 void tpmsim_kept_notice(const tpmsim_kept_device *kept, char notice[TPMSIM_KEPT_REASON_SIZE]);
 

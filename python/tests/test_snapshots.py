@@ -311,7 +311,7 @@ class OverKeptState(InFolder, Snapshots, unittest.TestCase):
 
 
 class CompletedDevice(LibraryDevice):
-    """A device with the completing layer, which receives its time and random bytes."""
+    """A device with the completing layer. The caller passes the time and the random bytes."""
 
     completes = True
 

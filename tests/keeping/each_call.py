@@ -90,7 +90,8 @@ class Shim:
         return {"LD_PRELOAD": str(self.path), "FAILING": told}
 
     def met(self) -> str:
-        """Returns the name of the call that failed, or an empty text if the host made fewer calls.
+        """Returns the name of the call that failed, or an empty string if the host ended before that
+        call.
         """
         if not self.report.exists():
             return ""

@@ -11,7 +11,7 @@ echo 'do GetRandom 2' >one
 run 'a device' run --state state script
 cp -R state kept
 
-# If the folder has no device, only `run` makes one.
+# If the folder has no device, `tpmsim run` makes one; every other subcommand fails.
 run 'no folder, power' power none
 run 'no folder, script' script none
 mkdir empty

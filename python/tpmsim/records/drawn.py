@@ -1,6 +1,6 @@
-"""The random bytes of a command in a log that does not record them, as far as its response shows
-them: the bytes that the command requested, and the nonces of its sessions. Therefore logs of other
-devices, which contain only commands and responses, can be replayed.
+"""Recovers random bytes that a log does not record from a command's response: the bytes that the
+command requested, and the nonces of its sessions. With these, the logs of other devices, which
+contain only commands and responses, can be replayed.
 """
 
 from tpmsim.model.state import SECRET_BYTES
