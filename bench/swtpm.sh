@@ -7,8 +7,8 @@
 # All processes run on one processor. If the machine does other work, `chrt -f 10 bench/swtpm.sh` gives it
 # priority.
 #
-# $ATTACHED is the folder of `hosts/build.sh libtpms`; if it is not set, the script makes one. $OTHERS may
-# name more such folders, of other versions of the library, which are measured in the same run.
+# $ATTACHED is the folder of `hosts/build.sh libtpms`; if it is not set, the script makes one. $OTHERS may name
+# folders of other versions of the library. The script measures these versions in the same run.
 set -eu
 
 top=$(CDPATH='' cd "$(dirname "$0")/.." && pwd -P)

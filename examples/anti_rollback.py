@@ -1,7 +1,8 @@
-"""Writes anti_rollback.tpm. A boot loader keeps the lowest version that may start in a counter,
-which never decreases. The key of the disk is sealed for each image: the TPM returns it while the
-measured image is that image and its version is not below the counter. So nobody can start an old
-image with a known fault again, although it is authentic and its sealed key is still on the disk.
+"""Writes anti_rollback.tpm. An NV counter, which never decreases, contains the lowest version that
+may start. The key of the disk is sealed for each image: the TPM returns the key only if the
+measured image is that image, and its version is not below the counter. So nobody can start an old
+image with a known fault again, although the image is authentic and its sealed key is still on the
+disk.
 """
 
 import hashlib
@@ -58,8 +59,8 @@ def hand_over():
     platform_auths += 1
     value = hashlib.sha256(b"platform %d" % platform_auths).digest()
     tpm(
-        "Before the boot loader hands over, it sets platformAuth to random bytes that it keeps "
-        "nowhere (TPM2_HierarchyChangeAuth): what runs later cannot act as the platform"
+        "Before the boot loader starts the image, it sets platformAuth to random bytes that it "
+        "stores nowhere (TPM2_HierarchyChangeAuth). So no later software can act as the platform"
     ).does(tpm.change_auth(RH_PLATFORM, value, b""))
     del tpm.auth_values[RH_PLATFORM]
 
@@ -70,11 +71,13 @@ def compared(session, version):
 
 def asserted(session, version):
     tpm("TPM2_PolicyPCR of PCR 11").pcrs(session, CHOSEN)
-    said = tpm(f"TPM2_PolicyNV: the counter is less than or equal to {version}")
+    said = tpm(f"TPM2_PolicyNV requires that the counter is less than or equal to {version}")
     said.does(compared(session, version))
 
 
-def storage_root(what="TPM2_CreatePrimary: the storage root key, the same at each start"):
+def storage_root(
+    what="TPM2_CreatePrimary makes the storage root key, which is the same at each start",
+):
     return tpm.create_primary(what, RH_OWNER, storage_key())
 
 
@@ -89,12 +92,14 @@ def seal(parent, version, what):
 def unlock(token, version):
     parent = storage_root()
     handle = tpm.load("TPM2_Load of the image's token", parent, token)
-    tpm.flush_objects("The storage root key is not needed any more", parent)
+    tpm.flush_objects(
+        "TPM2_FlushContext of the storage root key, which is no longer needed", parent
+    )
     session = tpm.policy("TPM2_StartAuthSession of a policy session")
     asserted(session, version)
-    tpm.unseal("TPM2_Unseal: the disk's key", handle, DISK_KEY, session)
+    tpm.unseal("TPM2_Unseal returns the disk's key", handle, DISK_KEY, session)
     tpm("The session is flushed").flush(session)
-    tpm.flush_objects("And the object", handle)
+    tpm.flush_objects("The object is flushed", handle)
 
 
 tpm.chapter("PROVISIONING, once, by the boot loader of a new computer.")
@@ -104,41 +109,48 @@ public = counter(
 )
 assert public.attributes == 0x4204_0011
 tpm(
-    "TPM2_NV_DefineSpace of 01400001 by the platform, whose value is empty: a counter, with "
-    "PPWRITE, AUTHREAD, NO_DA and PLATFORMCREATE (attributes 42040011). Only the platform "
-    "increments it or takes it away; everybody can read it, as its own value is empty"
+    "TPM2_NV_DefineSpace of the counter 01400001 by the platform, whose authorization value is "
+    "empty. The counter has PPWRITE, AUTHREAD, NO_DA and PLATFORMCREATE (attributes 42040011). "
+    "Only the platform can increment or remove it. Everybody can read it, since its own "
+    "authorization value is empty"
 ).define(public, by=RH_PLATFORM)
 tpm(
-    "TPM2_NV_Increment by the platform. From this first write on the index has WRITTEN in its "
-    "attributes, and so the Name that will be in policies"
+    "TPM2_NV_Increment by the platform. After this first write the index has the attribute "
+    "WRITTEN, and therefore the Name that the policies will contain"
 ).does(tpm.incrementing(MINIMUM, by=RH_PLATFORM))
-tpm.read("TPM2_NV_Read by the index's empty value: the lowest version is 1", MINIMUM, number(1, 8))
-tpm.is_now("TPM2_NV_ReadPublic: the Name of now", MINIMUM)
+tpm.read(
+    "TPM2_NV_Read with the index's empty password: the lowest version is 1", MINIMUM, number(1, 8)
+)
+tpm.is_now("TPM2_NV_ReadPublic returns the present Name", MINIMUM)
 
 tpm.chapter("ENROLMENT of image 1, which is running.")
-tpm("It was measured into PCR 11").event(IMAGES[1], b"", pcr=11)
+tpm("Image 1 was measured into PCR 11").event(IMAGES[1], b"", pcr=11)
 hand_over()
-parent = storage_root("TPM2_CreatePrimary: the storage root key")
-trial = tpm.trial("A trial session computes the policy")
+parent = storage_root("TPM2_CreatePrimary makes the storage root key")
+trial = tpm.trial("TPM2_StartAuthSession of a trial session, which computes the policy")
 asserted(trial, 1)
 tpm(
-    "TPM2_PolicyGetDigest. The version, the operation 0009 (unsigned, less or equal), and the Name "
-    "of the index are hashed into it"
+    "TPM2_PolicyGetDigest. The digest depends on the version, the operation 0009 (unsigned, less "
+    "than or equal), and the Name of the index"
 ).digest_is(trial, policy_of(1))
 tpm("The trial session is flushed").flush(trial)
 token_1 = seal(
     parent,
     1,
-    "TPM2_Create: the disk's key is sealed with this authPolicy, and without userWithAuth. What is "
-    "answered is the token of image 1, which is written to the disk",
+    "TPM2_Create seals the disk's key with this authPolicy, and without userWithAuth. The "
+    "returned areas are the token of image 1, which is written to the disk",
 )
 tpm.flush_objects("The storage root key is flushed", parent)
 
-tpm.chapter("What runs behind the boot loader cannot touch the counter.")
-said = tpm("TPM2_NV_Increment as the platform, by the empty value of before: BAD_AUTH/s1")
+tpm.chapter("Software that runs after the boot loader cannot change the counter.")
+said = tpm("TPM2_NV_Increment by the platform, with the earlier, empty password: BAD_AUTH/s1")
 said.fails(tpm.incrementing(MINIMUM, by=RH_PLATFORM))
-tpm("By the owner, as there is no OWNERWRITE: NV_AUTHORIZATION").incrementing(MINIMUM, by=RH_OWNER)
-tpm("By the index itself, as there is no AUTHWRITE: AUTH_UNAVAILABLE").incrementing(MINIMUM)
+tpm(
+    "TPM2_NV_Increment by the owner, although the index has no OWNERWRITE: NV_AUTHORIZATION"
+).incrementing(MINIMUM, by=RH_OWNER)
+tpm("TPM2_NV_Increment by the index itself, which has no AUTHWRITE: AUTH_UNAVAILABLE").incrementing(
+    MINIMUM
+)
 tpm.fails("TPM2_NV_UndefineSpace by the owner: NV_AUTHORIZATION", tpm.undefining(MINIMUM))
 
 tpm.chapter("A START with image 1. The disk is unlocked.")
@@ -147,37 +159,41 @@ unlock(token_1, 1)
 hand_over()
 
 tpm.chapter(
-    "THE UPDATE. Image 1 runs, and installs image 2. Its token is sealed before it ever ran: the "
-    "value that PCR 11 will have is known, and a trial session takes it as it is given."
+    "THE UPDATE. Image 1 runs, and installs image 2. It seals the token of image 2 before image 2 "
+    "ever runs: it knows the future value of PCR 11, and a trial session accepts any value."
 )
 parent = storage_root()
-trial = tpm.trial("A trial session")
-said = tpm("TPM2_PolicyPCR of PCR 11, with the digest of the value behind image 2")
+trial = tpm.trial("TPM2_StartAuthSession of a trial session")
+said = tpm("TPM2_PolicyPCR of PCR 11, with the digest of the value after image 2")
 said.pcrs(trial, CHOSEN, digest(SHA256, pcr_value(2)))
-tpm.does("TPM2_PolicyNV: the counter is less than or equal to 2", compared(trial, 2))
+tpm.does("TPM2_PolicyNV requires that the counter is less than or equal to 2", compared(trial, 2))
 tpm.digest_is("TPM2_PolicyGetDigest", trial, policy_of(2))
 tpm("The trial session is flushed").flush(trial)
-token_2 = seal(parent, 2, "TPM2_Create of the token of image 2")
+token_2 = seal(parent, 2, "TPM2_Create makes the token of image 2")
 
-tpm.chapter("A START with image 2. The counter is still 1, so that image 1 can be returned to.")
+tpm.chapter("A START with image 2. The counter is still 1, so image 1 can still be started.")
 start(2)
 unlock(token_2, 2)
 hand_over()
-tpm.chapter("It did not work out, say: a START with image 1 again.")
+tpm.chapter("A START with image 1 again, for example because image 2 did not work.")
 start(1)
 unlock(token_1, 1)
 hand_over()
 
-tpm.chapter("A START with image 2, which is good. It has marked that, and the boot loader acts.")
+tpm.chapter(
+    "A START with image 2, which works and has recorded this. So the boot loader increments the "
+    "counter."
+)
 start(2)
 unlock(token_2, 2)
-said = tpm("TPM2_NV_Increment by the platform, as long as the counter is below the version")
+said = tpm("TPM2_NV_Increment by the platform, while the counter is below the version")
 said.does(tpm.incrementing(MINIMUM, by=RH_PLATFORM))
 tpm.read("TPM2_NV_Read: the lowest version is 2", MINIMUM, number(2, 8))
 hand_over()
 
 tpm.chapter(
-    "ROLLBACK. Somebody puts image 1 back, for a fault that image 2 has repaired, with its token."
+    "ROLLBACK. Somebody installs image 1 and its token again, to use a fault that image 2 has "
+    "repaired."
 )
 start(1)
 parent = storage_root()
@@ -185,24 +201,31 @@ handle = tpm.load("TPM2_Load of the token of image 1", parent, token_1)
 session = tpm.policy("TPM2_StartAuthSession")
 tpm("TPM2_PolicyPCR of PCR 11").pcrs(session, CHOSEN)
 tpm.fails("TPM2_PolicyNV: 2 is not less than or equal to 1: POLICY", compared(session, 1))
-tpm.fails("TPM2_Unseal without it: POLICY_FAIL/s1", tpm.unsealing(handle, session))
-tpm.does("TPM2_PolicyNV with 2 as its version, which holds", compared(session, 2))
-tpm("TPM2_Unseal: but the version is in the digest: POLICY_FAIL/s1").unsealing(handle, session)
+tpm.fails("TPM2_Unseal without this assertion: POLICY_FAIL/s1", tpm.unsealing(handle, session))
+tpm.does("TPM2_PolicyNV with the version 2, which is true", compared(session, 2))
+tpm("TPM2_Unseal, although the digest contains the other version: POLICY_FAIL/s1").unsealing(
+    handle, session
+)
 other = tpm.load("TPM2_Load of the token of image 2", parent, token_2)
-tpm.fails("TPM2_Unseal: PCR 11 has measured image 1: POLICY_FAIL/s1", tpm.unsealing(other, session))
+tpm.fails(
+    "TPM2_Unseal of that token, while PCR 11 contains image 1: POLICY_FAIL/s1",
+    tpm.unsealing(other, session),
+)
 hand_over()
 
-tpm.chapter("A START with image 2. It is unlocked as before.")
+tpm.chapter("A START with image 2. The disk is unlocked as before.")
 tpm.forget(parent, handle, other)
 start(2)
 unlock(token_2, 2)
 
-tpm.chapter("Not even the platform brings the counter back.")
+tpm.chapter("Not even the platform can decrease the counter.")
 tpm("TPM2_NV_UndefineSpace by the platform").undefining(MINIMUM, by=RH_PLATFORM)
-tpm.define("TPM2_NV_DefineSpace of the same", public, by=RH_PLATFORM)
-said = tpm("TPM2_NV_Increment: a new counter begins behind the largest that there ever was")
+tpm.define("TPM2_NV_DefineSpace of the same index", public, by=RH_PLATFORM)
+said = tpm(
+    "TPM2_NV_Increment: a new counter begins above the largest value that any counter ever had"
+)
 said.does(tpm.incrementing(MINIMUM, by=RH_PLATFORM))
-said = tpm("TPM2_NV_Read: it is 3, and no image can be started but a newer one")
+said = tpm("TPM2_NV_Read: the counter is 3, so only a newer image can be started")
 said.read(MINIMUM, number(3, 8))
 session = tpm.policy("TPM2_StartAuthSession")
 tpm("TPM2_PolicyPCR of PCR 11").pcrs(session, CHOSEN)

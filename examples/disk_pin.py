@@ -32,66 +32,72 @@ def start_computer():
     return tpm.load("TPM2_Load of the disk's key: 80000001", parent, token)
 
 
-tpm.chapter("THE OWNER OF THE COMPUTER SETS IT UP, once.")
+tpm.chapter("THE OWNER SETS UP THE COMPUTER, once.")
 tpm.startup()
 tpm.chapter(
-    "How tries are counted. TPM2_DictionaryAttackParameters is authorized by TPM_RH_LOCKOUT "
-    "(4000000A), whose value, lockoutAuth, is empty on a new device. maxTries is 5: five wrong "
-    "tries lock. recoveryTime is 600 seconds: each ten minutes forgive one. lockoutRecovery is "
-    "86,400 seconds: one wrong try at lockoutAuth itself closes that for a day."
+    "The owner sets how the TPM counts failed tries. TPM_RH_LOCKOUT (4000000A) authorizes the "
+    "command; its authorization value, lockoutAuth, is empty on a new device. maxTries is 5: five "
+    "failed tries lock the key. recoveryTime is 600 seconds: the TPM forgives a failed try every "
+    "ten minutes. lockoutRecovery is 86,400 seconds: a wrong attempt on lockoutAuth disables "
+    "lockoutAuth for a day."
 )
-tpm.set_protection("Its three parameters are those", 5, TEN_MINUTES, 86_400)
+tpm.set_protection(
+    "TPM2_DictionaryAttackParameters with these three values", 5, TEN_MINUTES, 86_400
+)
 tpm(
-    "TPM2_HierarchyChangeAuth gives TPM_RH_LOCKOUT a long passphrase, which is kept in a drawer: "
-    "with it the owner will be able to unlock what a thief, or a child, has locked: SUCCESS"
+    "TPM2_HierarchyChangeAuth gives TPM_RH_LOCKOUT a long passphrase, which the owner keeps in a "
+    "drawer. With it the owner can end a lockout that a thief, or a child, has caused: SUCCESS"
 ).says(tpm.change_auth(RH_LOCKOUT, RECOVERY, b""))
 tpm.auth_values[RH_LOCKOUT] = RECOVERY
 
 tpm.chapter(
     "The disk's key is sealed with the PIN as its authorization value (userAuth). Its attributes "
-    "are fixedTPM, fixedParent and userWithAuth (00000052). noDA is clear: that asks for the "
-    "protection. The storage key above it has noDA, as everybody may use it."
+    "are fixedTPM, fixedParent and userWithAuth (00000052). noDA is clear, so the TPM protects the "
+    "key against guesses. The storage key above it has noDA, since everybody may use the storage "
+    "key."
 )
 parent = tpm.storage_root("TPM2_CreatePrimary of the storage root key, 80000000")
-token = tpm("TPM2_Create: the two areas that are answered are written to the disk").create(
+token = tpm("TPM2_Create returns two areas, which are written to the disk").create(
     parent, sealed(attributes=HERE | Attribute.USER_WITH_AUTH), user_auth=PIN, data=DISK_KEY
 )
 
 tpm.chapter("EACH START asks for the PIN.")
 disk = start_computer()
-guess("The owner mistypes it. This is a try, and it is counted: AUTH_FAIL/s1", b"7319")
-tpm.unseal("TPM2_Unseal with the right PIN: the disk's key", disk, DISK_KEY)
-tpm.chapter("The try stays counted. Ten minutes later it is forgiven.")
+guess("The owner mistypes the PIN, which counts as a failed try: AUTH_FAIL/s1", b"7319")
+tpm.unseal("TPM2_Unseal with the right PIN returns the disk's key", disk, DISK_KEY)
+tpm.chapter("The failed try stays counted. Ten minutes later the TPM forgives it.")
 tpm.wait(1000 * TEN_MINUTES)
-tpm.unseal("The right PIN", disk, DISK_KEY)
+tpm.unseal("TPM2_Unseal with the right PIN", disk, DISK_KEY)
 
-tpm.chapter("THE COMPUTER IS STOLEN. The thief starts it, and guesses.")
+tpm.chapter("THE COMPUTER IS STOLEN. The thief starts it, and guesses the PIN.")
 disk = start_computer()
 guess("Five popular PINs: AUTH_FAIL/s1", *GUESSES)
-guess("The sixth guess is the right one, and is not even looked at: LOCKOUT", PIN)
-tpm.chapter("Switching it off and on does not help, as tries are kept without power.")
-disk = start_computer()
-guess("Still: LOCKOUT", PIN)
-tpm.chapter("Nor does guessing lockoutAuth, of which there is one try a day.")
-tpm("TPM2_DictionaryAttackLockReset with a guess: AUTH_FAIL/s1").lock_reset(b"password")
-tpm("With the next one: LOCKOUT").lock_reset(b"letmein")
+guess("The sixth guess is right, but the TPM does not even compare it: LOCKOUT", PIN)
 tpm.chapter(
-    "Waiting does. Ten minutes buy one guess: all 10,000 would take 69 days, and a PIN of six "
-    "digits 19 years."
+    "Switching the computer off and on does not help: the TPM keeps its count without power."
+)
+disk = start_computer()
+guess("The right PIN is still refused: LOCKOUT", PIN)
+tpm.chapter("Guessing lockoutAuth does not help either: the TPM allows one attempt a day.")
+tpm("TPM2_DictionaryAttackLockReset with a guess: AUTH_FAIL/s1").lock_reset(b"password")
+tpm("TPM2_DictionaryAttackLockReset with the next guess: LOCKOUT").lock_reset(b"letmein")
+tpm.chapter(
+    "Waiting helps: ten minutes allow one guess. But all 10,000 guesses would take 69 days, and a "
+    "PIN of six digits 19 years."
 )
 tpm.wait(1000 * TEN_MINUTES - 1)
-guess("A millisecond too early: LOCKOUT", b"9999")
+guess("A guess one millisecond too early: LOCKOUT", b"9999")
 tpm.wait(1)
-guess("Then one guess is looked at: AUTH_FAIL/s1", b"9999")
-guess("And no other: LOCKOUT", PIN)
+guess("Then the TPM compares one guess: AUTH_FAIL/s1", b"9999")
+guess("It compares no other guess, not even the right one: LOCKOUT", PIN)
 
 tpm.chapter("THE COMPUTER IS BACK. The owner does not want to wait.")
-said = tpm("lockoutAuth is still closed by the thief's guess, for the rest of that day: LOCKOUT")
+said = tpm("The thief's guess has disabled lockoutAuth for the rest of that day: LOCKOUT")
 said.says(tpm.lock_reset(RECOVERY))
 tpm.wait(86_400_000 - 1000 * TEN_MINUTES)
 tpm(
-    "The next day: TPM2_DictionaryAttackLockReset by the passphrase forgets all tries: SUCCESS"
+    "The next day, TPM2_DictionaryAttackLockReset with the passphrase forgives all tries: SUCCESS"
 ).says(tpm.lock_reset(RECOVERY))
-tpm.unseal("TPM2_Unseal with the right PIN: the disk's key", disk, DISK_KEY)
-guess("And all five tries are there again, of which this is one: AUTH_FAIL/s1", b"7319")
-tpm.unseal("The right PIN", disk, DISK_KEY)
+tpm.unseal("TPM2_Unseal with the right PIN returns the disk's key", disk, DISK_KEY)
+guess("The owner has all five tries again, and uses one of them: AUTH_FAIL/s1", b"7319")
+tpm.unseal("TPM2_Unseal with the right PIN", disk, DISK_KEY)

@@ -31,12 +31,12 @@ def bound_session(what):
 tpm.chapter("PROVISIONING, once.")
 tpm.startup()
 tpm(
-    'In a place where nobody listens ownerAuth becomes "cradle" (TPM2_HierarchyChangeAuth by the '
+    'Where nobody listens, the owner sets ownerAuth to "cradle" (TPM2_HierarchyChangeAuth with the '
     "empty password)"
 ).does(tpm.change_auth(RH_OWNER, b"cradle", b""))
 owner = tpm(
-    "TPM2_StartAuthSession: an HMAC session that is bound to TPM_RH_OWNER, with AES-128 in mode "
-    "CFB. Its key is made of ownerAuth and of both nonces, and ownerAuth is not sent"
+    "TPM2_StartAuthSession of an HMAC session that is bound to TPM_RH_OWNER, with AES-128 in mode "
+    "CFB. The session key is derived from both nonces and from ownerAuth, which is not sent"
 ).start(bind=RH_OWNER, aes=True)
 public = area(
     SECRET_INDEX,
@@ -47,69 +47,73 @@ assert public.attributes == 0x8004_1002
 tpm(
     "TPM2_NV_DefineSpace of 01000020 with OWNERWRITE, AUTHREAD, WRITEALL and READ_STCLEAR "
     "(attributes 80041002), 32 bytes, and the password as its authorization value, which the "
-    "session encrypts: the owner writes it, and the password reads it"
+    "session encrypts. The owner can write the index, and the password authorizes reading it"
 ).define(public, Use(owner, DECRYPTS), auth=PASSWORD)
 tpm(
-    "TPM2_NV_Write of the secret by the owner, encrypted too. From now on the index has WRITTEN in "
-    "its attributes, and so another Name"
+    "TPM2_NV_Write of the secret by the owner, also encrypted. From now on the index has the "
+    "attribute WRITTEN, and therefore another Name"
 ).does(tpm.writing(SECRET_INDEX, SECRET, Use(owner, DECRYPTS), by=RH_OWNER))
-said = tpm("TPM2_NV_Write of a part, as WRITEALL asks for the whole: NV_RANGE")
+said = tpm("TPM2_NV_Write of a part, although WRITEALL requires the whole: NV_RANGE")
 said.fails(tpm.writing(SECRET_INDEX, SECRET[:16], Use(owner, DECRYPTS), by=RH_OWNER))
-said = tpm("TPM2_NV_Read by the owner, who has no OWNERREAD: NV_AUTHORIZATION")
+said = tpm("TPM2_NV_Read by the owner, although the index has no OWNERREAD: NV_AUTHORIZATION")
 said.fails(tpm.reading(SECRET_INDEX, len(SECRET), owner, by=RH_OWNER))
 tpm("TPM2_FlushContext of the session").flush(owner)
 
 tpm.chapter("THE NEXT START. The boot loader asks for the password.")
 start()
 tpm(
-    "TPM2_NV_ReadPublic: from the public area the boot loader computes the Name, which is in the "
-    "hmacs"
+    "TPM2_NV_ReadPublic. From the public area the boot loader computes the Name, on which the "
+    "hmacs depend"
 ).is_now(SECRET_INDEX)
 tpm.auth_values[SECRET_INDEX] = b"battery staple"
 session = bound_session(
-    "Somebody mistypes the password. TPM2_StartAuthSession takes it, as the device does not learn "
-    "it: its session's key is made of the right one"
+    "Somebody mistypes the password. TPM2_StartAuthSession succeeds, because the password is not "
+    "sent. But the device derives the session key from the right password"
 )
 tpm(
-    "TPM2_NV_Read: the hmac is wrong. As the index has no NO_DA, it is protected from guessing: "
+    "TPM2_NV_Read with a wrong hmac. The index has no NO_DA, so it is protected against guesses: "
     "AUTH_FAIL/s1"
 ).fails(tpm.reading(SECRET_INDEX, len(SECRET), Use(session, ENCRYPTS)))
 tpm("TPM2_FlushContext of the session").flush(session)
 tpm.auth_values[SECRET_INDEX] = PASSWORD
 session = bound_session(
-    "With the right password. TPM2_StartAuthSession of a session that is bound to the index, with "
-    "AES: 02000000"
+    "With the right password, TPM2_StartAuthSession of the session 02000000, which is bound to the "
+    "index, and has AES"
 )
 read = tpm.reading(SECRET_INDEX, len(SECRET), Use(session, ENCRYPTS))
 answer = tpm(
-    "TPM2_NV_Read of 32 bytes, with the attributes continueSession and encrypt. What is answered "
-    "is 0020 and 32 bytes that only the two sides can decrypt, and its hmac shows that the device "
-    "sent them"
+    "TPM2_NV_Read of 32 bytes, with the attributes continueSession and encrypt. The response has "
+    "0020 and 32 bytes that only the two sides can decrypt. Its hmac shows that the device sent "
+    "them"
 ).does(read)
 assert answer[2:] == SECRET and SECRET not in tpm.last.response
 tpm.fails("Somebody who listened sends the same buffer again: AUTH_FAIL/s1", read)
 tpm(
-    "TPM2_NV_ReadLock by the session. It sets READLOCKED, so the Name is another, the session is "
-    "not bound to the index any more, and the password is in the key of the response's hmac"
+    "TPM2_NV_ReadLock in the session. It sets READLOCKED, and so changes the Name. Then the "
+    "session is no longer bound to the index, and the password is part of the key of the "
+    "response's hmac"
 ).does(tpm.read_locking(SECRET_INDEX, session))
 
-tpm.chapter("BEHIND THE BOOT LOADER nobody reads the secret.")
-tpm.fails("TPM2_NV_Read by the session: NV_LOCKED", tpm.reading(SECRET_INDEX, len(SECRET), session))
-tpm.fails("By the right password: NV_LOCKED", tpm.reading(SECRET_INDEX, len(SECRET), PASSWORD))
-tpm.fails("Of one byte: NV_LOCKED", tpm.reading(SECRET_INDEX, 1, PASSWORD))
-tpm.is_now("TPM2_NV_ReadPublic: the attributes have READLOCKED", SECRET_INDEX)
-said = tpm("TPM2_Startup without a power cycle does not open it: INITIALIZE")
+tpm.chapter("AFTER THE BOOT LOADER nobody can read the secret.")
+tpm.fails("TPM2_NV_Read in the session: NV_LOCKED", tpm.reading(SECRET_INDEX, len(SECRET), session))
+tpm.fails(
+    "TPM2_NV_Read with the right password: NV_LOCKED",
+    tpm.reading(SECRET_INDEX, len(SECRET), PASSWORD),
+)
+tpm.fails("TPM2_NV_Read of one byte: NV_LOCKED", tpm.reading(SECRET_INDEX, 1, PASSWORD))
+tpm.is_now("TPM2_NV_ReadPublic: the index has READLOCKED", SECRET_INDEX)
+said = tpm("TPM2_Startup without a power cycle does not unlock the index: INITIALIZE")
 said.raw(frames.command(CC.Startup, frames.number(0, 2)))
 tpm(
-    "Nor does anybody write it or take it away who does not know ownerAuth (TPM2_NV_Write and "
-    "TPM2_NV_UndefineSpace by the empty password): BAD_AUTH/s1"
+    "Nobody can write or remove the index without ownerAuth (TPM2_NV_Write and "
+    "TPM2_NV_UndefineSpace with the empty password): BAD_AUTH/s1"
 ).fails(tpm.writing(SECRET_INDEX, bytes(32), b"", by=RH_OWNER), tpm.undefining(SECRET_INDEX, b""))
 
-tpm.chapter("ANOTHER START. READ_STCLEAR has opened it.")
+tpm.chapter("ANOTHER START. Because of READ_STCLEAR, the index is unlocked again.")
 start()
 tpm.is_now("TPM2_NV_ReadPublic", SECRET_INDEX)
-session = bound_session("TPM2_StartAuthSession, bound to the index")
+session = bound_session("TPM2_StartAuthSession of a session that is bound to the index")
 tpm.read("TPM2_NV_Read of the secret", SECRET_INDEX, SECRET, Use(session, ENCRYPTS))
-tpm("TPM2_NV_ReadLock, and the session ends with it").read_locking(SECRET_INDEX, Use(session, 0))
-tpm.fails("It is no more: REFERENCE_S0", tpm.reading(SECRET_INDEX, 32, session))
-tpm.fails("And the index is locked: NV_LOCKED", tpm.reading(SECRET_INDEX, 32, PASSWORD))
+tpm("TPM2_NV_ReadLock, with which the session ends").read_locking(SECRET_INDEX, Use(session, 0))
+tpm.fails("The session no longer exists: REFERENCE_S0", tpm.reading(SECRET_INDEX, 32, session))
+tpm.fails("The index is locked: NV_LOCKED", tpm.reading(SECRET_INDEX, 32, PASSWORD))

@@ -12,7 +12,7 @@ from tests.common.teller import Example
 # Each piece of software is measured into its PCR before it runs. The policy uses these PCRs.
 MEASURED = (
     (0, "The firmware", b"firmware 1.0"),
-    (7, "That secure boot is on", b"secure boot on"),
+    (7, "The state of secure boot, on,", b"secure boot on"),
     (4, "The boot loader", b"boot loader"),
     (8, "The kernel's command line", b"root=/dev/sda2 ro"),
 )
@@ -32,7 +32,7 @@ def measured_by(measurements):
 
 def start_of(measurements):
     for pcr, what, data in measurements:
-        tpm.accepted(f"{what}, into PCR {pcr}", tpm.event(data, b"", pcr=pcr))
+        tpm.accepted(f"{what} is measured into PCR {pcr}", tpm.event(data, b"", pcr=pcr))
 
 
 def for_every_branch(session, words):
@@ -53,71 +53,81 @@ def after_pcrs(values_digest):
 
 
 tpm.startup()
-tpm.chapter("The computer is started, which is measured, here by TPM2_PCR_Event.")
+tpm.chapter("The start of the computer is measured, here by TPM2_PCR_Event.")
 start_of(MEASURED)
 
 tpm.chapter("TPM2_StartAuthSession of type 03, TPM_SE_TRIAL, with SHA-256.")
 trial = tpm.trial("The session is 03000000")
-tpm.digest_is("Its digest is zeros", trial, zeros(trial))
+tpm.digest_is("The digest of the session is zeros", trial, zeros(trial))
 
-tpm.chapter("The policy, assertion by assertion. Each changes the session's digest.")
+tpm.chapter("The policy, assertion by assertion. Each assertion changes the session's digest.")
 tpm(
-    "TPM2_PolicyPCR: PCR 0, 4, 7 and 8 of the SHA-256 bank have the values of now. pcrDigest is "
-    "left out, and the device takes that of its PCRs"
+    "TPM2_PolicyPCR requires the present values of PCR 0, 4, 7 and 8 in the SHA-256 bank. "
+    "pcrDigest is empty, so the device uses the digest of its PCRs"
 ).pcrs(trial, CHOSEN)
 for_every_branch(
     trial,
     (
-        ": the command comes from locality 0, where the operating system is",
-        ": the command is TPM2_Unseal (15E), and no other",
-        ": its hmac has the PIN in its key, which is the authorization value of what is sealed",
+        " requires that the command comes from locality 0, like those of the operating system",
+        " requires that the command is TPM2_Unseal (15E)",
+        " requires that the key of the command's hmac contains the PIN, the sealed key's "
+        "authorization value",
     ),
 )
-said = tpm("TPM2_PolicyGetDigest: with this digest as its policy (authPolicy) the key is sealed")
+said = tpm("TPM2_PolicyGetDigest returns the policy (authPolicy) with which the key is sealed")
 said.digest_is(trial, after_all_of_it(after_pcrs(measured_by(MEASURED))))
 
 tpm.chapter(
-    "An update is to come, of the boot loader. A key with the policy above would be lost with it, "
-    "and so it is sealed by another policy: either the PCRs of now or those of the update. The "
-    "unlocker computes what the values will be, and gives their digest as pcrDigest, which a trial "
-    "session takes as it is."
+    "The boot loader will be updated. With the policy above, nobody could unseal the key after the "
+    "update. So the key is sealed with another policy, which allows the present PCR values or "
+    "those after the update. The unlocker computes the values after the update, and passes their "
+    "digest as pcrDigest: a trial session accepts any pcrDigest."
 )
 UPDATED = tuple(NEXT_LOADER if it[0] == NEXT_LOADER[0] else it for it in MEASURED)
 branches = []
 for what, measurements, given in (
-    ("TPM2_PolicyPCR with the values of now", MEASURED, b""),
-    ("TPM2_PolicyPCR with those of the update", UPDATED, measured_by(UPDATED)),
+    ("TPM2_PolicyPCR with the present values", MEASURED, b""),
+    ("TPM2_PolicyPCR with the values after the update", UPDATED, measured_by(UPDATED)),
 ):
-    tpm("TPM2_PolicyRestart, which makes the digest zeros").restart(trial)
+    tpm("TPM2_PolicyRestart, which resets the digest to zeros").restart(trial)
     tpm(what).pcrs(trial, CHOSEN, given)
     branches.append(after_pcrs(measured_by(measurements)))
-    tpm.digest_is("TPM2_PolicyGetDigest: a branch", trial, branches[-1])
+    tpm.digest_is("TPM2_PolicyGetDigest returns the digest of a branch", trial, branches[-1])
 tpm(
-    "TPM2_PolicyOR of the two branches. The digest is of them alone, and no more of what was said "
-    "before: what is asked of both is said behind it"
+    "TPM2_PolicyOR of the two branches. The new digest depends only on them, not on earlier "
+    "assertions. So the assertions that both branches need come after TPM2_PolicyOR"
 ).branches(trial, *branches)
 for_every_branch(trial, ("", "", ""))
 wanted = after_all_of_it(policy.after_or(SHA256, branches))
-tpm.digest_is("TPM2_PolicyGetDigest: the policy with which the key is sealed", trial, wanted)
+tpm.digest_is("TPM2_PolicyGetDigest returns the policy with which the key is sealed", trial, wanted)
 tpm.refused("A trial session authorizes nothing: ATTRIBUTES/s1", tpm.reset(trial))
-tpm("It has done its work (TPM2_FlushContext)").flush(trial)
+tpm("TPM2_FlushContext of the trial session, which is no longer needed").flush(trial)
 
 tpm.chapter("The computer is started with the next boot loader.")
 tpm.power_cycle()
 start_of(UPDATED)
-tpm.chapter("TPM2_StartAuthSession of type 01, TPM_SE_POLICY. What is said to it has to be so.")
+tpm.chapter("TPM2_StartAuthSession of type 01, TPM_SE_POLICY. Its assertions must be true.")
 session = tpm.policy("The session is 03000000")
 tpm("TPM2_PolicyPCR").pcrs(session, CHOSEN)
-tpm("TPM2_PolicyOR, of which the digest is the second").branches(session, *branches)
+tpm("TPM2_PolicyOR, in which the session's digest is the second branch").branches(
+    session, *branches
+)
 for_every_branch(session, ("", "", ""))
-said = tpm("TPM2_PolicyGetDigest: the policy of the key, which TPM2_Unseal would be given out by")
+said = tpm(
+    "TPM2_PolicyGetDigest returns the key's policy, so this session could authorize TPM2_Unseal"
+)
 said.digest_is(session, wanted)
 
-tpm.chapter("Another time secure boot is off.")
+tpm.chapter("At another start secure boot is off.")
 tpm.power_cycle()
-start_of((7, "That secure boot is off", b"secure boot off") if it[0] == 7 else it for it in UPDATED)
+start_of(
+    (7, "The state of secure boot, off,", b"secure boot off") if it[0] == 7 else it
+    for it in UPDATED
+)
 session = tpm.policy("TPM2_StartAuthSession")
-tpm("TPM2_PolicyPCR, which makes another digest").pcrs(session, CHOSEN)
-tpm("TPM2_PolicyOR, as the digest is neither of the two: VALUE/p1").branches(session, *branches)
-said = tpm("TPM2_PolicyPCR with the digest of the values of the update: VALUE/p1")
+tpm("TPM2_PolicyPCR, which gives another digest").pcrs(session, CHOSEN)
+tpm("TPM2_PolicyOR, although the digest is not that of a branch: VALUE/p1").branches(
+    session, *branches
+)
+said = tpm("TPM2_PolicyPCR with the digest of the values after the update: VALUE/p1")
 said.says(tpm.pcrs(session, CHOSEN, measured_by(UPDATED)))

@@ -1,7 +1,7 @@
 """Writes suspend_resume.tpm. A laptop sleeps (ACPI state S3): the memory keeps its content, but the
 TPM loses its power and its PCRs. The software in memory continues where it stopped. It was measured
 when it started, and is not measured again. So the operating system asks the TPM to save the PCRs
-before the laptop sleeps, and the firmware has them restored.
+before the laptop sleeps, and later the firmware asks the TPM to restore them.
 """
 
 import hashlib
@@ -13,9 +13,9 @@ from tests.common.teller import Example
 
 KEY = hashlib.sha256(b"the key of a user's home directory").digest()
 BOOT = (
-    (0, "The firmware, PCR 0", b"firmware 1.0"),
-    (4, "The boot loader, PCR 4", b"boot loader"),
-    (11, "The kernel, PCR 11", b"kernel 6.1"),
+    (0, "The firmware is measured into PCR 0", b"firmware 1.0"),
+    (4, "The boot loader is measured into PCR 4", b"boot loader"),
+    (11, "The kernel is measured into PCR 11", b"kernel 6.1"),
 )
 CHOSEN = [(SHA256, [0, 4, 11])]
 
@@ -23,7 +23,7 @@ tpm = Example(__name__, __doc__)
 
 
 def boot():
-    tpm.chapter("The start is measured, here by TPM2_PCR_Event.")
+    tpm.chapter("The start of the laptop is measured, here by TPM2_PCR_Event.")
     tpm.measure(*BOOT)
 
 
@@ -36,19 +36,18 @@ def load_key():
 
 
 def unlock(outcome, handle):
-    """Unseals with a policy session, which succeeds if the PCRs have the values of the enrolment.
-    """
+    """Unseals with a policy session, which succeeds if the PCRs have the values of the enrolment."""
     session = tpm.policy("TPM2_StartAuthSession of a policy session")
     tpm("TPM2_PolicyPCR of PCR 0, 4 and 11").pcrs(session, CHOSEN)
     if outcome == "SUCCESS":
-        tpm.unseal("TPM2_Unseal: the key", handle, KEY, session)
+        tpm.unseal("TPM2_Unseal returns the key", handle, KEY, session)
     else:
         tpm.fails(f"TPM2_Unseal: {outcome}", tpm.unsealing(handle, session))
 
 
 def sealed_key():
     """Returns the response of TPM2_Create for the current PCRs."""
-    trial = tpm.trial("A trial session, for the policy")
+    trial = tpm.trial("TPM2_StartAuthSession of a trial session, which computes the policy")
     tpm("TPM2_PolicyPCR of PCR 0, 4 and 11").pcrs(trial, CHOSEN)
     answer = tpm.does("TPM2_PolicyGetDigest", tpm.get_digest(trial))
     tpm("TPM2_FlushContext").flush(trial)
@@ -68,46 +67,53 @@ token = sealed_key()
 key = load_key()
 unlock("SUCCESS", key)
 
-tpm.chapter("IT GOES TO SLEEP. The operating system's last command is TPM2_Shutdown(STATE).")
-tpm("TPM2_Shutdown of STATE (0001): PCR 0 to 15 are saved").shutting_down(STATE)
-tpm.chapter("The power of the TPM goes and comes.")
+tpm.chapter(
+    "THE LAPTOP GOES TO SLEEP. The operating system's last command is TPM2_Shutdown(STATE)."
+)
+tpm("TPM2_Shutdown of STATE (0001) saves PCR 0 to 15").shutting_down(STATE)
+tpm.chapter("The TPM loses its power, and gets it back.")
 tpm.power()
-tpm.chapter("IT WAKES UP. The firmware knows from the mainboard that this is no new start.")
-tpm.start_up("TPM2_Startup of STATE (0001): the PCRs are as they were", STATE)
+tpm.chapter("THE LAPTOP WAKES UP. The firmware knows from the mainboard that this is no new start.")
+tpm.start_up("TPM2_Startup of STATE (0001) restores the PCRs", STATE)
 tpm("TPM2_PCR_Read of PCR 11").read_pcr(11)
 tpm(
-    "TPM2_ReadClock answers two times in milliseconds, and then resetCount, which is 1, as this "
-    "was no reset, and restartCount, which is 1"
+    "TPM2_ReadClock returns two times in milliseconds; resetCount, which stays 1, since this was "
+    "no reset; and restartCount, which is 1"
 ).does(tpm.clock())
-tpm.chapter("Sessions and objects do not survive; the operating system loads what it needs.")
+tpm.chapter(
+    "Sessions and objects do not survive. The operating system loads the objects that it needs."
+)
 tpm.fails("The key's old handle: REFERENCE_H0", tpm.public(key))
 key = load_key()
 unlock("SUCCESS", key)
 
 tpm.chapter(
-    "WHAT IF SOMETHING HAPPENS IN BETWEEN? Whatever changes the TPM cancels the saved state, so "
-    "that nobody can bring back PCRs that are not those of now."
+    "WHAT IF SOMETHING HAPPENS IN BETWEEN? Every command that changes the TPM cancels the saved "
+    "state, so that nobody can restore outdated PCRs."
 )
 tpm("TPM2_Shutdown(STATE)").shutting_down(STATE)
-tpm.measure((11, "Something is measured after it, into PCR 11", b"late"))
+tpm.measure((11, "After TPM2_Shutdown, something is measured into PCR 11", b"late"))
 tpm.power()
 tpm.fails("TPM2_Startup(STATE): VALUE/p1", tpm.starting(STATE))
-tpm.chapter("The firmware can then but start the laptop anew, as if it had been switched off.")
+tpm.chapter("The firmware can then only start the laptop again, as if it had been switched off.")
 tpm.start_up("TPM2_Startup(CLEAR)", CLEAR)
 boot()
 key = load_key()
 unlock("SUCCESS", key)
 
 tpm.chapter(
-    "AND IF A THIEF WAKES IT UP WITH ANOTHER SYSTEM? The firmware that starts from the beginning "
-    "says TPM2_Startup(CLEAR), and all PCRs are zeros, whatever was saved."
+    "WHAT IF A THIEF WAKES THE LAPTOP WITH ANOTHER SYSTEM? If the firmware starts from the "
+    "beginning, it sends TPM2_Startup(CLEAR). Then PCR 0 to 15 are zeros, whatever was saved."
 )
-tpm("TPM2_Shutdown(STATE), as it goes to sleep").shutting_down(STATE)
+tpm("TPM2_Shutdown(STATE), when the laptop goes to sleep").shutting_down(STATE)
 tpm.power()
 tpm.start_up("TPM2_Startup(CLEAR)", CLEAR)
-tpm.measure((0, "The firmware, PCR 0", b"firmware 1.0"), (4, "Another loader", b"evil loader"))
+tpm.measure(
+    (0, "The firmware is measured into PCR 0", b"firmware 1.0"),
+    (4, "Another boot loader is measured into PCR 4", b"evil loader"),
+)
 key = load_key()
 unlock("POLICY_FAIL/s1", key)
-tpm.chapter("Nor is the saved state there for later.")
+tpm.chapter("A later start does not get the saved state either.")
 tpm.power()
 tpm.fails("TPM2_Startup(STATE): VALUE/p1", tpm.starting(STATE))

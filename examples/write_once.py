@@ -19,14 +19,14 @@ tpm = Example(__name__, __doc__)
 
 tpm.chapter("THE POLICY, computed once, on any device.")
 tpm.startup()
-trial = tpm.trial("A trial session: 03000000")
+trial = tpm.trial("TPM2_StartAuthSession of the trial session 03000000")
 tpm(
-    "TPM2_PolicyNvWritten of 0: the index must not be written yet when this policy authorizes: "
+    "TPM2_PolicyNvWritten of 0: when the policy authorizes, the index must not be written yet: "
     "SUCCESS"
 ).says(tpm.written_told(trial, False))
 once = policy.after_nv_written(SHA256, bytes(32), False)
 tpm(
-    "TPM2_PolicyGetDigest: SHA-256 of 32 zeros, 0000018F and 00, which is the authPolicy below"
+    "TPM2_PolicyGetDigest returns SHA-256 of 32 zeros, 0000018F and 00: the authPolicy below"
 ).digest_is(trial, once)
 tpm("TPM2_FlushContext of the trial session").flush(trial)
 
@@ -34,37 +34,39 @@ tpm.chapter("THE FACTORY.")
 attributes = Attribute.PLATFORMCREATE | Attribute.POLICYWRITE | Attribute.AUTHREAD | Attribute.NO_DA
 public = area(FIRST, attributes, size=len(RECORD), auth_policy=once)
 tpm(
-    "TPM2_NV_DefineSpace by TPM_RH_PLATFORM: index 01000001 of 32 bytes, with that policy. Its "
-    "attributes are POLICYWRITE, so that the policy alone can write it; AUTHREAD with an empty "
-    "value, so that everybody reads it; NO_DA; and PLATFORMCREATE, so that the owner cannot remove "
-    "it (42040008)"
+    "TPM2_NV_DefineSpace by TPM_RH_PLATFORM of index 01000001, with 32 bytes and that policy. Its "
+    "attributes (42040008) are POLICYWRITE, so that only the policy authorizes writing; AUTHREAD "
+    "with an empty password, so that everybody can read it; NO_DA; and PLATFORMCREATE, so that the "
+    "owner cannot remove it"
 ).define(public, by=RH_PLATFORM)
-session = tpm.policy("A policy session: 03000000")
-tpm("TPM2_PolicyNvWritten of 0 in it").written_told(session, False)
+session = tpm.policy("TPM2_StartAuthSession of the policy session 03000000")
+tpm("TPM2_PolicyNvWritten of 0 in this session").written_told(session, False)
 tpm("TPM2_NV_Write of the record").writing(FIRST, RECORD, session)
-tpm.is_now("TPM2_NV_ReadPublic: the index has WRITTEN (20000000) now, and another Name", FIRST)
+tpm.is_now("TPM2_NV_ReadPublic: the index now has WRITTEN (20000000), and another Name", FIRST)
 
-tpm.chapter("NOBODY WRITES IT AGAIN. The same assertion still makes the policy's digest ...")
+tpm.chapter("NOBODY CAN WRITE IT AGAIN. The same assertion still gives the policy's digest.")
 tpm("TPM2_PolicyNvWritten of 0").written_told(session, False)
 tpm.digest_is("TPM2_PolicyGetDigest: the digest is the authPolicy", session, once)
 tpm(
-    "... but the index is looked at when the session authorizes, and it is written: TPM2_NV_Write: "
-    "POLICY_FAIL/s1"
+    "TPM2_NV_Write: when the session authorizes the command, the device checks the index, which is "
+    "written: POLICY_FAIL/s1"
 ).fails(tpm.writing(FIRST, bytes(32), session))
 tpm("TPM2_PolicyRestart").restart(session)
-said = tpm("TPM2_PolicyNvWritten of 1, which holds, makes another digest: SUCCESS")
+said = tpm("TPM2_PolicyNvWritten of 1, which is true, gives another digest: SUCCESS")
 said.says(tpm.written_told(session, True))
 tpm.fails("TPM2_NV_Write: POLICY_FAIL/s1", tpm.writing(FIRST, bytes(32), session))
-tpm("By its empty value: it has no AUTHWRITE: AUTH_UNAVAILABLE").writing(FIRST, bytes(32))
+tpm("TPM2_NV_Write by the index, which has no AUTHWRITE: AUTH_UNAVAILABLE").writing(
+    FIRST, bytes(32)
+)
 for by, name in ((RH_OWNER, "the owner"), (RH_PLATFORM, "the platform")):
-    said = tpm(f"By {name}: it has neither OWNERWRITE nor PPWRITE: NV_AUTHORIZATION")
+    said = tpm(f"TPM2_NV_Write by {name}, without OWNERWRITE and PPWRITE: NV_AUTHORIZATION")
     said.fails(tpm.writing(FIRST, bytes(32), by=by))
-said = tpm("The owner cannot remove it, to define another in its place: NV_AUTHORIZATION")
+said = tpm("The owner cannot remove the index to define another one: NV_AUTHORIZATION")
 said.fails(tpm.undefining(FIRST, by=RH_OWNER))
 
-tpm.chapter("AT EACH START it is what the factory wrote.")
+tpm.chapter("AT EACH START the index contains what the factory wrote.")
 tpm.power_cycle()
-tpm.read("TPM2_NV_Read by the empty value", FIRST, RECORD)
-session = tpm.policy("A policy session: 03000000")
+tpm.read("TPM2_NV_Read with the empty password", FIRST, RECORD)
+session = tpm.policy("TPM2_StartAuthSession of the policy session 03000000")
 tpm("TPM2_PolicyNvWritten of 0").written_told(session, False)
 tpm.fails("TPM2_NV_Write: POLICY_FAIL/s1", tpm.writing(FIRST, bytes(32), session))

@@ -12,9 +12,9 @@
 #     FUNCTIONS  the folder of zsh's functions in PREFIX; by default share/zsh/site-functions
 #
 # The modules for libtss2 and for swtpm, and tpmsim-simulator, are built if the headers that they need are
-# installed. Otherwise the script prints which of them are not installed. If DESTDIR is not set and the user is
-# root, ldconfig adds the libraries to the loader's cache. If the loader or python3 does not find the installed
-# files, the script prints the variables that a user has to set. Needs python3.
+# installed. Otherwise the script prints which of these programs and modules it does not install. If DESTDIR is
+# not set and the user is root, ldconfig adds the libraries to the loader's cache. If the loader or python3 does
+# not find the installed files, the script prints the variables that a user has to set. Needs python3.
 set -u
 umask 022
 cd "$(dirname "$0")/.." || exit 1

@@ -1,6 +1,6 @@
 """A session that is bound to the owner encrypts a secret on its way to the TPM. The owner's
-authorization value is not sent at all. An eavesdropper learns neither of them, and cannot send the
-same bytes again successfully.
+authorization value is not sent at all. An eavesdropper learns neither the secret nor this value,
+and cannot send the same bytes again successfully.
 """
 
 from tpmsim.caller import area, BY_OWNER, Caller, Refused

@@ -9,8 +9,8 @@
 
 #include <string.h>
 
-/* The head of a journal is at most 72,470 bytes long. */
-enum { HEAD_MOST = 72 * 1024 };
+/* The head of a journal is at most 73,940 bytes long. */
+enum { HEAD_MOST = 73 * 1024 };
 
 static tpmsim device;
 static uint8_t completing;

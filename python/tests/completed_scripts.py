@@ -1,12 +1,14 @@
 """Random commands for a device with the completing layer: commands that make and flush objects and
-sessions, save and load their contexts, or read lists, and the other commands that the layer
-answers. A few commands have changed bytes, or are sent without the layer.
+sessions, save and load their contexts, or read lists, commands on sequence objects, and the other
+commands that the layer answers. A few commands have changed bytes, or are sent without the layer.
 """
 
-from tpmsim.caller import HERE, OPEN, storage_key
+from tpmsim.caller import HERE, hmac_key, OPEN, storage_key
 from tpmsim.caller.templates import STORES
-from tpmsim.standard import CC, command, frames, number, NV, nv, RH_LOCKOUT, RH_NULL, RH_OWNER
-from tpmsim.standard import RH_PLATFORM, SHA256, sized, TRANSIENT
+from tpmsim.model.sequence_commands import EVENT_SEQUENCE_COMPLETE, HANDLES, HASH_SEQUENCE_START
+from tpmsim.model.sequence_commands import HMAC_START, SEQUENCE_COMPLETE, SEQUENCE_UPDATE
+from tpmsim.standard import ALG_NULL, CC, command, frames, number, NV, nv, on_handle, on_handles
+from tpmsim.standard import RH_LOCKOUT, RH_NULL, RH_OWNER, RH_PLATFORM, SHA256, sized, TRANSIENT
 from tpmsim.standard.handle_kinds import PRIMARY_HIERARCHIES
 from tpmsim.standard.objects import Attribute
 
@@ -15,6 +17,9 @@ INCREMENTAL_SELF_TEST, GET_TEST_RESULT, HASH, TEST_PARMS = 0x142, 0x17C, 0x17D, 
 OF_FAMILY_1 = bytes.fromhex("00c10000000c00000099") + b"\0\1"
 KINDS, OTHERS = (0x80, 0x80, 0x80, 0x80, 0x02, 0x03), (0x81, 0x01, 0x00, 0x40)
 PASSWORD, TAG = frames.area(frames.entry()), frames.SESSIONS
+
+# Authorization values of objects and sequences.
+VALUES = b"", b"pin"
 
 # The parameters of TPM2_TestParms: for a KEYEDHASH, a SYMCIPHER, RSA, and some parameters that the
 # device does not support.
@@ -38,10 +43,21 @@ def handle_of(chance):
     return kind << 24 | (chance.randrange(8) if chance.random() < 0.95 else 0xFFFFFF)
 
 
+def flushed(chance):
+    """Returns TPM2_FlushContext, sometimes of a sequence object."""
+    handle = chance.choice(HANDLES) if chance.random() < 0.2 else handle_of(chance)
+    return command(CC.FlushContext, number(handle, 4))
+
+
 def primary(chance):
-    sensitive = sized(sized(chance.choice((b"", b"pin"))) + sized(b""))
-    attributes = HERE | OPEN | STORES | chance.choice((0, 0, 0, Attribute.ST_CLEAR))
-    public = sized(storage_key(chance.choice((SHA256, frames.SHA1)), attributes).text)
+    data, attributes = b"", HERE | OPEN | chance.choice((0, 0, 0, Attribute.ST_CLEAR))
+    if chance.random() < 0.4:
+        data = chance.randbytes(chance.choice((1, 32, 64)))
+        attributes ^= chance.choice((0, 0, Attribute.NO_DA))
+        template = hmac_key(SHA256, attributes, chance.choice((SHA256, frames.SHA1, ALG_NULL)))
+    else:
+        template = storage_key(chance.choice((SHA256, frames.SHA1)), attributes | STORES)
+    sensitive, public = sized(sized(chance.choice(VALUES)) + sized(data)), sized(template.text)
     parameters = sensitive + public + sized(b"") + number(0, 4)
     hierarchy = number(chance.choice((RH_OWNER, *PRIMARY_HIERARCHIES)), 4)
     return command(CC.CreatePrimary, hierarchy + PASSWORD + parameters, frames.SESSIONS)
@@ -83,6 +99,47 @@ def testing(chance):
         )
     )
     return command(code, parameters)
+
+
+def starting(chance):
+    """Returns a command that starts a sequence."""
+    auth, algorithm = chance.choice(VALUES), chance.choice((SHA256, frames.SHA1, ALG_NULL, 0x0C))
+    parameters = sized(auth) + number(algorithm, 2)
+    if chance.random() < 0.6:
+        return command(HASH_SEQUENCE_START, parameters)
+    key = TRANSIENT << 24 | chance.randrange(8)
+    return on_handle(HMAC_START, key, parameters, entries(chance, 1))
+
+
+def entries(chance, count):
+    """Returns passwords; seldom one too many or too few, or one with another handle or attribute.
+    """
+    count += chance.choice((-1, 1)) if chance.random() < 0.03 else 0
+    handles = frames.RS_PW, frames.HMAC_SESSION << 24
+    return [
+        frames.entry(
+            chance.choice(handles) if chance.random() < 0.02 else frames.RS_PW,
+            attributes=chance.choice((0, 2, 8, 32)) if chance.random() < 0.05 else 1,
+            hmac=chance.choice(VALUES),
+        )
+        for _ in range(count)
+    ]
+
+
+def sequence(chance):
+    """Returns a command on a sequence."""
+    handle = chance.choice(HANDLES) if chance.random() < 0.9 else handle_of(chance)
+    data = chance.choice((b"", b"\xff\x54", b"\x43\x47", bytes(3), chance.randbytes(1024)))
+    hierarchy = chance.choice((*PRIMARY_HIERARCHIES, RH_LOCKOUT))
+    code = chance.choice((SEQUENCE_UPDATE,) * 4 + (SEQUENCE_COMPLETE, EVENT_SEQUENCE_COMPLETE))
+    if code == EVENT_SEQUENCE_COMPLETE:
+        pcr = chance.choice((chance.randrange(25), RH_NULL))
+        return on_handles(code, [pcr, handle], sized(data), entries(chance, 2))
+    parameters = sized(data)
+    parameters += number(hierarchy, 4) if code == SEQUENCE_COMPLETE else b""
+    if chance.random() < 0.02:
+        return command(code, number(handle, 4) + parameters)
+    return on_handle(code, handle, parameters, entries(chance, 1))
 
 
 def changed(chance):
@@ -139,7 +196,7 @@ class Scripts:
                 lambda: session(chance),
                 lambda: command(CONTEXT_SAVE, number(handle_of(chance), 4)),
                 lambda: command(CONTEXT_LOAD, self.context()),
-                lambda: command(CC.FlushContext, number(handle_of(chance), 4)),
+                lambda: flushed(chance),
                 lambda: command(STIR_RANDOM, sized(bytes(chance.choice((0, 9, 128, 129))))),
                 lambda: listing(chance),
                 lambda: command(CC.ReadPublic, number(TRANSIENT << 24 | chance.randrange(9), 4)),
@@ -149,8 +206,10 @@ class Scripts:
                 lambda: chance.randbytes(chance.randrange(12)),
                 lambda: testing(chance),
                 lambda: changed(chance),
+                lambda: starting(chance),
+                lambda: sequence(chance),
             ),
-            (6, 3, 9, 6, 6, 1, 5, 2, 2, 0.5, 0.5, 0.5, 3, 0.3 * self.changes),
+            (6, 3, 9, 6, 6, 1, 5, 2, 2, 0.5, 0.5, 0.5, 3, 0.3 * self.changes, 5, 12),
         )[0]()
         return self.bent(found) if found and chance.random() < 0.04 else found
 

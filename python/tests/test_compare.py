@@ -16,7 +16,10 @@ from tpmsim.device import Answered, Device, KeptDevice, library, StartedSwtpm
 from tpmsim.device.base import Executed
 from tpmsim.model.completion import CONTEXT_LOAD, CONTEXT_SAVE
 from tpmsim.model.machine import Model
-from tpmsim.standard import command, frames, number, SHA256, TRANSIENT
+from tpmsim.model.sequence_commands import HANDLES, HASH_SEQUENCE_START, HMAC_START
+from tpmsim.model.sequence_commands import SEQUENCE_COMPLETE, SEQUENCE_UPDATE
+from tpmsim.standard import CC, command, frames, number, on_handle, RH_NULL, SHA256, sized
+from tpmsim.standard import TRANSIENT
 import completed_scripts
 from completed_model import CompletedModel, RecordedModel
 from journals import Journal
@@ -205,6 +208,35 @@ def contexts_that_move(device):
 
 def saved_context(device, handle):
     return device.execute(command(CONTEXT_SAVE, number(handle, 4))).response[10:]
+
+
+class Sequences(unittest.TestCase):
+    def test_other_handles(self):
+        """The other TPM gives sequence objects other handles, which its later commands use."""
+        with RecordedModel() as device:
+            device.journal.go_on(device.completion.numbers)
+            sequences_that_move(device)
+        with Moved(model=Model(bytes(256))) as other:
+            report = Comparison(other).play(device.journal.text)
+        self.assertEqual((report.differences, report.not_comparable), ([], []))
+        self.assertEqual(report.commands, 8)
+
+
+def sequences_that_move(device):
+    """Hashes with a sequence, and makes an HMAC with another; flushes a third one."""
+    tpm = Caller(device)
+    tpm.start_up()
+    key = tpm.create_primary(hmac_key(), data=b"key")
+    kind = number(SHA256, 2)
+    for buffer in (
+        command(HASH_SEQUENCE_START, sized(b"") + kind),
+        on_handle(HMAC_START, key, sized(b"") + kind),
+        on_handle(SEQUENCE_UPDATE, HANDLES[0], sized(b"data")),
+        on_handle(SEQUENCE_COMPLETE, HANDLES[0], sized(b"data") + number(RH_NULL, 4)),
+        on_handle(SEQUENCE_UPDATE, HANDLES[1], sized(b"data")),
+        command(CC.FlushContext, number(HANDLES[1], 4)),
+    ):
+        assert not any(device.execute(buffer).response[6:10])
 
 
 class Others(unittest.TestCase):

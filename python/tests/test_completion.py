@@ -19,12 +19,16 @@ from tpmsim.explain import page, text
 from tpmsim.explain.play import Play
 from tpmsim.model import contexts
 from tpmsim.model.completion import Completion, CONTEXT_LOAD, CONTEXT_SAVE
+from tpmsim.model.sequences import KINDS
 from tpmsim.model.state import CLEAR, STATE
 from tpmsim.records import COMPLETED
 from tpmsim.standard import command, lines, number, RH_PLATFORM
 from tpmsim.standard.objects import Attribute
 
 SEEDS, COMMANDS, START = 12, 500, 7
+
+# Seeds whose commands have no power cycle near their end.
+LONG = 2, 8
 
 # The actions that the layer may report, with N for each number.
 DEEDS = {
@@ -53,6 +57,24 @@ DEEDS = {
     "the handles with the layer",
     "the properties with the layer",
     "the tag is TPM N.N's, and the answer says that there is none",
+    *(f"the {kind} sequence N {did}" for kind in KINDS.values() for did in ("starts", "ends")),
+    *(f"the {kind} sequence N is flushed" for kind in KINDS.values()),
+    *(f"N bytes are added to the {kind} sequence N" for kind in KINDS.values()),
+    *(f"the password is not that of the {kind} sequence N" for kind in KINDS.values()),
+    "the event sequence N ends with TPM2_EventSequenceComplete",
+    "the hash sequence N ends with TPM2_SequenceComplete",
+    "the HMAC sequence N ends with TPM2_SequenceComplete",
+    "the device refuses the layer's TPM2_HMAC",
+    "the device refuses the layer's TPM2_PCR_Extend",
+    "there is no sequence N",
+    "N is not the handle of a transient object",
+    "a password is missing",
+    "the authorization area is malformed",
+    "all N sequences are taken",
+    "entry N authorizes nothing",
+    "entry N is not a password, and only passwords authorize sequences",
+    "entry N has a reserved bit",
+    "entry N has an attribute that a password cannot have",
 }
 
 
@@ -114,7 +136,7 @@ class InPython(unittest.TestCase):
         """The audit counts the layer's responses separately. The device's history contains the
         changes that the layer makes to the device.
         """
-        for seed in range(2):
+        for seed in LONG:
             journal, answered = self.recorded(seed, COMMANDS)
             auditor = Auditor(start.of_log(journal, None), NoLog())
             auditor.read(journal)

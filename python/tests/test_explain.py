@@ -13,6 +13,7 @@ from tpmsim.caller import area, BY_OWNER, BY_POLICY, Caller
 from tpmsim.device import ModelDevice
 from tpmsim.explain import main as command_line
 from tpmsim.explain.own import CHECKS
+from tpmsim.explain.sentences import ROWS
 from tpmsim.explain.play import Play
 from tpmsim.explain.reason import RULES
 from tpmsim.model.image import image
@@ -45,7 +46,7 @@ class Sentences(unittest.TestCase):
 
     def test_each_own_check_has_its_numbers(self):
         own = {it for it in RULES if it.partition("/")[0] in CC.__members__ and "/A" in it}
-        self.assertEqual(own, set(CHECKS))
+        self.assertEqual(own, {*CHECKS, *(it.partition(".")[0] for it in ROWS)})
 
 
 class Logs(unittest.TestCase):

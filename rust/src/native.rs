@@ -20,7 +20,7 @@ pub(crate) const RANDOM_BYTES: usize = 256;
 const RESPONSE_BYTES: usize = 4096;
 
 /// The size of a buffer that is large enough for every image and every state text.
-const TEXT_BYTES: usize = 36_195;
+const TEXT_BYTES: usize = 36_930;
 
 /// The type `tpmsim` of the header. It is not `Sync`, because a pointer is not.
 #[repr(C)]

@@ -79,8 +79,8 @@ def has_index(tpm: Caller) -> bool:
 
 
 def keeps(*words: object) -> None:
-    """Checks that an index that one run defines still exists after SIGTERM and after SIGKILL. Other
-    runs are ended by SIGINT and by the request STOP.
+    """Checks that an index that one run defines still exists after SIGTERM and after SIGKILL.
+    SIGINT and the request STOP end other runs.
     """
     with Served(*words) as served:
         served.client().define(area(index=INDEX))

@@ -97,7 +97,7 @@ def groups(texts: Documents) -> List:
 
 
 def not_served(texts: Documents) -> List:
-    """A command that is listed as unsupported must not be supported."""
+    """The device must not support the commands that a document lists as unsupported."""
     text = between(texts[REFUSALS], "## Commands that are not served", "\n## ")
     return List([], [it for it in NAME.findall(text) if it in CC.__members__])
 

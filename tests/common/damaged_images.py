@@ -147,7 +147,7 @@ class Comparison:
 
     def case(self, case):
         """Checks a described case. A good image must be opened, and saved again unchanged. A bad
-        one must have the fault Body.
+        image must have the fault Body.
         """
         wanted = "opened" if case.is_good else "Body"
         given = self.fault_of(case.words, case.text)

@@ -6,9 +6,9 @@ The buffer of each `do` line of tests/ and examples/ is checked twice. If it is 
 frames.py encodes the parts again, the result must be the same buffer. The line that the Python
 device finds for the buffer must assemble to it. In a script that a program wrote, each `cmd` line
 must be a command that no line in words can encode, unless the script says that its commands are
-bytes. The program must find the same lines as the Python device. The test passes it the first
-buffers of each command and a tenth of the others, and only a twentieth of the `cmd` lines, because
-altered scripts have many.
+bytes. The program must find the same lines as the Python device. The test passes the program the
+first buffers of each command, a tenth of the other buffers, and only a twentieth of the `cmd`
+lines, because altered scripts have many `cmd` lines.
 """
 
 import collections

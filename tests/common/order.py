@@ -31,7 +31,7 @@ class OrderTeller(Teller):
         eight_bytes = command(code, text + area(bytes(8)) + cut, SESSIONS)
         self.raw("An area of eight bytes: AUTHSIZE", eight_bytes)
         prepared = self.prepare(code, handles, cut, *uses)
-        words = f"A wrong first entry, and the last one is not there: REFERENCE_S{last - 1}"
+        words = f"A wrong first entry, and the last session does not exist: REFERENCE_S{last - 1}"
         entries = [*others_in(prepared, 1).entries[:-1], ABSENT_SESSION]
         self.refused(words, prepared.but(entries=entries))
         if closed:
@@ -40,7 +40,7 @@ class OrderTeller(Teller):
             self.refused(words, others_in(unavailable, 1, last))
         if last > 1:
             self.refused(f"Both entries are wrong: {both}", others_in(prepared, 1, last))
-        self.refused(f"The last one is: BAD_AUTH/s{last}", others_in(prepared, last))
+        self.refused(f"The last entry is wrong: BAD_AUTH/s{last}", others_in(prepared, last))
 
     def in_order(
         self, code: CC, uses: Sequence[Means], *cases: tuple[str, str, Sequence[int], bytes]

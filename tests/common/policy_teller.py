@@ -31,8 +31,8 @@ class PolicyTeller(Teller):
 
     def digest_is(self, what: str, session: Session, wanted: bytes | None = None) -> None:
         """Reads the policy digest with TPM2_PolicyGetDigest, and compares it with the digest that
-        the accepted assertions determine. If `wanted` is passed, the digest must also be equal to
-        it.
+        the accepted assertions determine. If the caller passes `wanted`, the digest must also be
+        equal to `wanted`.
         """
         told = self.digest_of(session)
         assert wanted in (None, told), what
@@ -40,7 +40,7 @@ class PolicyTeller(Teller):
         super().digest_is(what, session, told)
 
     def makes(
-        self, what: str, session: Session, told: Prepared, digest: str = "Its digest"
+        self, what: str, session: Session, told: Prepared, digest: str = "The digest of the session"
     ) -> None:
         """Sends an assertion that must be accepted, and checks the policy digest after it."""
         self.does(what, told)

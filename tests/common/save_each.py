@@ -124,8 +124,8 @@ def check_kills(program, count):
 
 
 def check_pieces(program):
-    """If many commands arrive at once, the image has the effects of the answered ones, even while
-    later ones wait.
+    """If many commands arrive at once, the image has the effects of the answered commands, even
+    while later commands wait.
     """
     run = Run(program)
     told = ["Startup 0", *[INCREMENT] * 100]

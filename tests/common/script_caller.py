@@ -122,9 +122,9 @@ class ScriptCaller(PreparedCommands):
         for algorithm, hash_name in HASHES:
             for kind, name in KINDS:
                 self.script.chapter(f"A {name} session of {hash_name}.")
-                session = self.start("It is started", algorithm=algorithm, kind=kind, **choices)
+                session = self.start("The session is started", algorithm=algorithm, kind=kind, **choices)
                 yield session
-                self.says("It is flushed: SUCCESS", self.flush(session))
+                self.says("The session is flushed: SUCCESS", self.flush(session))
 
     def digest_is(self, what: str, session: Session, wanted: bytes) -> None:
         response = self.says(f"{what}: SUCCESS", self.get_digest(session))

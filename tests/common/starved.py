@@ -3,9 +3,9 @@
     python3 starved.py PROGRAM
 
 Each allocation fails in turn: in one run only that allocation, in another run all later ones too.
-If all later ones fail too, the run must end with status 3 and `tpmsim: memory`. If only one fails,
-the run must end in that way, or exactly as without a failure, because some collections retry with a
-smaller size.
+If all later ones fail too, the run must end with status 3 and `tpmsim: memory`. If only one
+allocation fails, the run must end in the same way, or exactly as without a failure, because some
+collections retry with a smaller size.
 """
 
 import functools

@@ -83,7 +83,7 @@ class Steps(Teller):
         self.says("A persistent object, while there is none: HANDLE/h1", *map(prepare, persistent))
 
     def needs_entries(self, code: CC, handle: int, parameters: bytes = b"") -> None:
-        words = "It has to be authorized: no sessions (tag 8001): AUTH_MISSING"
+        words = "The object has to be authorized, but there are no sessions (tag 8001): AUTH_MISSING"
         self.raw(words, command(code, number(handle, 4) + parameters))
 
     # Steps for objects, sessions and indices that exist only for a while.
@@ -103,7 +103,7 @@ class Steps(Teller):
         public: Public,
         *uses: Means,
         hierarchy: int = RH_OWNER,
-        flushed: str = "It is flushed",
+        flushed: str = "The object is flushed",
         **more: Any,
     ) -> Iterator[int]:
         """Makes a primary object, and flushes it at the end of the `with` block."""
@@ -113,7 +113,7 @@ class Steps(Teller):
 
     @contextlib.contextmanager
     def loaded(
-        self, what: str, parent: int, made: Made, *uses: Means, flushed: str = "It is flushed"
+        self, what: str, parent: int, made: Made, *uses: Means, flushed: str = "The object is flushed"
     ) -> Iterator[int]:
         """Loads an object below its parent, and flushes it at the end of the `with` block."""
         handle = self.load(what, parent, made, *uses)
@@ -125,7 +125,7 @@ class Steps(Teller):
     ) -> None:
         """Defines an index, authorized by the owner, and writes data to it."""
         self.define(what, public, auth=auth)
-        self.does("It is written", self.writing(public.index, data, by=by))
+        self.does("The index is written", self.writing(public.index, data, by=by))
 
     def flushes(self, what: str, *sessions: Session) -> None:
         """Flushes sessions, with the same description for each."""

@@ -17,19 +17,8 @@ from dataclasses import dataclass, replace
 
 import torn_rivals
 from client import answer, connected
-from tests.common.shims import (
-    ENTROPY,
-    FILE,
-    HERE,
-    SERVE,
-    SOCKET,
-    WELL,
-    Ending,
-    Room,
-    Tears,
-    ended,
-    fail,
-)
+from tests.common.shims import ENTROPY, FILE, HERE, SERVE, SOCKET, WELL, Ending, Room, Tears
+from tests.common.shims import ended, fail
 from tpmsim.model import machine
 from tpmsim.model.image import image, open_image
 from tpmsim.standard import lines

@@ -65,8 +65,9 @@ def begin_beside_left():
 
 def check_rivals(program, begin, own, wanted, at_most):
     """Makes the first process wait at each of its calls in turn. The second process then has
-    `at_most` seconds before the first one continues. Exactly one of them must end, and in the
-    expected way. Returns the calls at which the second process had to wait for the first one.
+    `at_most` seconds before the first one continues. Exactly one of the two processes must end, and
+    in the expected way. Returns the calls at which the second process had to wait for the first
+    one.
     """
     begin()
     alone = Rival(program, "first", own)

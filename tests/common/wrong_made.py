@@ -3,8 +3,8 @@
     wrong_made.py PROGRAM
 
 There is a wrong device for each script. At least one response of this device must differ from that
-of the program. The test prints whether it does. The status is 1 if it does not, or if there is no
-wrong device for a script.
+of the program. The test prints whether a response differs. The status is 1 if none differs, or if
+there is no wrong device for a script.
 """
 
 import sys

@@ -1,8 +1,8 @@
 """Makes bent_commands.tpm. Each command is altered: first commandSize is raised and lowered by one,
 the rest unchanged. Then a zero byte is added at the end, with commandSize corrected. Then each size
-and each count after the header is raised and lowered by one, the rest unchanged. 0 is lowered to
-the largest number. All altered commands are refused. At last the command is sent whole. Parameters,
-entries and the items of lists are counted from 1.
+and each count after the header is raised and lowered by one, the rest unchanged. Lowering 0 gives
+the largest number of the same size. All altered commands are refused. At last the command is sent
+whole. Parameters, entries and the items of lists are counted from 1.
 """
 
 from collections.abc import Iterator

@@ -1,9 +1,9 @@
 """Makes cut_hmac_commands.tpm. Commands that an HMAC authorizes are cut after their authorization
 area to each shorter length, with the right commandSize. The HMAC is the one for the whole
-parameters, so it is wrong; it is compared before the parameters are read. At a protected NV index
-or object, that is a failed try: TPM_PT_LOCKOUT_COUNTER (20E) shows that it counts.
-TPM2_DictionaryAttackLockReset forgives it each time. A refusal leaves the session unchanged. So the
-whole command is sent at last, with the same HMAC.
+parameters, so it is wrong; it is compared before the parameters are read. For a protected NV index
+or object, the wrong HMAC is a failed try: TPM_PT_LOCKOUT_COUNTER (20E) shows that the device counts
+it. TPM2_DictionaryAttackLockReset forgives each failed try. A refusal leaves the session unchanged.
+So the whole command is sent at last, with the same HMAC.
 """
 
 from collections.abc import Iterator
@@ -31,8 +31,8 @@ def refused(what: str, outcome: str, tries: int, *buffers: bytes) -> None:
 
 
 def refused_alone(what: str, outcome: str, tries: int, buffer: bytes) -> None:
-    """Like `refused`, but for one buffer. If the buffer counts as a failed try, the number of
-    failed tries is then reset.
+    """Sends one buffer, as `refused` does. If the buffer counts as a failed try, then resets the
+    number of failed tries.
     """
     refused(what, outcome, tries, buffer)
     if tries:
@@ -104,9 +104,9 @@ unbound = tpm.start("A session that is bound to nothing: the value of the index 
 cut("TPM2_NV_Write by it", tpm.writing(FIRST, DATA, unbound, offset=2))
 sha1 = tpm.start("One of SHA-1", algorithm=SHA1)
 cut("TPM2_NV_Write by it", tpm.writing(FIRST, DATA, sha1, offset=2))
-bound = tpm.start("One that is bound to the index", FIRST)
+bound = tpm.start("A session that is bound to the index", FIRST)
 cut("TPM2_NV_Write by it", tpm.writing(FIRST, DATA, bound, offset=2))
-to_owner = tpm.start("One that is bound to TPM_RH_OWNER, with AES", RH_OWNER, aes=True)
+to_owner = tpm.start("A session that is bound to TPM_RH_OWNER, with AES", RH_OWNER, aes=True)
 case = "TPM2_NV_Write by it, with encrypted data"
 cut(case, tpm.writing(FIRST, DATA, to_owner.decrypting, offset=2))
 told = tpm.policy("A policy session")

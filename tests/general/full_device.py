@@ -57,22 +57,22 @@ tpm = Steps(__name__, __doc__, starts=False)
 def define_all():
     tpm.chapter("NV indices.")
     for public, auth in INDICES:
-        tpm.define("One of each kind" if public is INDICES[0][0] else "", public, auth=auth)
+        tpm.define("An index of each kind" if public is INDICES[0][0] else "", public, auth=auth)
     platforms = area(0x0180_0000, BY_PLATFORM | NvAttribute.PLATFORMCREATE, size=1)
-    tpm.define("One of the platform", platforms, by=RH_PLATFORM)
+    tpm.define("An index of the platform", platforms, by=RH_PLATFORM)
     taken = sum(it.data_size for it, _ in INDICES) + platforms.data_size
     count = nv_commands.INDICES - len(INDICES) - 1
     for at in range(count):
         left_for_this = nv_commands.ALL_BYTES - taken - 8 * (count - 1 - at)
         public = area(0x0140_0000 + at, BY_OWNER, size=min(left_for_this, nv_commands.INDEX_BYTES))
-        tpm.define("As many as there are, and all bytes" if at == 0 else "", public)
+        tpm.define("The largest number of indices, with all bytes" if at == 0 else "", public)
         taken += public.data_size
     assert taken == nv_commands.ALL_BYTES and len(tpm.publics) == nv_commands.INDICES
-    tpm("One more: NV_SPACE").defining(area(0x0100_00FF, size=0))
+    tpm("One more index: NV_SPACE").defining(area(0x0100_00FF, size=0))
 
 
 def write_some():
-    tpm("Some are written").writing(0x0100_0000, b"data", by=RH_OWNER, offset=1000)
+    tpm("Some indices are written").writing(0x0100_0000, b"data", by=RH_OWNER, offset=1000)
     tpm("").writing(0x0100_0001, bytes(range(256)) * 4, by=RH_OWNER)
     tpm("").writing(0x0100_0002, b"")
     tpm("").writing(0x0180_0000, b"p", by=RH_PLATFORM)
@@ -81,8 +81,8 @@ def write_some():
     tpm("").setting(0x0100_0006, 0x8000_0000_0000_0001)
     for index in (0x0100_0007, 0x0100_0008):
         tpm("").extending(index, b"data")
-    tpm("One is locked").write_locking(0x0100_0001, by=RH_OWNER)
-    tpm("And for reading").read_locking(0x0100_0001, by=RH_OWNER)
+    tpm("An index is locked for writing").write_locking(0x0100_0001, by=RH_OWNER)
+    tpm("An index is locked for reading").read_locking(0x0100_0001, by=RH_OWNER)
 
 
 def keep_all():
@@ -93,36 +93,38 @@ def keep_all():
         hierarchy, asker = hierarchies[at % len(hierarchies)]
         first = 0x8180_0000 if asker == RH_PLATFORM else 0x8100_0000
         said, chosen = tpm("A primary object"), {"data": data, "user_auth": user_auth}
-        with said.held(public, hierarchy=hierarchy, flushed="And is flushed", **chosen) as handle:
-            tpm.keep("It stays", asker, handle, first + 0x1000 * at)
-    made = tpm.create("A child of the first", 0x8100_0000, hmac_key(), data=b"key")
-    with tpm.loaded("It is loaded", 0x8100_0000, made) as handle:
-        tpm.keep("It stays", RH_OWNER, handle, 0x817F_FFFF)
+        with said.held(
+            public, hierarchy=hierarchy, flushed="The transient object is flushed", **chosen
+        ) as handle:
+            tpm.keep("The object becomes persistent", asker, handle, first + 0x1000 * at)
+    made = tpm.create("A child of the first object", 0x8100_0000, hmac_key(), data=b"key")
+    with tpm.loaded("The child is loaded", 0x8100_0000, made) as handle:
+        tpm.keep("The object becomes persistent", RH_OWNER, handle, 0x817F_FFFF)
         tpm("One more: NV_SPACE").evicting(RH_OWNER, handle, 0x8100_0001)
 
 
 def transient():
-    tpm.chapter("Transient objects and sessions, which nothing keeps.")
+    tpm.chapter("Transient objects and sessions, which a power cycle removes.")
     for at in range(OBJECTS):
         hierarchy = (RH_OWNER, RH_NULL)[at % 2]
         tpm.create_primary("Eight objects" if at == 0 else "", hierarchy, storage_key())
-    tpm("One more: OBJECT_MEMORY").primary(RH_NULL, storage_key())
+    tpm("One more object: OBJECT_MEMORY").primary(RH_NULL, storage_key())
     for at in range(SESSIONS):
         kind = (SE_HMAC, SE_POLICY, SE_TRIAL)[at % 3]
         tpm.start("Sixteen sessions" if at == 0 else "", kind=kind)
     start = tpm.prepare(CC.StartAuthSession, *frames.start_auth_session(bytes(16)))
-    tpm.fails("One more: SESSION_MEMORY", start)
+    tpm.fails("One more session: SESSION_MEMORY", start)
 
 
 def the_rest():
-    tpm.chapter("Authorization values, tries, and what is saved.")
+    tpm.chapter("Authorization values, failed tries, and the saved state.")
     tpm.set_protection("TPM2_DictionaryAttackParameters", 5, 0x0102_0304, 0xFFFF_FFFF)
     for handle, value in AUTH_VALUES:
         tpm("An authorization value").change_auth(handle, value, b"")
     tpm("TPM2_Clear is disabled").clear_control(RH_PLATFORM, 1)
     wrong = tpm.writing(0x0100_0002, b"", b"wrong")
-    tpm.fails("Two tries: AUTH_FAIL/s1", wrong, wrong)
-    tpm("lockoutAuth is closed: AUTH_FAIL/s1").lock_reset(b"wrong")
+    tpm.fails("Two failed tries: AUTH_FAIL/s1", wrong, wrong)
+    tpm("A wrong password disables lockoutAuth: AUTH_FAIL/s1").lock_reset(b"wrong")
     for pcr in (0, 3, 15, 16):
         tpm("A PCR is extended").event(b"event", b"", pcr=pcr)
     tpm.wait(123_456_789)

@@ -97,7 +97,7 @@ tpm("It authorizes nothing").capability(PROPERTIES, 0x100, 1, session)
 asked = tpm.capability(PROPERTIES, 0x100, 1, session)
 tpm.refused("A wrong hmac: BAD_AUTH/s1", wrong(asked))
 tpm.encrypts_nothing(lambda: asked)
-tpm("It is flushed").flush(session)
+tpm("The session is flushed").flush(session)
 
 tpm.chapter("Handles of PCRs.")
 borders("From 0", HANDLES, 0, list(range(24)))

@@ -91,8 +91,7 @@ assert COMMANDS.keys() == set(CC) - {CC.Startup, CC.Shutdown}
 
 
 def start_again(is_kept):
-    """Power-cycles the device. TPM2_Startup(STATE) must succeed only if the saved state was kept.
-    """
+    """Power-cycles the device. TPM2_Startup(STATE) must succeed only if the saved state was kept."""
     if is_kept:
         tpm.resumes("It was kept: TPM2_Startup(STATE)")
     else:
@@ -103,14 +102,14 @@ tpm.written("An ordinary index", area(FIRST), b"data", by=RH_OWNER)
 tpm.define("A counter", counter(SECOND))
 tpm.define("Bits", bits(THIRD))
 tpm.define("An index that is extended", extended(FOURTH))
-said = tpm("One with locks, and a policy for TPM2_NV_ChangeAuth")
+said = tpm("An index with locks, and a policy for TPM2_NV_ChangeAuth")
 said.define(area(FIFTH, BY_OWNER | LOCKS, auth_policy=CHANGING))
 
-tpm.chapter("A second TPM2_Shutdown takes the place of the first.")
+tpm.chapter("A second TPM2_Shutdown replaces the first one.")
 tpm.saves()
 tpm("TPM2_Shutdown(CLEAR)").shutting_down(CLEAR)
 start_again(is_kept=False)
-tpm.chapter("A command that is refused cancels nothing, not even a try that is counted.")
+tpm.chapter("A refused command cancels nothing, not even if it counts as a failed try.")
 tpm.define("An index", area(0x0100_0007, BY_VALUE), auth=b"a")
 hmac = tpm.start("An HMAC session")
 tpm.saves()
@@ -122,16 +121,16 @@ tpm.raw("The empty buffer: COMMAND_SIZE", b"")
 start_again(is_kept=True)
 tpm.chapter("The use of sessions cancels nothing, unless the command does.")
 hmac = tpm.start("An HMAC session")
-other = tpm.start("Another one")
+other = tpm.start("Another session")
 tpm.saves()
 tpm("TPM2_GetRandom with both").random(8, hmac, other)
-tpm("With one that ends by it").random(8, Use(other, attributes=0))
+tpm("TPM2_GetRandom with a session that ends").random(8, Use(other, attributes=0))
 start_again(is_kept=True)
-tpm.chapter("TPM2_PCR_Extend on TPM_RH_NULL changes nothing, and cancels it all the same.")
+tpm.chapter("TPM2_PCR_Extend on TPM_RH_NULL changes nothing, but cancels the saved state.")
 tpm.saves()
 tpm.does("TPM2_PCR_Extend", extending_pcr(RH_NULL))
 start_again(is_kept=False)
-tpm.chapter("Power cycles and time do not cancel it.")
+tpm.chapter("Power cycles and time do not cancel the saved state.")
 tpm.saves()
 tpm.power()
 tpm.power()

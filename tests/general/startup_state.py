@@ -17,7 +17,7 @@ tpm = Steps(__name__, __doc__)
 
 def extend(what):
     """Extends each of the PCRs with an event, which is the PCR's number."""
-    for locality, words in ((0, what), (2, "And 17 and 22, from locality 2")):
+    for locality, words in ((0, what), (2, "PCRs 17 and 22 are extended from locality 2")):
         tpm.locality_is(locality)
         for pcr in (it for it in PCRS if LOCALITY_OF.get(it, 0) == locality):
             tpm(words).event(b"%d" % pcr, b"", pcr=pcr)
@@ -52,27 +52,27 @@ def null_name(what):
 
 tpm.chapter("PCRs.")
 at_start = values("The PCRs after TPM2_Startup(CLEAR), here 0, 3, 15, 16, 17, 22 and 23")
-extend("They are extended")
-extended = values("Their values")
+extend("The PCRs are extended")
+extended = values("The values of the PCRs")
 resume()
-resumed = values("0, 3 and 15 are as they were, and the others as at a start")
+resumed = values("PCRs 0, 3 and 15 have their saved values, the others their starting values")
 assert all(resumed[it] == (extended if it < 16 else at_start)[it] for it in PCRS)
-tpm("The update counter is 0: TPM2_PCR_Read").read_pcr(3)
-extend("They are extended again")
-again = values("0, 3 and 15 go on from there")
+tpm("TPM2_PCR_Read: the update counter is 0").read_pcr(3)
+extend("The PCRs are extended again")
+again = values("PCRs 0, 3 and 15 continue from the saved values")
 assert again[3] not in (extended[3], resumed[3]) and again[16] == extended[16]
 restart()
-assert values("All are as at a start") == at_start
+assert values("All PCRs have their starting values") == at_start
 extend("They are extended")
 tpm.saves()
-tpm.chapter("What is saved are the values of then.")
+tpm.chapter("TPM2_Shutdown saves the values at that time.")
 tpm("TPM2_Shutdown(CLEAR)").shutting_down(CLEAR)
 tpm.resumes_not()
 tpm("TPM2_Shutdown(STATE), before any extend").shutting_down(STATE)
 tpm.resumes()
-assert values("As at a start") == at_start
+assert values("The PCRs have their starting values") == at_start
 
-tpm.chapter("From each locality, it is the same.")
+tpm.chapter("TPM2_Startup(STATE) from each locality.")
 tpm("PCR 3 is extended").event(b"3", b"", pcr=3)
 for locality in (4, 3):
     tpm.saves()
@@ -82,7 +82,7 @@ for locality in (4, 3):
     tpm("TPM2_PCR_Read of PCR 3").read_pcr(3)
 tpm.locality_is(0)
 
-tpm.chapter("Sessions and transient objects are gone.")
+tpm.chapter("Sessions and transient objects no longer exist.")
 session = tpm.start("An HMAC session")
 policy = tpm.policy("A policy session")
 trial = tpm.trial("A trial session")
@@ -92,12 +92,12 @@ tpm("The HMAC session: REFERENCE_S0").reset(session)
 said = tpm("The policy session, and the trial session: REFERENCE_H0")
 said.fails(tpm.get_digest(policy), tpm.get_digest(trial))
 tpm("The storage key: REFERENCE_H0").public(handle)
-tpm.start("A new HMAC session has the next place")
-tpm.policy("A new policy session has the next place")
-tpm.trial("A new trial session has the next place")
+tpm.start("A new HMAC session has the next handle")
+tpm.policy("A new policy session has the next handle")
+tpm.trial("A new trial session has the next handle")
 tpm.power_cycle()
 
-tpm.chapter("The session of an earlier policy is gone.")
+tpm.chapter("The session of an earlier policy no longer exists.")
 policy = tpm.policy("A policy session")
 tpm("TPM2_PolicyPCR of PCR 3").pcrs(policy, [(SHA256, [3])])
 resume()
@@ -114,46 +114,50 @@ restart()
 assert null_name("The same primary object") == name
 tpm("platformAuth is empty").change_auth(RH_PLATFORM, b"platform", b"")
 reset()
-assert null_name("Another primary object: its seed is new") != name
+assert null_name("The primary object is another one, since the seed is new") != name
 tpm("platformAuth is empty").change_auth(RH_PLATFORM, b"", b"")
 
-tpm.chapter("NV indices. Their locks and what is cleared at a start stay at a resume.")
+tpm.chapter("NV indices. A resume keeps their locks and data, which TPM2_Startup(CLEAR) clears.")
 tpm.define("An index that can be locked until a start", area(FIRST, BY_OWNER | LOCKS))
-tpm.define("One that is cleared at a start", area(SECOND, BY_OWNER | NvAttribute.CLEAR_STCLEAR))
-tpm.define("One that is locked for good", area(THIRD, BY_OWNER | NvAttribute.WRITEDEFINE))
+tpm.define(
+    "An index that is cleared at a start", area(SECOND, BY_OWNER | NvAttribute.CLEAR_STCLEAR)
+)
+tpm.define("An index that is locked permanently", area(THIRD, BY_OWNER | NvAttribute.WRITEDEFINE))
 for index in (FIRST, SECOND, THIRD):
-    tpm("They are written" if index == FIRST else "").writing(index, b"8 bytes.", by=RH_OWNER)
+    tpm("The indices are written" if index == FIRST else "").writing(
+        index, b"8 bytes.", by=RH_OWNER
+    )
 tpm("TPM2_NV_WriteLock").write_locking(FIRST, by=RH_OWNER)
-tpm("And of the last one").write_locking(THIRD, by=RH_OWNER)
+tpm("TPM2_NV_WriteLock of the last index").write_locking(THIRD, by=RH_OWNER)
 tpm("TPM2_NV_ReadLock").read_locking(FIRST, by=RH_OWNER)
 resume()
 for index in (FIRST, SECOND, THIRD):
-    tpm.is_now("All are as they were" if index == FIRST else "", index)
-tpm.read("The second one", SECOND, b"8 bytes.", by=RH_OWNER)
-tpm("The first one is locked: NV_LOCKED").reading(FIRST, 8, by=RH_OWNER)
+    tpm.is_now("All indices are unchanged" if index == FIRST else "", index)
+tpm.read("The second index is unchanged", SECOND, b"8 bytes.", by=RH_OWNER)
+tpm("The first index is locked: NV_LOCKED").reading(FIRST, 8, by=RH_OWNER)
 restart()
-said = tpm("The locks of the first are open")
+said = tpm("The first index is no longer locked")
 said.is_now(FIRST, cleared=NvAttribute.WRITELOCKED | NvAttribute.READLOCKED)
-tpm.is_now("The second is not written", SECOND, cleared=NvAttribute.WRITTEN)
-tpm.is_now("The third is locked", THIRD)
+tpm.is_now("The second index is not written", SECOND, cleared=NvAttribute.WRITTEN)
+tpm.is_now("The third index is locked", THIRD)
 
-tpm.chapter("With lockoutRecovery 0 lockoutAuth is closed until a reset.")
+tpm.chapter("With lockoutRecovery 0, lockoutAuth stays disabled until a reset.")
 tpm.set_protection("lockoutRecovery is 0", 3, 1000, 0)
 tpm("A wrong password: AUTH_FAIL/s1").lock_reset(b"wrong")
 resume()
-tpm("It is closed: LOCKOUT").lock_reset()
+tpm("lockoutAuth is disabled: LOCKOUT").lock_reset()
 restart()
 tpm("It is closed: LOCKOUT").lock_reset()
 tpm("TPM2_Shutdown(CLEAR)").shutting_down(CLEAR)
 reset()
-tpm("It is open").lock_reset()
-tpm.chapter("Tries outlive all three.")
+tpm("lockoutAuth is enabled").lock_reset()
+tpm.chapter("Failed tries survive a reset, a restart and a resume.")
 tpm.written("An index", area(FOURTH, BY_VALUE), b"x", auth=b"a")
 wrong = tpm.writing(FOURTH, b"x", b"b")
 tpm.fails("A wrong password: AUTH_FAIL/s1", wrong)
 resume()
 tpm.fails("The second: AUTH_FAIL/s1", wrong)
 restart()
-tpm.fails("The third: AUTH_FAIL/s1", wrong)
+tpm.fails("The third failed try: AUTH_FAIL/s1", wrong)
 reset()
-tpm("The right one: LOCKOUT").writing(FOURTH, b"x")
+tpm("The right password: LOCKOUT").writing(FOURTH, b"x")

@@ -4,18 +4,24 @@ largest body.
 
 from dataclasses import replace
 
-from tpmsim.model import state_text
+from tpmsim.model import sequence_text, state_text
+from tpmsim.model.hash_states import HmacState
 from tpmsim.model.image import DIGEST_AT_END, HEAD_BYTES
 from tpmsim.model.machine import SESSIONS
 from tpmsim.model.object_commands import OBJECTS
 from tpmsim.model.policy_state import Session, State
 from tpmsim.model.protection import LOCKOUT_AUTH
+from tpmsim.model.sequences import HmacSequence, SequenceObject, SEQUENCES
 from tpmsim.model.state_text import Layer
-from tpmsim.standard import AES, POLICY_SESSION, RH_LOCKOUT, SE_POLICY, SHA256, number, sized
+from tpmsim.standard import AES, DIGEST_BYTES, POLICY_SESSION, RH_LOCKOUT, SE_POLICY, SHA256
+from tpmsim.standard import number, sized
 from tests.images import image_bodies, worked_state
 
 HMAC, BOUND, OBJECT = 0x0200_0001, 0x0300_0002, 0x8000_0000
 MOST_TIME = 1000 * 2**32
+
+# The size of a layer without its sequence objects.
+LAYER_BYTES = 8 * (2 + SESSIONS)
 
 
 def largest():
@@ -29,7 +35,8 @@ def largest():
     device.sessions = {POLICY_SESSION << 24 | at: session for at in range(SESSIONS)}
     held = device.objects[image_bodies.FIRST]
     device.objects |= {OBJECT + at: held for at in range(OBJECTS)}
-    return device, Layer()
+    held = SequenceObject.of(b"", HmacSequence(HmacState.of_key(SHA256, b"")))
+    return device, Layer(sequences=[held] * SEQUENCES)
 
 
 def body_of(device, layer=None):
@@ -129,6 +136,28 @@ def place_pairs():
     yield "17 sessions", body[:at] + 17 * session + body[at + 1 + len(session) :], body
 
 
+def sequence_pairs():
+    """Yields bodies with an error in the slots for sequence objects."""
+    device, layer = worked_state.device(), worked_state.layer_with_sequences()
+    good, slots = body_of(device, layer), len(worked_state.written(worked_state.SEQUENCES))
+    front, hashing = good[:-slots], worked_state.sequences()[0]
+    at, behind = len(front), len(sequence_text.slots_text([hashing]))
+    yield "a sequence of kind 4", front + b"\4" + good[at + 1 :], good
+    hash_at = at + 1 + DIGEST_BYTES
+    yield "a sequence of the hash NULL", good[:hash_at] + b"\0\x10" + good[hash_at + 2 :], good
+    last = at + behind - 1
+    yield "data that begin in way 6", good[:last] + b"\6" + good[last + 1 :], good
+    yield "two slots for sequences", front + good[last + 1 :], good
+    yield "four slots for sequences", good + b"\0", good
+    yield "cut sequences", good[:-1], good
+    first = body_of(device, Layer(sequences=[hashing, None, None]))
+    yield "no sequence in three slots", first[: -behind - 2] + bytes(3), first
+    kind = at - LAYER_BYTES - 1
+    yield "a layer of kind 3", good[:kind] + b"\3" + good[kind + 1 :], good
+    yield "slots behind a layer of kind 1", good[:kind] + b"\1" + good[kind + 1 :], good
+    yield "no slots behind a layer of kind 2", front, good
+
+
 def pairs():
     """Yields the description of an error, the body with this error, and the most similar good body.
     """
@@ -146,5 +175,6 @@ def pairs():
     yield "a layer of 17 numbers", good[:-8], good
     yield "a layer of 19 numbers", good + number(0, 8), good
     yield "no byte for the layer", body_of(device)[:-1], body_of(device)
+    yield from sequence_pairs()
     yield "a byte behind", body_of(device) + b"\0", body_of(device)
     yield "no body", b"", body_of(device)

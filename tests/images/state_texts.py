@@ -9,6 +9,7 @@ unchanged.
 """
 
 import collections
+import hmac
 import pathlib
 import sys
 
@@ -18,6 +19,7 @@ from tpmsim.model.machine import Model
 from tpmsim.model.player import Player
 from tpmsim.standard import frames
 from tests.images import state_bodies, worked_state
+from tests.images.state_bodies import LAYER_BYTES
 
 SCRIPTS = "objects", "policies", "sessions"
 
@@ -65,6 +67,24 @@ def worked():
     print("the worked text is as it is written:", text == worked_state.written())
     device, layer = state_text.open_state(text)
     print("and is read:", state_text.state_text(device, layer) == text)
+    worked_sequences(text)
+
+
+def worked_sequences(text):
+    """Checks the state text of the same device with three sequence objects. Their fields are in a
+    file of their own; the byte that says that there is a layer is 2. The words of the HMAC's outer
+    hash are in no standard, so the HMAC is compared with that of another implementation.
+    """
+    layer = worked_state.layer_with_sequences()
+    slots, kind = worked_state.written(worked_state.SEQUENCES), -DIGEST_AT_END - LAYER_BYTES - 1
+    body = text[HEAD_BYTES:kind] + b"\2" + text[kind + 1 : -DIGEST_AT_END] + slots
+    written = state_text.framed(body)
+    same = state_text.state_text(worked_state.device(), layer) == written
+    print("with sequences, it is as it is written:", same)
+    device, layer = state_text.open_state(written)
+    print("and is read:", state_text.state_text(device, layer) == written)
+    found = layer.sequences[2].sequence.state.digest
+    print("and its HMAC is right:", found == hmac.digest(worked_state.KEY, b"", "sha256"))
 
 
 def version_1():

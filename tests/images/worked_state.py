@@ -1,13 +1,17 @@
 """The worked example of a state text, and its device. worked_state.txt lists the fields of the
 text. worked_state_1.txt lists the fields of a text of version 1 for the same device.
+worked_sequences.txt lists the fields of three sequence objects, which follow the layer.
 """
 
 import copy
 import functools
 import pathlib
 
+from tpmsim.model.hash_states import HmacState
 from tpmsim.model.player import Player
+from tpmsim.model.sequences import EventSequence, HashSequence, HmacSequence, SequenceObject
 from tpmsim.model.state_text import Layer, state_text
+from tpmsim.standard import number, SHA1, SHA256
 
 # At the end, Clock is three milliseconds ahead of Time. One authorization has failed, and
 # lockoutAuth is disabled. Of the three sessions, the first one was flushed, and the last one is a
@@ -44,6 +48,14 @@ do GetRandom 1
 
 FOLDER = pathlib.Path(__file__).parent
 FIELDS, FIELDS_1 = FOLDER / "worked_state.txt", FOLDER / "worked_state_1.txt"
+SEQUENCES = FOLDER / "worked_sequences.txt"
+
+# The message "abc" with its padding, which is one block (FIPS 180-4). The words after this block
+# are the digest of "abc".
+ABC = b"abc\x80" + bytes(52) + number(24, 8)
+
+# A key that has this block as the first block of an HMAC's inner hash.
+KEY = bytes(it ^ 0x36 for it in ABC)
 
 
 @functools.cache
@@ -62,6 +74,21 @@ def device():
 def layer():
     """Returns a completing layer with the saved context of one session."""
     return Layer(0x1122334455667788, 3, [0, 2] + [0] * 14)
+
+
+def sequences():
+    """Returns three sequence objects: of a hash, an event and an HMAC."""
+    return [
+        SequenceObject.of(b"pin", HashSequence.of(SHA1).after(b"\xff\x54")),
+        SequenceObject.of(b"", EventSequence().after(ABC + b"xy")),
+        SequenceObject.of(b"", HmacSequence(HmacState.of_key(SHA256, KEY))),
+    ]
+
+
+def layer_with_sequences():
+    found = layer()
+    found.sequences = sequences()
+    return found
 
 
 def text():

@@ -248,7 +248,7 @@ def value(files: Files) -> int:
 
 def main() -> None:
     program, folder, _, seconds, processes, seed, *words = sys.argv[1:]
-    files = Files(pathlib.Path(program).resolve(), pathlib.Path(folder).resolve())
+    files = Files.of(program, folder)
     host = Python(files)
     for act in (BEGIN, STARTUP, DEFINE, INCREMENT):
         does(host, act, FOLDER)

@@ -9,14 +9,8 @@ not possible in any of these states is wrong.
 from dataclasses import dataclass, replace
 from typing import Iterable, Iterator
 
-BEGIN, POWER, STARTUP, DEFINE, INCREMENT, READ = (
-    "begin",
-    "power",
-    "startup",
-    "define",
-    "increment",
-    "read",
-)
+BEGIN, POWER, STARTUP = "begin", "power", "startup"
+DEFINE, INCREMENT, READ = "define", "increment", "read"
 INDEX = "01000002"
 COMMANDS = {
     STARTUP: bytes.fromhex("80010000000c000001440000"),

@@ -9,9 +9,9 @@ followed by zeros. A name that was not synced may be lost, or may refer to an ea
 
 After each line of the log the test makes some folders as a crash may leave them, and another host
 opens them. With force=always each folder must contain the device that executed the answered
-operations, and perhaps the unanswered one. Otherwise it must contain one of the devices since the
-last power cycle. Only one in SHARE crashes is tested; with WORD, only crashes of hosts whose name
-contains it.
+operations, and perhaps the unanswered one. Without force=always each folder must contain one of the
+devices since the last power cycle. Only one in SHARE crashes is tested; with WORD, only crashes of
+hosts whose name contains it.
 """
 
 import ctypes
@@ -20,13 +20,13 @@ import pathlib
 import random
 import shutil
 import sys
-import tempfile
 from dataclasses import dataclass, field
 from typing import Callable, Iterator, Sequence
 
 from tests.keeping.counted import BEGIN, Counted, DEFINE, INCREMENT, POWER, READ, STARTUP, State
-from tests.keeping.each_call import said, seen, Start, Starts
+from tests.keeping.each_call import seen, Starts
 from tests.keeping.hosts import does, Files, Host, Module, Python, Refused, Run, Simulator
+from tests.keeping.trials import check_all, said, Start
 
 MOST_ZEROS, CHOICES = 5000, 3
 
@@ -179,6 +179,7 @@ class Case:
     """A host, its folder and device at the beginning, and the operations that it must do."""
 
     files: Files
+    room: pathlib.Path
     host: type[Host]
     start: Start
     script: Sequence[str]
@@ -219,24 +220,24 @@ class Case:
 
         self.plays(self.host(self.files, {"DISK_LOG": str(log)}), folder, mark)
 
-    def lines(self, room: pathlib.Path, folder: pathlib.Path) -> list[list[str]]:
+    def lines(self, folder: pathlib.Path) -> list[list[str]]:
         """Returns the log of the changes that the host makes to the folder, and of its answers."""
-        log = room / "log"
+        log = self.room / "log"
         log.unlink(missing_ok=True)
         runs = self.in_a_fork if self.host in (Module, Python) else self.as_a_program
         runs(folder, log)
         return [line.split() for line in log.read_text("ascii").splitlines()]
 
-    def check(self, room: pathlib.Path, share: int) -> tuple[int, int]:
+    def check(self, share: int) -> tuple[int, int]:
         """Tests one in every `share` crashes. Returns the number of tested crashes, and of wrong
         ones.
         """
-        folder, left = room / "state", room / "left"
+        folder, left = self.room / "state", self.room / "left"
         self.start.put(folder)
         disk = Disk(folder, folder.exists())
         allowed = Allowed(self.start.state, self.is_always)
         choices, crashes, wrongs = random.Random(self.label), 0, 0
-        lines = self.lines(room, folder)
+        lines = self.lines(folder)
         for number, line in enumerate(lines):
             if line[0] in ("asks", "answers"):
                 allowed.hears(*line)
@@ -271,7 +272,8 @@ class Case:
         return f"{state} is none of {sorted(allowed.states)}"
 
 
-def cases(files: Files, starts: Starts) -> Iterator[Case]:
+def cases(files: Files, room: pathlib.Path) -> Iterator[Case]:
+    starts = Starts.made(files, room)
     counts, new = (INCREMENT, READ, INCREMENT), (STARTUP, DEFINE, INCREMENT)
     cycles = (INCREMENT, POWER, STARTUP, INCREMENT, READ)
     hosts: list[tuple[type[Host], Sequence[str], bool]] = [
@@ -281,25 +283,17 @@ def cases(files: Files, starts: Starts) -> Iterator[Case]:
         (Simulator, (STARTUP, *cycles), True),
     ]
     for host, acts, is_always in hosts:
-        yield Case(files, host, starts.kept, acts, is_always)
-        yield Case(files, host, starts.new, new, is_always)
+        yield Case(files, room, host, starts.kept, acts, is_always)
+        yield Case(files, room, host, starts.new, new, is_always)
         if acts[0] == INCREMENT:
-            yield Case(files, host, starts.grown, counts, is_always)
+            yield Case(files, room, host, starts.grown, counts, is_always)
 
 
 def main() -> None:
     program, folder, path, share, *words = sys.argv[1:]
-    files = Files(pathlib.Path(program).resolve(), pathlib.Path(folder).resolve())
-    crashes = wrongs = 0
+    files = Files.of(program, folder)
     os.environ["LD_PRELOAD"] = str(pathlib.Path(path).resolve())
-    with tempfile.TemporaryDirectory() as name:
-        room = pathlib.Path(name).resolve()
-        for case in cases(files, Starts.made(files, room)):
-            if not words or words[0] in case.label:
-                more, wrong = case.check(room, int(share))
-                crashes, wrongs = crashes + more, wrongs + wrong
-    said(f"{crashes} crashes, {wrongs} wrong")
-    sys.exit(wrongs > 0)
+    check_all(lambda room: cases(files, room), share, *words, noun="crashes")
 
 
 if __name__ == "__main__":

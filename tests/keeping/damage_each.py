@@ -11,21 +11,12 @@ one in SHARE of these runs is made.
 import functools
 import pathlib
 import sys
-import tempfile
+from typing import Iterator
 
 from tests.keeping.counted import BEGIN, Counted, DEFINE, INCREMENT, POWER, STARTUP, State
-from tests.keeping.each_call import (
-    Meeting,
-    MOST_CALLS,
-    said,
-    seen,
-    Shim,
-    Start,
-    Told,
-    Trial,
-    VARIANTS,
-)
+from tests.keeping.each_call import seen, Trial
 from tests.keeping.hosts import does, Files, Host, Power, ProgramPower, Python, Refused
+from tests.keeping.trials import check_all, Meeting, Shim, Start, Told, Sweep
 
 FRONT = State(is_there=True, is_started=True, is_defined=True, count=1)
 
@@ -60,16 +51,18 @@ def made(files: Files, folder: pathlib.Path) -> None:
     journal.write_bytes(text)
 
 
-class Damaged:
+class Damaged(Sweep):
     """A damaged device, and a host that cuts off the damage."""
+
+    right = "whole, or as it was"
 
     def __init__(self, files: Files, host: type[Host], room: pathlib.Path, shim: Shim) -> None:
         self.files, self.make, self.shim = files, functools.partial(host, files), shim
+        self.label = host.name
         self.start, self.folder = Start("", FRONT, room / "damaged"), room / "state"
         self.journal = (room / "damaged" / "journal").read_bytes()
 
     def tries(self, meeting: Meeting) -> tuple[str, str]:
-        """Returns the call that failed, and a description of what is wrong."""
         self.start.put(self.folder)
         told = Told(Counted([FRONT]))
         Trial(self.make, (POWER,), str(self.folder), told, self.shim, meeting).as_a_program()
@@ -85,30 +78,16 @@ class Damaged:
         return met, "; ".join(told.strange)
 
 
+def cases(files: Files, room: pathlib.Path, shim: Shim) -> Iterator[Damaged]:
+    made(files, room / "damaged")
+    for host in (Cut, ProgramCut):
+        yield Damaged(files, host, room, shim)
+
+
 def main() -> None:
     program, folder, path, share = sys.argv[1:]
-    files = Files(pathlib.Path(program).resolve(), pathlib.Path(folder).resolve())
-    runs = wrongs = 0
-    with tempfile.TemporaryDirectory() as name:
-        room = pathlib.Path(name)
-        shim = Shim(pathlib.Path(path).resolve(), room / "report")
-        made(files, room / "damaged")
-        for host in (Cut, ProgramCut):
-            damaged, before = Damaged(files, host, room, shim), wrongs
-            for turn, variant in enumerate(VARIANTS):
-                for number in range(1 + turn % int(share), MOST_CALLS, int(share)):
-                    met, wrong = damaged.tries(Meeting(number, *variant))
-                    runs += 1
-                    if wrong:
-                        wrongs += 1
-                        said(f"{host.name}: {Meeting(number, *variant)}, {met}: {wrong}")
-                    if not met:
-                        break
-            print(
-                f"{host.name}: {'WRONG' if wrongs > before else 'whole, or as it was'}", flush=True
-            )
-    said(f"{runs} runs, {wrongs} wrong")
-    sys.exit(wrongs > 0)
+    files = Files.of(program, folder)
+    check_all(lambda room: cases(files, room, Shim(path, room)), share)
 
 
 if __name__ == "__main__":

@@ -12,151 +12,26 @@ number of runs.
 """
 
 import collections
-import ctypes
-import errno
 import functools
 import os
 import pathlib
 import select
-import shutil
 import signal
 import sys
-import tempfile
 import time
 from dataclasses import dataclass, field
-from enum import IntEnum
 from typing import Callable, Iterator, Self, Sequence
 
-from tests.keeping.counted import answer_of, BEGIN, Counted, DEFINE, INCREMENT, INITIALIZE, NOTHING
-from tests.keeping.counted import POWER, READ, STARTUP, State, UNWRITTEN
-from tests.keeping.hosts import does, Files, Host, Module, Power, ProgramPower, Python, Refused
-from tests.keeping.hosts import Run, Simulator
+from tests.keeping.counted import BEGIN, Counted, DEFINE, INCREMENT, NOTHING, POWER, READ, STARTUP
+from tests.keeping.counted import State
+from tests.keeping.hosts import does, Files, Host, Module, Power, ProgramPower, Python
+from tests.keeping.hosts import Refused, Run, Simulator
+from tests.keeping.trials import check_all, KILLS, Meeting, one_line, said, Shim, Start
+from tests.keeping.trials import state_of, Told, Sweep
 
-# The faults that failing.c can cause in a call.
-Act = IntEnum(
-    "Act",
-    "FAILS FAILS_ON STORMS DOES_AND_FAILS DOES_HALF IS_KILLED DOES_AND_IS_KILLED"
-    " DOES_HALF_AND_IS_KILLED",
-)
-ERRORS = [errno.EIO, errno.ENOSPC, errno.EINTR, errno.ENOMEM, errno.EMFILE, errno.EACCES]
-VARIANTS = [
-    *((Act.FAILS, it) for it in ERRORS),
-    (Act.FAILS_ON, errno.EIO),
-    (Act.FAILS_ON, errno.ENOSPC),
-    (Act.STORMS, errno.EINTR),
-    (Act.DOES_AND_FAILS, errno.EIO),
-    (Act.DOES_AND_FAILS, errno.EINTR),
-    (Act.DOES_HALF, 0),
-    (Act.IS_KILLED, 0),
-    (Act.DOES_AND_IS_KILLED, 0),
-    (Act.DOES_HALF_AND_IS_KILLED, 0),
-]
-KILLS = {Act.IS_KILLED, Act.DOES_AND_IS_KILLED, Act.DOES_HALF_AND_IS_KILLED}
-SECONDS, MOST_CALLS, PART_BYTES = 60, 2000, 65536
+SECONDS, PART_BYTES = 60, 65536
 GROWN_BYTES = 256 * 1024
 WELL, FAULT, KILLED = 0, 3, -signal.SIGKILL
-
-
-@dataclass(frozen=True)
-class Meeting:
-    """The number of the call that must fail, and the fault that it must have."""
-
-    number: int
-    act: Act
-    error: int
-
-    def __str__(self) -> str:
-        name = self.act.name.lower().replace("_", " ")
-        return f"call {self.number} {name} {errno.errorcode.get(self.error, '')}".strip()
-
-
-class Shim:
-    """Controls failing.c, in this process and in programs."""
-
-    def __init__(self, path: pathlib.Path, report: pathlib.Path) -> None:
-        self.path, self.report, self.library = path, report, ctypes.CDLL(None)
-        text, number = ctypes.c_char_p, ctypes.c_int
-        self.library.failing_begins.argtypes = [ctypes.c_long, number, number, text, text]
-
-    def begins(self, meeting: Meeting, part: str) -> None:
-        words = str(self.report).encode(), part.encode()
-        self.library.failing_begins(meeting.number, meeting.act, meeting.error, *words)
-
-    def goes_on(self, is_on: bool) -> None:
-        self.library.failing_goes_on(int(is_on))
-
-    def environment(self, meeting: Meeting) -> dict[str, str]:
-        told = f"{meeting.number} {meeting.act} {meeting.error} {self.report}"
-        return {"LD_PRELOAD": str(self.path), "FAILING": told}
-
-    def met(self) -> str:
-        """Returns the name of the call that failed, or an empty string if the host ended before that
-        call.
-        """
-        if not self.report.exists():
-            return ""
-        text = self.report.read_text("utf8").strip()
-        self.report.unlink()
-        return text
-
-
-@dataclass
-class Told:
-    """The reports of a run. `waiting` are operations that were requested and not answered yet.
-    `untold` are the messages of OSErrors that ended operations.
-    """
-
-    counted: Counted
-    waiting: list[str] = field(default_factory=list)
-    acts: list[str] = field(default_factory=list)
-    strange: list[str] = field(default_factory=list)
-    untold: list[str] = field(default_factory=list)
-
-    def asks(self, act: str) -> None:
-        self.waiting.append(act)
-
-    def answers(self, response: bytes) -> None:
-        """Records that all waiting operations were done, and that the last one had this response.
-        """
-        *before, last = self.waiting
-        self.waiting = []
-        self.counted.has(before)
-        self.acts.append(f"{last}={answer_of(last, response)}")
-        if not self.counted.answers(last, response):
-            self.strange.append("no device answers so")
-
-    def did(self) -> None:
-        """Records that all waiting operations were done."""
-        self.counted.has(self.waiting)
-        self.acts += self.waiting
-        self.waiting = []
-
-    def ends(self, how: str) -> None:
-        """Records that the waiting operations ended without an answer, so they may have been done.
-        """
-        if self.waiting:
-            self.acts.append(f"{'+'.join(self.waiting)}:{how}")
-            self.counted.may_have(self.waiting)
-        self.waiting = []
-
-    def hears(self, word: str, text: str) -> None:
-        """Applies a report of a child."""
-        if word == "asks":
-            self.asks(text)
-        elif word == "answers":
-            self.answers(bytes.fromhex(text))
-        elif word == "refuses":
-            self.ends(f"refused ({text})")
-        elif word == "untold":
-            self.ends(f"untold ({text})")
-            self.untold.append(text)
-        else:
-            self.ends("strange")
-            self.strange.append(text)
-
-
-def one_line(fault: object) -> str:
-    return str(fault).strip().replace("\n", ", ")
 
 
 class Child:
@@ -272,13 +147,7 @@ def seen(files: Files, folder: str) -> State:
     host = Python(files)
     host.begin(folder)
     try:
-        value = answer_of(READ, does(host, READ, folder))
-        is_started = value != INITIALIZE
-        if not is_started:
-            does(host, STARTUP, folder)
-            value = answer_of(READ, does(host, READ, folder))
-        count = value[1] if isinstance(value, tuple) else 0
-        return State(True, is_started, count > 0 or value == UNWRITTEN, count)
+        return state_of(lambda act: does(host, act, folder))
     finally:
         host.close()
 
@@ -289,23 +158,9 @@ def left_in(folder: str) -> list[str]:
 
 
 @dataclass(frozen=True)
-class Start:
-    """The folder that a host begins with, if any, and the state of its device."""
-
-    label: str
-    state: State
-    folder: pathlib.Path | None = None
-
-    def put(self, folder: pathlib.Path) -> None:
-        shutil.rmtree(folder, ignore_errors=True)
-        if self.folder:
-            shutil.copytree(self.folder, folder)
-
-
-@dataclass(frozen=True)
 class Starts:
-    """The three starting points: a device in a folder; one whose journal is so long that the next
-    command restarts it; and no device.
+    """The three starting points: a device in a folder; a device whose journal is so long that the
+    next command restarts the journal; and no device.
     """
 
     kept: Start
@@ -320,59 +175,50 @@ class Starts:
 
 
 @dataclass(frozen=True)
-class Case:
-    """A host, its folder and device at the beginning, and the operations that it must do."""
+class Case(Sweep):
+    """A host, its folder and device at the beginning, and the operations that it must do. `untold`
+    counts the calls whose failure ended an operation with an OSError.
+    """
 
     files: Files
+    room: pathlib.Path
+    shim: Shim
     host: type[Host]
     runs: Callable[[Trial], None]
     start: Start
     script: Sequence[str]
+    untold: collections.Counter[str] = field(default_factory=collections.Counter)
 
     @property
     def label(self) -> str:
         return f"{self.host.name}, {self.start.label}"
 
-    def tries(self, room: pathlib.Path, shim: Shim, meeting: Meeting) -> tuple[str, Told, str]:
-        """Returns the call that failed, the reports, and a description of what is wrong."""
-        folder = room / "state"
+    def tries(self, meeting: Meeting) -> tuple[str, str]:
+        folder = self.room / "state"
         self.start.put(folder)
         told = Told(Counted([self.start.state]))
         make = functools.partial(self.host, self.files)
-        self.runs(Trial(make, self.script, str(folder), told, shim, meeting))
-        met, left = shim.met(), left_in(str(folder))
+        self.runs(Trial(make, self.script, str(folder), told, self.shim, meeting))
+        met = self.shim.met()
+        self.untold.update([met.split(" ")[0]] if told.untold else [])
+        wrong = self.wrong(str(folder), told)
+        return met, wrong and f"{wrong}: {' '.join(told.acts)}"
+
+    def wrong(self, folder: str, told: Told) -> str:
+        left = left_in(folder)
         try:
-            state = seen(self.files, str(folder))
+            state = seen(self.files, folder)
         except Refused as fault:
-            return met, told, f"it does not open: {fault}; {left} is left"
+            return f"it does not open: {fault}; {left} is left"
         if state not in told.counted.states:
-            return met, told, f"{state} is none of {list(told.counted)}; {left} is left"
-        return met, told, "; ".join(told.strange)
+            return f"{state} is none of {list(told.counted)}; {left} is left"
+        return "; ".join(told.strange)
 
-    def check(self, room: pathlib.Path, shim: Shim, share: int) -> tuple[int, int]:
-        """Makes only one in `share` of the runs. Returns the number of runs made, and the number of
-        wrong runs.
-        """
-        runs, wrongs, untold = 0, 0, collections.Counter[str]()
-        for turn, variant in enumerate(VARIANTS):
-            for number in range(1 + turn % share, MOST_CALLS, share):
-                meeting = Meeting(number, *variant)
-                met, told, wrong = self.tries(room, shim, meeting)
-                runs += 1
-                untold.update([met.split(" ")[0]] if told.untold else [])
-                if wrong:
-                    wrongs += 1
-                    said(f"{self.label}: {meeting}, {met}: {wrong}: {' '.join(told.acts)}")
-                if not met:
-                    break
-        if untold:
-            said(f"{self.label}: OSError without a sentence: {dict(untold)}")
-        print(f"{self.label}: {'WRONG' if wrongs else 'as it was answered'}", flush=True)
-        return runs, wrongs
-
-
-def said(line: str) -> None:
-    print(line, file=sys.stderr, flush=True)
+    def check(self, share: int) -> tuple[int, int]:
+        counts = super().check(share)
+        if self.untold:
+            said(f"{self.label}: OSError without a sentence: {dict(self.untold)}")
+        return counts
 
 
 def made(files: Files, folder: pathlib.Path, least: int) -> State:
@@ -392,7 +238,8 @@ def made(files: Files, folder: pathlib.Path, least: int) -> State:
     return State(is_there=True, is_started=True, is_defined=True, count=count - 1)
 
 
-def cases(files: Files, starts: Starts) -> Iterator[Case]:
+def cases(files: Files, room: pathlib.Path, shim: Shim) -> Iterator[Case]:
+    starts = Starts.made(files, room)
     counts, new = (INCREMENT, READ, INCREMENT, READ), (STARTUP, DEFINE, INCREMENT, READ)
     cycles = (INCREMENT, POWER, STARTUP, INCREMENT, READ)
     fork, program = Trial.in_a_fork, Trial.as_a_program
@@ -405,26 +252,18 @@ def cases(files: Files, starts: Starts) -> Iterator[Case]:
         (ProgramPower, program, (POWER,)),
     ]
     for host, runs, acts in hosts:
-        yield Case(files, host, runs, starts.kept, acts)
+        of_host = functools.partial(Case, files, room, shim, host, runs)
+        yield of_host(starts.kept, acts)
         if POWER != acts[0]:
-            yield Case(files, host, runs, starts.new, new)
+            yield of_host(starts.new, new)
         if INCREMENT == acts[0]:
-            yield Case(files, host, runs, starts.grown, counts[:2])
+            yield of_host(starts.grown, counts[:2])
 
 
 def main() -> None:
     program, folder, path, share, *words = sys.argv[1:]
-    files = Files(pathlib.Path(program).resolve(), pathlib.Path(folder).resolve())
-    runs = wrongs = 0
-    with tempfile.TemporaryDirectory() as name:
-        room = pathlib.Path(name)
-        shim = Shim(pathlib.Path(path).resolve(), room / "report")
-        for case in cases(files, Starts.made(files, room)):
-            if not words or words[0] in case.label:
-                more, wrong = case.check(room, shim, int(share))
-                runs, wrongs = runs + more, wrongs + wrong
-    said(f"{runs} runs, {wrongs} wrong")
-    sys.exit(wrongs > 0)
+    files = Files.of(program, folder)
+    check_all(lambda room: cases(files, room, Shim(path, room)), share, *words)
 
 
 if __name__ == "__main__":

@@ -12,10 +12,10 @@ import pathlib
 import subprocess
 import warnings
 from dataclasses import dataclass
-from typing import IO, Iterator
+from typing import IO, Iterator, Self
 
 from tests.keeping.counted import BEGIN, COMMANDS, POWER
-from tpmsim.device import KeptDevice, SimulatorDevice
+from tpmsim.device import KeptDevice, SimulatorDevice, SwtpmDevice
 from tpmsim.device.base import DeviceEnded
 
 SECONDS, RESPONSE_BYTES, RC = 20, 4096, ctypes.c_uint32
@@ -27,6 +27,10 @@ class Files:
 
     program: pathlib.Path
     folder: pathlib.Path
+
+    @classmethod
+    def of(cls, program: str, folder: str) -> Self:
+        return cls(pathlib.Path(program).resolve(), pathlib.Path(folder).resolve())
 
     @property
     def module(self) -> pathlib.Path:
@@ -154,44 +158,49 @@ class Module(Host):
         return 0, ""
 
 
-class Python(Host):
-    """The Python package, whose class KeptDevice opens the device."""
+class OnDevice(Host):
+    """A host that a class of tpmsim.device uses. An exception of the types `ends` shows that the
+    host did not perform an operation.
+    """
 
-    name, part = "Python", "libtpmsim"
-
-    device: KeptDevice | None = None
+    ends: tuple[type[Exception], ...] = (DeviceEnded, OSError)
+    device: KeptDevice | SimulatorDevice | SwtpmDevice | None = None
 
     @property
     def is_open(self) -> bool:
         return self.device is not None
 
-    @property
-    def opened(self) -> KeptDevice:
-        assert self.device is not None
-        return self.device
+    @contextlib.contextmanager
+    def refusing(self) -> Iterator[None]:
+        """Converts exceptions of the types `ends` into Refused, with the reason."""
+        try:
+            yield
+        except self.ends as fault:
+            raise Refused(str(fault)) from fault
+
+    def execute(self, buffer: bytes) -> bytes:
+        with self.refusing():
+            return self.device.execute(buffer).response
+
+    def power(self) -> None:
+        with self.refusing():
+            self.device.power_cycle()
+
+
+class Python(OnDevice):
+    """The Python package, whose class KeptDevice opens the device."""
+
+    name, part, ends = "Python", "libtpmsim", (DeviceEnded, MemoryError)
 
     @contextlib.contextmanager
     def refusing(self) -> Iterator[None]:
-        """Converts DeviceEnded, BadImage, BadState and MemoryError into Refused, with the reason.
-        """
-        try:
-            with warnings.catch_warnings():
-                warnings.simplefilter("ignore", RuntimeWarning)
-                yield
-        except (DeviceEnded, MemoryError) as fault:
-            raise Refused(str(fault)) from fault
+        with super().refusing(), warnings.catch_warnings():
+            warnings.simplefilter("ignore", RuntimeWarning)
+            yield
 
     def begin(self, folder: str) -> None:
         with self.refusing():
             self.device = KeptDevice(folder)
-
-    def execute(self, buffer: bytes) -> bytes:
-        with self.refusing():
-            return self.opened.execute(buffer).response
-
-    def power(self) -> None:
-        with self.refusing():
-            self.opened.power_cycle()
 
     def close(self) -> tuple[int, str]:
         if self.device is not None:
@@ -276,16 +285,10 @@ class ProgramPower(Power):
         return [str(self.files.program), "power", folder]
 
 
-class Simulator(Run):
+class Simulator(OnDevice, Run):
     """tpmsim-simulator, with a client of its protocol. Beginning it powers the device on."""
 
     name, answers_all, comes_on = "the simulator", True, True
-    device: SimulatorDevice | None = None
-
-    @property
-    def served(self) -> SimulatorDevice:
-        assert self.device is not None
-        return self.device
 
     def words(self, folder: str) -> list[str]:
         files = [str(self.files.simulator), "--port", "0", "--state", folder, "--force", "always"]
@@ -298,21 +301,6 @@ class Simulator(Run):
             raise Refused("it does not serve")
         with self.refusing():
             self.device = SimulatorDevice(line[0].decode(), int(line[1]), SECONDS)
-
-    @contextlib.contextmanager
-    def refusing(self) -> Iterator[None]:
-        try:
-            yield
-        except (DeviceEnded, OSError) as fault:
-            raise Refused(str(fault)) from fault
-
-    def execute(self, buffer: bytes) -> bytes:
-        with self.refusing():
-            return self.served.execute(buffer).response
-
-    def power(self) -> None:
-        with self.refusing():
-            self.served.power_cycle()
 
     def close(self) -> tuple[int, str]:
         if self.device:

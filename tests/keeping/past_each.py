@@ -11,10 +11,12 @@ import functools
 import pathlib
 import sys
 import tempfile
+from typing import Iterator
 
 from tests.keeping.counted import BEGIN, Counted, NOTHING, POWER, STARTUP
-from tests.keeping.each_call import Act, Meeting, MOST_CALLS, Shim, Start, Told, Trial
+from tests.keeping.each_call import Trial
 from tests.keeping.hosts import does, Files, Host, Python, Refused
+from tests.keeping.trials import Act, Meeting, said, Shim, Start, sweep, Told
 from tpmsim.device import KeptDevice
 
 KEPT, PAST = 3, ["C", "B", "A"]
@@ -62,26 +64,29 @@ def wrong(host: Host, folder: pathlib.Path, journal: bytes) -> str:
     return "" if past in (["journal", "A", "B"], ["new", "journal", "A"]) else f"the past is {past}"
 
 
+def faults(files: Files, room: pathlib.Path, shim: Shim) -> Iterator[str]:
+    """Yields a description of what is wrong after each run; empty if nothing is."""
+    make, state, kept = functools.partial(KeepingPast, files), room / "state", room / "kept"
+    made(make(), kept)
+    start, journal = Start("", NOTHING, kept), (kept / "journal").read_bytes()
+
+    def tries(meeting: Meeting) -> tuple[str, str]:
+        start.put(state)
+        told = Told(Counted([NOTHING]))
+        Trial(make, (POWER,), str(state), told, shim, meeting).in_a_fork()
+        return shim.met(), wrong(make(), state, journal)
+
+    return sweep(tries, variants=VARIANTS)
+
+
 def main() -> None:
     program, folder, path = sys.argv[1:]
-    files = Files(pathlib.Path(program), pathlib.Path(folder))
-    make, wrongs = functools.partial(KeepingPast, files), 0
+    wrongs = 0
     with tempfile.TemporaryDirectory() as name:
         room = pathlib.Path(name)
-        shim, state = Shim(pathlib.Path(path).resolve(), room / "report"), room / "state"
-        made(make(), room / "kept")
-        start, journal = Start("", NOTHING, room / "kept"), (room / "kept/journal").read_bytes()
-        for variant in VARIANTS:
-            for number in range(1, MOST_CALLS):
-                start.put(state)
-                told, meeting = Told(Counted([NOTHING])), Meeting(number, *variant)
-                Trial(make, (POWER,), str(state), told, shim, meeting).in_a_fork()
-                met, fault = shim.met(), wrong(make(), state, journal)
-                if fault:
-                    wrongs += 1
-                    print(f"{meeting}, {met}: {fault}", file=sys.stderr)
-                if not met:
-                    break
+        for fault in filter(None, faults(Files.of(program, folder), room, Shim(path, room))):
+            wrongs += 1
+            said(fault)
     print("WRONG" if wrongs else "no journal of the past is lost")
     sys.exit(wrongs > 0)
 

@@ -14,20 +14,18 @@ describes what is wrong, and reports the number of runs, and of runs without a d
 import contextlib
 import os
 import pathlib
-import shutil
 import subprocess
 import sys
-import tempfile
 import time
 from dataclasses import dataclass, replace
 from typing import Iterator, Sequence
 
-from tests.keeping.counted import answer_of, BEGIN, COMMANDS, Counted, DEFINE, INCREMENT
-from tests.keeping.counted import INITIALIZE, NOTHING, POWER, READ, STARTUP, State, UNWRITTEN
-from tests.keeping.each_call import Meeting, MOST_CALLS, one_line, said, Shim, Told, VARIANTS
-from tests.keeping.hosts import Refused
+from tests.keeping.counted import BEGIN, COMMANDS, Counted, DEFINE, INCREMENT, NOTHING, POWER, READ
+from tests.keeping.counted import STARTUP, State
+from tests.keeping.hosts import OnDevice, Refused
+from tests.keeping.trials import check_all, Meeting, one_line, said, Shim, Start
+from tests.keeping.trials import state_of, Told, Sweep
 from tpmsim.device import SwtpmDevice
-from tpmsim.device.base import DeviceEnded
 from tpmsim.standard import number
 
 SECONDS, SUSPEND = 20, "suspend"
@@ -39,7 +37,7 @@ REMOVES_VOLATILE = 1
 FAILURE = bytes.fromhex("80010000000a00000101")
 
 
-class Swtpm:
+class Swtpm(OnDevice):
     """swtpm with the library in one folder, and its states in another. Its sockets and its log are
     next to the folder of the states.
     """
@@ -48,7 +46,6 @@ class Swtpm:
         self.library, self.folder, self.told = library, folder, told
         self.log = folder.with_suffix(".log")
         self.process: subprocess.Popen[bytes] | None = None
-        self.device: SwtpmDevice | None = None
 
     @property
     def is_running(self) -> bool:
@@ -59,14 +56,6 @@ class Swtpm:
         if self.device is None:
             raise Refused("there is no connection")
         return self.device
-
-    @contextlib.contextmanager
-    def refusing(self) -> Iterator[None]:
-        """Converts the end of a connection, and a refused request, into Refused."""
-        try:
-            yield
-        except (DeviceEnded, OSError) as fault:
-            raise Refused(str(fault)) from fault
 
     def start(self) -> None:
         """Starts swtpm, and connects to it."""
@@ -97,23 +86,15 @@ class Swtpm:
         if code:
             raise Refused(f"request {request} is refused with {code:#x}")
 
-    def begin(self, is_resumed: bool) -> None:
-        self.start()
-        self.tell(INIT, number(REMOVES_VOLATILE if is_resumed else 0, 4))
-
-    def execute(self, buffer: bytes) -> bytes:
-        with self.refusing():
-            return self.opened.execute(buffer).response
-
-    def does(self, act: str, is_resumed: bool) -> bytes:
+    def does(self, act: str, is_resumed: bool = False) -> bytes:
         """Performs an operation, and returns the response if it is a command."""
         if act == BEGIN:
-            self.begin(is_resumed)
+            self.start()
+            self.tell(INIT, number(REMOVES_VOLATILE if is_resumed else 0, 4))
         elif act == SUSPEND:
             self.tell(STORE_VOLATILE)
         elif act == POWER:
-            with self.refusing():
-                self.opened.power_cycle()
+            self.power()
         else:
             return self.execute(COMMANDS[act])
         return b""
@@ -138,26 +119,20 @@ class Swtpm:
 
 
 @dataclass(frozen=True)
-class Start:
+class SwtpmStart(Start):
     """The folder that swtpm begins with, and the state of its device, which may be suspended."""
 
-    label: str
-    state: State
-    folder: pathlib.Path | None = None
     is_suspended: bool = False
 
     def put(self, folder: pathlib.Path) -> None:
-        shutil.rmtree(folder, ignore_errors=True)
-        if self.folder:
-            shutil.copytree(self.folder, folder)
-        else:
-            folder.mkdir()
+        super().put(folder)
+        folder.mkdir(exist_ok=True)
 
 
 class Played:
     """The operations of a run, and the states that the device may have after them."""
 
-    def __init__(self, start: Start) -> None:
+    def __init__(self, start: SwtpmStart) -> None:
         self.told, self.is_resumed = Told(Counted([start.state])), start.is_suspended
         self.may_be_suspended, self.is_suspended = start.is_suspended, False
 
@@ -185,7 +160,7 @@ class Played:
     def suspend(self, swtpm: Swtpm) -> bool:
         self.may_be_suspended = True
         try:
-            swtpm.does(SUSPEND, False)
+            swtpm.does(SUSPEND)
         except Refused as fault:
             self.told.acts.append(f"{SUSPEND}:refused ({one_line(fault)})")
             return False
@@ -205,35 +180,34 @@ class Played:
 
 def seen(swtpm: Swtpm) -> State:
     """Starts swtpm, and returns the state of its device."""
-    swtpm.begin(False)
-    value = answer_of(READ, swtpm.execute(COMMANDS[READ]))
-    is_started = value != INITIALIZE
-    if not is_started:
-        swtpm.execute(COMMANDS[STARTUP])
-        value = answer_of(READ, swtpm.execute(COMMANDS[READ]))
-    count = value[1] if isinstance(value, tuple) else 0
-    return State(True, is_started, count > 0 or value == UNWRITTEN, count)
+    swtpm.does(BEGIN)
+    return state_of(swtpm.does)
 
 
-@dataclass(frozen=True)
-class Case:
-    """The folder that swtpm begins with, and the operations that it must do."""
+@dataclass
+class Case(Sweep):
+    """The folder that swtpm begins with, and the operations that it must do. `without` is the number
+    of runs that left no device.
+    """
 
     library: pathlib.Path
-    start: Start
+    room: pathlib.Path
+    shim: Shim
+    start: SwtpmStart
     script: Sequence[str]
+    without: int = 0
 
     @property
     def label(self) -> str:
         return f"swtpm, {self.start.label}"
 
-    def tries(self, room: pathlib.Path, shim: Shim, meeting: Meeting) -> tuple[str, str, str]:
-        """Returns the call that failed, a description of what is wrong, and the reason if there is
-        no device.
+    def tries(self, meeting: Meeting) -> tuple[str, str]:
+        """Returns the call that failed, and a description of what is wrong. If there is no device,
+        it says why.
         """
-        folder = room / "state"
+        folder = self.room / "state"
         self.start.put(folder)
-        told = {**shim.environment(meeting), "FAILING_IN": str(folder)}
+        told = {**self.shim.environment(meeting), "FAILING_IN": str(folder)}
         swtpm, again = Swtpm(self.library, folder, told), Swtpm(self.library, folder, {})
         played = Played(self.start)
         try:
@@ -242,33 +216,23 @@ class Case:
         except Refused as fault:
             played.told.strange.append(str(fault))
         acts = " ".join(played.told.acts)
-        met, wrong = shim.met(), "; ".join(played.told.strange)
+        met, wrong = self.shim.met(), "; ".join(played.told.strange)
         try:
             state = seen(again)
         except Refused as fault:
-            return met, wrong, f"{one_line(fault)}, {again.logged}: {acts}"
+            self.without += 1
+            if not wrong:
+                said(f"{self.label}: {meeting}, {met}: {one_line(fault)}, {again.logged}: {acts}")
+            return met, wrong
         finally:
             again.close()
         if state not in played.states:
             wrong = f"{wrong} {state} is none of {sorted(played.states)}"
-        return met, f"{wrong}: {acts}" if wrong else "", ""
+        return met, wrong and f"{wrong}: {acts}"
 
-    def check(self, room: pathlib.Path, shim: Shim, share: int) -> tuple[int, int]:
-        """Makes only one in `share` of the runs. Returns the number of runs made, and the number of
-        wrong runs.
-        """
-        runs, wrongs, without = 0, 0, 0
-        for turn, variant in enumerate(VARIANTS):
-            for at in range(1 + turn % share, MOST_CALLS, share):
-                meeting = Meeting(at, *variant)
-                met, wrong, why = self.tries(room, shim, meeting)
-                runs, wrongs, without = runs + 1, wrongs + bool(wrong), without + bool(why)
-                if wrong or why:
-                    said(f"{self.label}: {meeting}, {met}: {wrong or why}")
-                if not met:
-                    break
-        print(f"{self.label}: {'WRONG' if wrongs else 'as it was answered'}", flush=True)
-        said(f"{self.label}: {runs} runs, {without} without a device")
+    def check(self, share: int) -> tuple[int, int]:
+        runs, wrongs = super().check(share)
+        said(f"{self.label}: {runs} runs, {self.without} without a device")
         return runs, wrongs
 
 
@@ -278,33 +242,26 @@ def made(library: pathlib.Path, folder: pathlib.Path, is_suspended: bool) -> Sta
     swtpm = Swtpm(library, folder, {})
     acts = (BEGIN, STARTUP, DEFINE, INCREMENT, INCREMENT, *([SUSPEND] * is_suspended))
     for act in acts:
-        swtpm.does(act, False)
+        swtpm.does(act)
     swtpm.close()
     return State(True, is_suspended, True, 2)
 
 
-def cases(library: pathlib.Path, room: pathlib.Path) -> Iterator[Case]:
+def cases(library: pathlib.Path, room: pathlib.Path, shim: Shim) -> Iterator[Case]:
     kept, left = room / "kept", room / "left"
     counts, cycles = (INCREMENT, READ), (POWER, STARTUP, INCREMENT, READ)
-    ended = Start("a kept device", made(library, kept, False), kept)
-    suspended = Start("a suspended one", made(library, left, True), left, True)
-    yield Case(library, ended, (STARTUP, *counts, *cycles))
-    yield Case(library, Start("a new one", NOTHING), (STARTUP, DEFINE, *counts, SUSPEND))
-    yield Case(library, suspended, (*counts, SUSPEND))
+    ended = SwtpmStart("a kept device", made(library, kept, False), kept)
+    suspended = SwtpmStart("a suspended one", made(library, left, True), left, True)
+    new = SwtpmStart("a new one", NOTHING)
+    yield Case(library, room, shim, ended, (STARTUP, *counts, *cycles))
+    yield Case(library, room, shim, new, (STARTUP, DEFINE, *counts, SUSPEND))
+    yield Case(library, room, shim, suspended, (*counts, SUSPEND))
 
 
 def main() -> None:
-    library, path, share, *words = sys.argv[1:]
-    runs = wrongs = 0
-    with tempfile.TemporaryDirectory() as name:
-        room = pathlib.Path(name)
-        shim = Shim(pathlib.Path(path).resolve(), room / "report")
-        for case in cases(pathlib.Path(library).resolve(), room):
-            if not words or words[0] in case.label:
-                more, wrong = case.check(room, shim, int(share))
-                runs, wrongs = runs + more, wrongs + wrong
-    said(f"{runs} runs, {wrongs} wrong")
-    sys.exit(wrongs > 0)
+    folder, path, share, *words = sys.argv[1:]
+    library = pathlib.Path(folder).resolve()
+    check_all(lambda room: cases(library, room, Shim(path, room)), share, *words)
 
 
 if __name__ == "__main__":

@@ -166,7 +166,7 @@ class Lines:
 
 def at_random(folder):
     """Interrupts calls at random moments. If a call was answered, its command must have been
-    executed. If not, it may have been.
+    executed. If a call was not answered, its command may have been executed.
     """
     device, chance = started(folder), random.Random(1)
     before, counts = value_of(device), [0, 0]

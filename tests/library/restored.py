@@ -17,36 +17,12 @@ import tpmsim
 from tpmsim.caller import area, Caller, Refused
 from tpmsim.device import ChildDevice, DeviceEnded, LibraryDevice, ModelDevice
 from tpmsim.standard import CC, frames, SHA1, SHA256
+from tests.common.interrupts import interrupted
 
 PACKAGE, PCR, LEAST_LINES = str(pathlib.Path(tpmsim.__file__).parent), 16, 15
 EXTEND = frames.on_handle(
     CC.PCR_Extend, PCR, frames.digests((SHA1, bytes(20)), (SHA256, bytes(32)))
 )
-
-
-def interrupted(act, left):
-    """Interrupts `act` at the `left`-th line that it executes in the package. Returns whether it
-    executes that many lines.
-    """
-
-    def trace(frame, event, _):
-        nonlocal left
-        if not frame.f_code.co_filename.startswith(PACKAGE):
-            return None
-        if event == "line":
-            left -= 1
-            if not left:
-                raise KeyboardInterrupt
-        return trace
-
-    try:
-        sys.settrace(trace)
-        act()
-    except KeyboardInterrupt:
-        return True
-    finally:
-        sys.settrace(None)
-    return False
 
 
 def values(device):
@@ -96,7 +72,7 @@ class Played:
         said, count = set(), 1
         while True:
             self.further()
-            if not interrupted(lambda: act(self.device), count):
+            if not interrupted(lambda: act(self.device), count, PACKAGE):
                 break
             said.add(self.told(allowed))
             count += step

@@ -4,8 +4,9 @@
 
 LIBRARY is the shared library. Texts in which one byte is changed, with and without the right
 digest, are restored; with ONE_IN, only one in ONE_IN bytes is changed. A text that is refused must
-not change the device. A text that is accepted must be written again unchanged, or in version 2 if
-it has version 1. If it has no completing layer, the library adds a new one to the written text.
+not change the device. The library must write an accepted text again unchanged, or in version 2 if
+the text has version 1. If a text has no completing layer, the library adds a new layer to the
+written text.
 """
 
 import collections
@@ -20,7 +21,7 @@ from tpmsim.model.state_text import Layer
 from tests.common.shims import fail
 from tests.images import state_bodies, worked_state
 
-MOST_BYTES, RANDOM = 36_195, bytes(range(256))
+MOST_BYTES, RANDOM = 36_930, bytes(range(256))
 
 # The fault for each result of tpmsim_restore.
 FAULTS = {0: None}
@@ -112,11 +113,25 @@ def bodies(library: Library) -> None:
     print("each body with one thing wrong is refused, and the good one beside it restored")
 
 
+def with_sequences(library: Library) -> None:
+    """Restores a text with three sequence objects, and texts in which one byte of these objects is
+    changed.
+    """
+    text = state_text.state_text(worked_state.device(), worked_state.layer_with_sequences())
+    kind(library, "a text with sequences", [text])
+    slots = len(worked_state.written(worked_state.SEQUENCES))
+    body = text[HEAD_BYTES:-DIGEST_AT_END]
+    front, back = body[:-slots], body[-slots:]
+    bodies = (state_text.framed(front + it) for it in turned(back, 1))
+    kind(library, "a byte of its sequences turned, with the right digest", bodies)
+
+
 def main(path: str, one_in: str = "1") -> None:
     library = Library(path)
     kind(library, "a new device", [state_text.state_text(Model())])
     kind(library, "the largest", [state_text.state_text(*state_bodies.largest())])
     bodies(library)
+    with_sequences(library)
     kind(library, "a text of version 1", [worked_state.written(worked_state.FIELDS_1)])
     kinds(library, worked_state.text(), int(one_in))
 

@@ -1,5 +1,6 @@
-"""Writes lockout_commands.tpm. Each command that a protected entity authorizes. With maxTries 1,
-one wrong entry locks; then the right one is refused, whichever command had the wrong entry.
+"""Writes lockout_commands.tpm. Each command that a protected entity authorizes. maxTries is 1, so
+one wrong entry locks the entity. Then the right entry is refused, whichever command had the wrong
+one.
 """
 
 from tests.common.steps import PROTECTED, Steps
@@ -23,11 +24,11 @@ def tries(name, prepare, outcome="SUCCESS"):
     """
     tpm.chapter(f"TPM2_{name}.")
     if outcome == "SUCCESS":
-        tpm.accepted("Right", prepare())
+        tpm.accepted("The right entry", prepare())
     else:
         tpm.fails(f"Right, and refused for another reason: {outcome}", prepare())
-    tpm.fails("Wrong: AUTH_FAIL/s1", wrong(prepare()))
-    tpm.fails("Right: LOCKOUT", prepare())
+    tpm.fails("A wrong entry: AUTH_FAIL/s1", wrong(prepare()))
+    tpm.fails("The right entry: LOCKOUT", prepare())
     tpm("TPM2_Unseal of another entity: LOCKOUT").unsealing(SEALED)
     tpm.unlocks()
 
@@ -65,11 +66,11 @@ tries("PolicySecret of an object", lambda: tpm.secret(session, PIN, of=SEALED))
 
 tpm.chapter("NV indices.")
 for words, public in (
-    ("An ordinary one with locks", area(FIRST, BY_VALUE | LOCKS)),
+    ("An ordinary index with locks", area(FIRST, BY_VALUE | LOCKS)),
     ("A counter", counter(SECOND, BY_VALUE)),
     ("Bits", bits(THIRD, BY_VALUE)),
-    ("One that is extended", extended(FOURTH, BY_VALUE)),
-    ("One with a policy for TPM2_NV_ChangeAuth", area(FIFTH, BY_POLICY, auth_policy=CHANGING)),
+    ("An index that is extended", extended(FOURTH, BY_VALUE)),
+    ("An index with a policy for TPM2_NV_ChangeAuth", area(FIFTH, BY_POLICY, auth_policy=CHANGING)),
 ):
     tpm.define(words, public, auth=PIN)
 session = tpm.policy("A policy session")
@@ -91,19 +92,26 @@ tpm("The session is flushed").flush(session)
 
 change_auth()
 
-tpm.chapter("A command makes one try at most, whichever of its entries are wrong.")
+tpm.chapter("A command counts as one failed try at most, whichever of its entries are wrong.")
 first = tpm.start("A session that is bound to the sealed object", SEALED)
-second = tpm.start("One that is bound to an index", FIRST)
-third = tpm.start("One that is bound to nothing")
+second = tpm.start("A session that is bound to an index", FIRST)
+third = tpm.start("A session that is bound to nothing")
 tpm.set_protection("maxTries is 2", 2, 1000, 1000)
-tpm.fails("The first two are wrong: AUTH_FAIL/s1", wrong(wrong(tpm.reset(first, second, third)), 2))
-tpm("It is not locked: all three").reset(first, second, third)
+tpm.fails(
+    "The first two entries are wrong: AUTH_FAIL/s1",
+    wrong(wrong(tpm.reset(first, second, third)), 2),
+)
+tpm("Nothing is locked, and all three entries are right").reset(first, second, third)
 tpm.unlocks()
-tpm.fails("The second of three: AUTH_FAIL/s2", wrong(tpm.reset(third, first, second), 2))
-tpm("It is not locked: all three").reset(first, second, third)
-tpm.fails("The third of three: AUTH_FAIL/s3", wrong(tpm.reset(third, first, second), 3))
-tpm("It is locked: LOCKOUT").reset(third, first, second)
+tpm.fails(
+    "The second of three entries is wrong: AUTH_FAIL/s2", wrong(tpm.reset(third, first, second), 2)
+)
+tpm("Nothing is locked, and all three entries are right").reset(first, second, third)
+tpm.fails(
+    "The third of three entries is wrong: AUTH_FAIL/s3", wrong(tpm.reset(third, first, second), 3)
+)
+tpm("The entities are locked: LOCKOUT").reset(third, first, second)
 tpm.unlocks()
-said = tpm("The first is wrong and no try, and the others are: BAD_AUTH/s1")
+said = tpm("All entries are wrong, and only the first one is no attempt: BAD_AUTH/s1")
 said.fails(*(wrong(wrong(wrong(tpm.reset(third, first, second)), 2), 3) for _ in range(2)))
-tpm("It is not locked").reset(third, first, second)
+tpm("Nothing is locked").reset(third, first, second)

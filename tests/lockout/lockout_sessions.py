@@ -1,6 +1,7 @@
 """Writes lockout_sessions.tpm. Each way in which an entry can guess a protected authorization
 value: as the password, in the key of an HMAC, or because its session was bound to a protected
-entity at the start. maxTries is 1 here, so one wrong entry of any of these ways locks all of them.
+entity at the start. maxTries is 1 here, so one wrong entry in any of these ways locks all protected
+entities.
 """
 
 from dataclasses import dataclass
@@ -39,29 +40,37 @@ def ways(handle, use):
     entity, and the sessions that they use.
     """
     unbound = tpm.start("An HMAC session that is bound to nothing")
-    to_owner = tpm.start("One that is bound to TPM_RH_OWNER", RH_OWNER)
-    bound = tpm.start("One that is bound to the entity", handle)
-    to_lockout = tpm.start("One that is bound to TPM_RH_LOCKOUT", RH_LOCKOUT)
+    to_owner = tpm.start("A session that is bound to TPM_RH_OWNER", RH_OWNER)
+    bound = tpm.start("A session that is bound to the entity", handle)
+    to_lockout = tpm.start("A session that is bound to TPM_RH_LOCKOUT", RH_LOCKOUT)
     told = tpm.policy("A policy session")
-    bound_policy = tpm.policy("One that is bound to the entity", bind=handle)
+    bound_policy = tpm.policy("A session that is bound to the entity", bind=handle)
     sessions = unbound, to_owner, bound, to_lockout, told, bound_policy
 
-    by_lockout = "One that is bound to TPM_RH_LOCKOUT: the entity's value is in the key"
+    by_lockout = "A session that is bound to TPM_RH_LOCKOUT: the entity's value is in the key"
     value, password = partial(tpm.by_value, told), partial(tpm.by_password, told)
     on_owner = "The session that is bound to the entity, on TPM_RH_OWNER"
     return sessions, (
         Way("The password", lambda: use(PIN)),
         Way("An HMAC session that is bound to nothing", lambda: use(unbound)),
-        Way("One that is bound to TPM_RH_OWNER", lambda: use(to_owner)),
-        Way("One that is bound to the entity", lambda: use(bound)),
+        Way("A session that is bound to TPM_RH_OWNER", lambda: use(to_owner)),
+        Way("A session that is bound to the entity", lambda: use(bound)),
         Way(by_lockout, lambda: use(to_lockout)),
         Way("A policy session with TPM2_PolicyAuthValue", lambda: use(with_value(told)), 1, value),
         Way("A policy session with TPM2_PolicyPassword", lambda: use(in_plain(told)), 1, password),
         Way(on_owner, lambda: tpm.change_auth(RH_OWNER, OWNER, bound)),
         Way("On PCR 16", lambda: tpm.reset(bound)),
         Way("In an entry that authorizes nothing, alone", lambda: tpm.random(2, bound)),
-        Way("And after a password", lambda: tpm.reset(b"", bound), place=2),
-        Way("And after two", lambda: tpm.reset(to_owner, unbound, bound), place=3),
+        Way(
+            "In an entry that authorizes nothing, after a password",
+            lambda: tpm.reset(b"", bound),
+            place=2,
+        ),
+        Way(
+            "In an entry that authorizes nothing, after two other entries",
+            lambda: tpm.reset(to_owner, unbound, bound),
+            place=3,
+        ),
         Way("The policy session that is bound to it", lambda: tpm.random(2, bound_policy)),
         Way("And after a password", lambda: tpm.reset(b"", bound_policy), place=2),
     )
@@ -72,17 +81,17 @@ def check(name, handle, use):
     sessions, found = ways(handle, use)
     for way in found:
         tpm.chapter(f"{way.words}, {name}.")
-        tpm.accepted("Right", way.prepared())
+        tpm.accepted("The right entry", way.prepared())
         bent = wrong(way.prepared(), way.place)
-        tpm.refused(f"Wrong: that is a try: AUTH_FAIL/s{way.place}", bent)
-        tpm.refused("Now it is locked: right: LOCKOUT", way.prepare())
-        tpm.refused("And the password: LOCKOUT", use(PIN))
+        tpm.refused(f"A wrong entry is a failed try: AUTH_FAIL/s{way.place}", bent)
+        tpm.refused("The right entry during the lockout: LOCKOUT", way.prepare())
+        tpm.refused("The right password during the lockout: LOCKOUT", use(PIN))
         if way.tell:
             tpm.restarts(sessions[4])
         tpm.unlocks()
     # During the lockout, entries that involve no protected authorization value still work.
     unbound, to_owner, bound, to_lockout, told, bound_policy = sessions
-    tpm.chapter(f"What is no try, {name}.")
+    tpm.chapter(f"Entries that are no attempts, {name}.")
     others = (
         ("On TPM_RH_OWNER, bound to nothing", tpm.change_auth, (RH_OWNER, OWNER, unbound), 1),
         ("Bound to TPM_RH_OWNER", tpm.change_auth, (RH_OWNER, OWNER, to_owner), 1),
@@ -98,14 +107,14 @@ def check(name, handle, use):
     )
     for words, prepare, arguments, place in others:
         tpm.refused(f"{words}: wrong: BAD_AUTH/s{place}", wrong(prepare(*arguments), place))
-    tpm("It is not locked").random(2, bound)
-    tpm.refused("Now a try: AUTH_FAIL/s1", wrong(tpm.random(2, bound)))
+    tpm("The entity is not locked").random(2, bound)
+    tpm.refused("A failed try: AUTH_FAIL/s1", wrong(tpm.random(2, bound)))
     for words, prepare, arguments, _ in others:
         tpm.accepted(f"{words}: right", prepare(*arguments))
     tpm("Bound to TPM_RH_LOCKOUT, on PCR 16").reset(to_lockout)
     said = tpm("Bound to the entity, on TPM_RH_LOCKOUT: lockoutAuth is what is tried there")
     said.lock_reset(bound)
-    tpm("It is flushed").flush(unbound)
+    tpm("The session is flushed").flush(unbound)
     tpm.flushes("", *sessions[1:])
 
 
@@ -113,7 +122,9 @@ def policy_without_value():
     """If a policy demands no authorization value, its use is not an authorization attempt, whatever
     its HMAC is.
     """
-    tpm.chapter("A policy that asks for no authorization value, and a session bound to nothing.")
+    tpm.chapter(
+        "A policy that demands no authorization value, and a session that is bound to nothing."
+    )
     digest = policy.after_locality(SHA256, bytes(32), 1)
     tpm.define("An index with this policy", area(SECOND, BY_POLICY, auth_policy=digest))
     session = tpm.policy("A policy session")
@@ -123,15 +134,17 @@ def policy_without_value():
         return tpm.writing(SECOND, DATA, session)
 
     tpm.accepted("TPM2_NV_Write", use(session))
-    tpm.refused("With an hmac that is not asked for: BAD_AUTH/s1", wrong(use(session)))
+    tpm.refused("TPM2_NV_Write with an hmac that is not demanded: BAD_AUTH/s1", wrong(use(session)))
     tpm.restarts(session)
-    tpm.refused("A try at another entity: AUTH_FAIL/s1", tpm.writing(FIRST, DATA, b"x"))
-    tpm.accepted("It is open still", use(session))
+    tpm.refused("A failed try on another entity: AUTH_FAIL/s1", tpm.writing(FIRST, DATA, b"x"))
+    tpm.accepted("The policy session is still accepted", use(session))
     tpm.unlocks()
     bound = tpm.policy("A policy session that is bound to the other entity", bind=FIRST)
     tpm.accepted("TPM2_NV_Write", use(bound))
-    tpm.refused("A wrong hmac: a try at the other entity: AUTH_FAIL/s1", wrong(use(bound)))
-    tpm("It is locked: LOCKOUT").writing(SECOND, DATA, bound)
+    tpm.refused(
+        "A wrong hmac, which is a failed try on the other entity: AUTH_FAIL/s1", wrong(use(bound))
+    )
+    tpm("The right entry during the lockout: LOCKOUT").writing(SECOND, DATA, bound)
     tpm.unlocks()
     tpm("The index is undefined").undefining(SECOND, OWNER)
     tpm("The sessions are flushed").flush(session)
@@ -149,20 +162,20 @@ check("the NV index", FIRST, lambda use: tpm.writing(FIRST, DATA, use))
 check("the object", SEALED, lambda use: tpm.unsealing(SEALED, use))
 policy_without_value()
 
-tpm.chapter("A session stays one that was bound to a protected entity, for good.")
+tpm.chapter("A session that was bound to a protected entity stays such a session.")
 tpm.define("An index", area(SECOND, BY_VALUE), OWNER, auth=PIN)
 bound = tpm.start("A session that is bound to it", SECOND)
 tpm("The index is undefined").undefining(SECOND, OWNER)
 tpm("On PCR 16").reset(bound)
-tpm.refused("Wrong: that is a try: AUTH_FAIL/s1", wrong(tpm.reset(bound)))
+tpm.refused("A wrong entry is a failed try: AUTH_FAIL/s1", wrong(tpm.reset(bound)))
 tpm("It is locked: LOCKOUT").reset(bound)
 tpm.unlocks()
 said = tpm("The index again, with TPMA_NV_NO_DA")
 said.define(area(SECOND, BY_VALUE | NvAttribute.NO_DA), OWNER, auth=PIN)
 free = tpm.start("A session that is bound to it now", SECOND)
-tpm.refused("Wrong: no try: BAD_AUTH/s1", wrong(tpm.reset(free)))
-said = tpm("The first session on it: what that was bound to was protected: AUTH_FAIL/s1")
+tpm.refused("A wrong entry is no failed try: BAD_AUTH/s1", wrong(tpm.reset(free)))
+said = tpm("The first session, which was bound to a protected entity: AUTH_FAIL/s1")
 said.refused(wrong(tpm.writing(SECOND, DATA, bound)))
 tpm("Locked or not, the second session").writing(SECOND, DATA, free)
 tpm.unlocks()
-tpm.flushes("It is flushed", bound, free)
+tpm.flushes("The session is flushed", bound, free)

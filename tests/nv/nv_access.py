@@ -41,7 +41,7 @@ def each_asker(what, allowed, prepare):
 
 
 tpm.define("Another index, which can be used by its value", area(SECOND, BY_VALUE), auth=b"b")
-tpm("It is written").writing(SECOND, b"other...")
+tpm("The index is written").writing(SECOND, b"other...")
 for write, read, allowed in ALLOWED:
     tpm.chapter(f"{write.name} alone.")
     # All commands that change an index need the same attribute.
@@ -49,7 +49,7 @@ for write, read, allowed in ALLOWED:
         ("An ordinary index", area, lambda it, by: tpm.writing(it, b"x", by=by)),
         ("A counter", counter, tpm.incrementing),
         ("Bits", bits, lambda it, by: tpm.setting(it, 1, by=by)),
-        ("One that is extended", extended, lambda it, by: tpm.extending(it, b"x", by=by)),
+        ("An index that is extended", extended, lambda it, by: tpm.extending(it, b"x", by=by)),
     ):
         said = tpm(f"{name} with {write.name} and all that allow to read")
         said.define(make(FIRST, write | nv.READS | LOCKS), auth=b"a")
@@ -57,7 +57,7 @@ for write, read, allowed in ALLOWED:
         tpm.power_cycle()
         each_asker("its change", allowed, lambda by: change(FIRST, by=by))
         tpm.is_now("TPM2_NV_ReadPublic", FIRST, cleared=NvAttribute.WRITELOCKED)
-        tpm("It is undefined").undefining(FIRST)
+        tpm("The index is undefined").undefining(FIRST)
 for write, read, allowed in ALLOWED:
     tpm.chapter(f"{read.name} alone.")
     public = area(FIRST, read | nv.WRITES | LOCKS)
@@ -66,22 +66,24 @@ for write, read, allowed in ALLOWED:
     each_asker("TPM2_NV_Read", allowed, lambda by: tpm.reading(FIRST, 8, by=by))
     session = tpm.policy("A policy session")
     each_asker("TPM2_PolicyNV", allowed, lambda by: tpm.comparing(session, FIRST, b"w", by=by))
-    tpm("It is flushed").flush(session)
-    session = tpm.policy("Another one, for TPM2_PolicySecret")
+    tpm("The session is flushed").flush(session)
+    session = tpm.policy("Another session, for TPM2_PolicySecret")
     said = tpm(f"TPM2_PolicySecret of the index: {refusal('index', allowed)}")
     said.secret(session, tpm.auth_value(FIRST), of=FIRST)
-    tpm("It is flushed").flush(session)
+    tpm("The session is flushed").flush(session)
     each_asker("TPM2_NV_ReadLock", allowed, lambda by: tpm.read_locking(FIRST, by=by))
-    tpm("It is undefined").undefining(FIRST)
+    tpm("The index is undefined").undefining(FIRST)
 
 tpm.chapter("Another index as authHandle: its own attributes say whether it authorizes at all.")
 tpm.define("The index that is asked for", area(FIRST, BY_VALUE), auth=b"a")
-tpm.define("One that only a policy can use", area(THIRD, BY_POLICY), auth=b"c")
-tpm("The first is written").writing(FIRST, b"x")
-tpm("TPM2_NV_Read by the one: AUTH_UNAVAILABLE").reading(FIRST, 1, by=THIRD)
+tpm.define("An index that only a policy can use", area(THIRD, BY_POLICY), auth=b"c")
+tpm("The first index is written").writing(FIRST, b"x")
+tpm("TPM2_NV_Read by the index for policies: AUTH_UNAVAILABLE").reading(FIRST, 1, by=THIRD)
 tpm("TPM2_NV_Write by it: AUTH_UNAVAILABLE").writing(FIRST, b"x", by=THIRD)
-tpm("With its right value the other may not, either: NV_AUTHORIZATION").reading(FIRST, 1, by=SECOND)
-tpm("Nor with a wrong one: AUTH_FAIL/s1").reading(FIRST, 1, b"a", by=SECOND)
+tpm("The other index may not read either, with its right value: NV_AUTHORIZATION").reading(
+    FIRST, 1, by=SECOND
+)
+tpm("The other index with a wrong value: AUTH_FAIL/s1").reading(FIRST, 1, b"a", by=SECOND)
 
 tpm.chapter("authHandle and nvIndex of other kinds.")
 right = tpm.reading(SECOND, 8)
@@ -97,4 +99,4 @@ tpm.fails(case, *(right.but(handles=[SECOND, it]) for it in others))
 tpm("An index is undefined").undefining(FIRST)
 tpm.fails("authHandle that is not defined: HANDLE/h1", right.but(handles=[FIRST, SECOND]))
 tpm.fails("nvIndex that is not: HANDLE/h2", right.but(handles=[SECOND, FIRST]))
-tpm.fails("Both: HANDLE/h1", right.but(handles=[FIRST, FIRST]))
+tpm.fails("Both handles do not exist: HANDLE/h1", right.but(handles=[FIRST, FIRST]))

@@ -33,7 +33,7 @@ def raw(text):
 
 
 def handles():
-    tpm.chapter("Who defines indices: the owner and the platform.")
+    tpm.chapter("The owner and the platform can define indices.")
     case = "TPM_RH_ENDORSEMENT, TPM_RH_LOCKOUT, TPM_RH_NULL and TPM_RS_PW: VALUE/h1"
     others = RH_ENDORSEMENT, RH_LOCKOUT, RH_NULL, frames.RS_PW
     tpm.fails(case, *(tpm.defining(area(), b"", by=it) for it in others))
@@ -44,12 +44,14 @@ def handles():
     fitting("By the owner", area())
     case = "By the platform, with PLATFORMCREATE"
     fitting(case, area(attributes=BY_OWNER | CREATED), by=RH_PLATFORM)
-    unfitting("By the owner, with it: ATTRIBUTES/p2", area(attributes=BY_OWNER | CREATED))
-    unfitting("By the platform, without it: ATTRIBUTES/p2", area(), by=RH_PLATFORM)
+    unfitting(
+        "By the owner, with PLATFORMCREATE: ATTRIBUTES/p2", area(attributes=BY_OWNER | CREATED)
+    )
+    unfitting("By the platform, without PLATFORMCREATE: ATTRIBUTES/p2", area(), by=RH_PLATFORM)
     tpm('ownerAuth becomes "abc"').change_auth(RH_OWNER, b"abc", b"")
     tpm("By the empty password: BAD_AUTH/s1").defining(area(), b"")
-    fitting("By the right one", area())
-    tpm("It is empty again").change_auth(RH_OWNER, b"", b"abc")
+    fitting("By the right password", area())
+    tpm("ownerAuth is empty again").change_auth(RH_OWNER, b"", b"abc")
 
 
 def sizes():
@@ -93,9 +95,9 @@ empty = sized(b"")
 case = "publicInfo that is cut: before its size, within it, and within its bytes: INSUFFICIENT/p2"
 tpm.fails(case, *(raw(empty + it) for it in (b"", b"\0", good[:-1], b"\xff\xff")))
 text = area().text
-said = tpm("Its size does not reach to the end of its fields: SIZE/p2")
+said = tpm("The size of publicInfo is too small for its fields: SIZE/p2")
 said.fails(*(raw(empty + sized(text[:length])) for length in range(len(text))))
-said = tpm("Its size reaches beyond them, or dataSize is after it: SIZE/p2")
+said = tpm("The size of publicInfo is too large, or dataSize is after publicInfo: SIZE/p2")
 said.fails(raw(empty + sized(text + b"\0")), raw(empty + sized(text[:-2]) + text[-2:]))
 tpm.fails("A byte after publicInfo: SIZE", raw(empty + good + b"\0"))
 others = 0, 0x0000_0001, 0x0200_0001, RH_OWNER, 0x8100_0001, 0xFFFF_FFFF
@@ -147,7 +149,7 @@ for each in (0x0100_0000, 0x0140_0001, 0x01C0_0000, 0x01FF_FFFF):
 tpm.define("01000001", area())
 unfitting("The same, or with anything else in it: NV_DEFINED", area(), counter())
 unfitting("Also by the platform: NV_DEFINED", area(attributes=BY_OWNER | CREATED), by=RH_PLATFORM)
-tpm("It is undefined").undefining(FIRST)
+tpm("The index is undefined").undefining(FIRST)
 
 tpm.chapter("There are at most 64 indices, by whomever they are defined.")
 every = range(FIRST, FIRST + 64)
@@ -156,12 +158,12 @@ for index in every:
     by, created = (RH_PLATFORM, CREATED) if index % 2 else (RH_OWNER, 0)
     tpm.define(words.get(index, ""), area(index, BY_OWNER | created), by=by)
 unfitting("A 65th, of eight bytes or of none: NV_SPACE", area(ANOTHER), area(ANOTHER, size=0))
-unfitting("One that is there: NV_DEFINED", area(FIRST + 1))
+unfitting("An index that exists: NV_DEFINED", area(FIRST + 1))
 tpm.power_cycle()
-unfitting("One more after a power cycle: NV_SPACE", area(ANOTHER))
-tpm("One is undefined").undefining(FIRST + 7)
-tpm.define("And another one defined", area(ANOTHER))
-unfitting("But no second one: NV_SPACE", area(FIRST + 7))
+unfitting("One more index after a power cycle: NV_SPACE", area(ANOTHER))
+tpm("One index is undefined").undefining(FIRST + 7)
+tpm.define("Another index is defined", area(ANOTHER))
+unfitting("A second index cannot be defined: NV_SPACE", area(FIRST + 7))
 for index in (*every, ANOTHER):
     if index != FIRST + 7:
         by = RH_PLATFORM if index in every and index % 2 else RH_OWNER
@@ -177,7 +179,7 @@ unfitting("A ninth, of a byte: NV_SPACE", area(FIRST + 8, size=1))
 for index, half in halves:
     what = "All are written, each in two halves" if (index, half) == (FIRST, 0) else ""
     tpm(what).writing(index, bytes([index & 0xFF]) * 1024, offset=half)
-unfitting("Another one, of a byte: NV_SPACE", area(FIRST + 8, size=1))
+unfitting("Another index, of a byte: NV_SPACE", area(FIRST + 8, size=1))
 tpm("The second is undefined").undefining(FIRST + 1)
 unfitting("One of 2,049 bytes: SIZE/p2", area(FIRST + 8, size=2049))
 tpm.define("Two of 1,024 bytes are defined", area(FIRST + 8, size=1024))

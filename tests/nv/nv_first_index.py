@@ -14,7 +14,7 @@ assert defining.buffer() == bytes.fromhex(
 )
 
 tpm.define("TPM2_NV_DefineSpace by the owner, whose value is empty", PUBLIC, auth=b"a")
-tpm.fails("The same again: NV_DEFINED", defining)
+tpm.fails("TPM2_NV_DefineSpace of the same index again: NV_DEFINED", defining)
 tpm.is_now("TPM2_NV_ReadPublic, which needs no authorization", FIRST)
 tpm("TPM2_NV_Read before the first write: NV_UNINITIALIZED").reading(FIRST, 8)
 
@@ -28,12 +28,12 @@ tpm.is_now("TPM2_NV_ReadPublic: it has WRITTEN now, and so another Name", FIRST)
 tpm("TPM2_NV_Write of eight bytes at offset 1: NV_RANGE").writing(FIRST, bytes(8), offset=1)
 tpm("TPM2_NV_WriteLock, without WRITEDEFINE and WRITE_STCLEAR: ATTRIBUTES/h2").write_locking(FIRST)
 tpm("TPM2_NV_ReadLock, without READ_STCLEAR: ATTRIBUTES/h2").read_locking(FIRST)
-tpm.read("It is unchanged", FIRST, b"\xff\xff\x5a\xff\xff\xff\xff\xff")
+tpm.read("The public area is unchanged", FIRST, b"\xff\xff\x5a\xff\xff\xff\xff\xff")
 
-tpm.chapter("It is written piece by piece.")
+tpm.chapter("The index is written piece by piece.")
 for what, data, offset in (
-    ("At the end", b"z", 7),
-    ("At the beginning", b"abc", 0),
+    ("TPM2_NV_Write at the end", b"z", 7),
+    ("TPM2_NV_Write at the beginning", b"abc", 0),
     ("Across what is written", b"BCD", 1),
     ("No bytes, in the middle", b"", 4),
     ("No bytes, after the last", b"", 8),
@@ -59,12 +59,12 @@ tpm.fails(
 tpm.chapter("Passwords, and the owner, who has neither OWNERWRITE nor OWNERREAD.")
 tpm("A wrong password of what is protected from guessing: AUTH_FAIL/s1").reading(FIRST, 8, b"b")
 tpm("The empty password: AUTH_FAIL/s1").writing(FIRST, b"x", b"")
-tpm.read("The right one with zeros after it", FIRST, WHOLE, b"a\0\0")
+tpm.read("The right password with zeros after it", FIRST, WHOLE, b"a\0\0")
 tpm("TPM2_NV_Read by the owner: NV_AUTHORIZATION").reading(FIRST, 8, by=RH_OWNER)
 tpm("TPM2_NV_Write by the owner: NV_AUTHORIZATION").writing(FIRST, b"x", by=RH_OWNER)
 tpm.fails("No sessions: AUTH_MISSING", tpm.reading(FIRST, 8).but(entries=[]))
 
-tpm.chapter("It outlives a power cycle.")
+tpm.chapter("The index survives a power cycle.")
 tpm.power()
 tpm("TPM2_NV_Read before TPM2_Startup: INITIALIZE").reading(FIRST, 8)
 tpm.startup()
@@ -72,5 +72,5 @@ tpm.read("TPM2_NV_Read", FIRST, WHOLE)
 tpm.is_now("TPM2_NV_ReadPublic", FIRST)
 tpm("TPM2_NV_UndefineSpace by the owner").undefining(FIRST)
 tpm("TPM2_NV_ReadPublic: HANDLE/h1").index_public(FIRST)
-tpm.define("It is defined again, and empty", PUBLIC)
+tpm.define("The index is defined again, and empty", PUBLIC)
 tpm("TPM2_NV_Read: NV_UNINITIALIZED").reading(FIRST, 8)

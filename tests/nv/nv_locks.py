@@ -58,10 +58,10 @@ def define(attributes, make=area):
 def defined(attributes, make=area):
     define(attributes, make)
     yield
-    tpm("It is undefined").undefining(FIRST)
+    tpm("The index is undefined").undefining(FIRST)
 
 
-tpm.chapter("What may be locked: neither attribute says what the other does.")
+tpm.chapter("Which locks an index allows: neither attribute affects the other lock.")
 for attributes in (0, CLEARED, READ_CLEAR, READ_CLEAR | CLEARED):
     with defined(attributes):
         write_lock("TPM2_NV_WriteLock: ATTRIBUTES/h2")
@@ -73,32 +73,32 @@ tpm.chapter("WRITEDEFINE.")
 for more in (0, WRITE_CLEAR):
     with defined(DEFINE | more):
         takes(write, write_lock)
-        is_now("It has WRITELOCKED")
+        is_now("The index has WRITELOCKED")
         takes(not_written, read)
         write_lock("TPM2_NV_WriteLock again")
         start()
-        is_now("It is locked after a start, too")
+        is_now("The index is locked after a start, too")
         takes(not_written, read)
 
 tpm.chapter("WRITEDEFINE, locked before it is written: only until the next start.")
 with defined(DEFINE):
     takes(write_lock, not_written, without_data, start)
-    is_now("It is not locked any more", WRITE_LOCKED)
+    is_now("The index is not locked any more", WRITE_LOCKED)
     takes(write, start)
-    is_now("What was not locked is not")
+    is_now("An index that was not locked is not locked")
     write("TPM2_NV_Write again")
 
 tpm.chapter("WRITE_STCLEAR.")
 for before in ([write], []):
     with defined(WRITE_CLEAR):
         takes(*before, write_lock, not_written, start)
-        is_now("After a start it is open", WRITE_LOCKED)
+        is_now("After a start the index is not locked", WRITE_LOCKED)
         takes(write, read)
 
 tpm.chapter("READ_STCLEAR.")
 with defined(READ_CLEAR):
     read_lock("TPM2_NV_ReadLock before it is written")
-    is_now("It has READLOCKED")
+    is_now("The index has READLOCKED")
     not_read("TPM2_NV_Read: that it is locked is found before that it is not written: NV_LOCKED")
     write("TPM2_NV_Write, which this lock does not mind")
     not_read()
@@ -107,10 +107,10 @@ with defined(READ_CLEAR):
     is_now("After a start it is open", READ_LOCKED)
     takes(read, read_lock, not_read)
 
-tpm.chapter("Both, and each without the other.")
+tpm.chapter("Both locks, and each lock without the other.")
 with defined(WRITE_CLEAR | READ_CLEAR):
     takes(write, read_lock, write_lock, not_read, not_written, start)
-    is_now("After a start both are open", WRITE_LOCKED | READ_LOCKED)
+    is_now("After a start neither lock is set", WRITE_LOCKED | READ_LOCKED)
     takes(write_lock, read, start)
     is_now("After a start", WRITE_LOCKED)
     takes(read_lock, write)
@@ -124,31 +124,33 @@ for make, change, name in (
     with defined(CLEARED, make):
         tpm.does(name, change())
         start()
-        is_now("It is not written", WRITTEN)
+        is_now("The index is not written", WRITTEN)
         without_data()
         tpm.does(name, change())
-        is_now("It is written")
+        is_now("The index is written")
 
-tpm.chapter("What was written partly before is not there in the next first write.")
+tpm.chapter("A partial write before the start has no effect on the next first write.")
 with defined(CLEARED):
     tpm("TPM2_NV_Write of two bytes").writing(FIRST, b"ab", by=RH_OWNER)
     start()
     tpm("TPM2_NV_Write at 6").writing(FIRST, b"yz", offset=6, by=RH_OWNER)
     tpm.read("TPM2_NV_Read", FIRST, b"\xff" * 6 + b"yz", by=RH_OWNER)
 
-tpm.chapter("CLEAR_STCLEAR with WRITEDEFINE: as it is not written any more, it is open.")
+tpm.chapter(
+    "CLEAR_STCLEAR with WRITEDEFINE: the index is not written any more, so it is not locked."
+)
 with defined(CLEARED | DEFINE):
     takes(write, write_lock, not_written, start)
-    is_now("It has neither WRITTEN nor WRITELOCKED", WRITTEN | WRITE_LOCKED)
+    is_now("The index has neither WRITTEN nor WRITELOCKED", WRITTEN | WRITE_LOCKED)
     write()
 
-tpm.chapter("With all of them.")
+tpm.chapter("An index with all these attributes.")
 with defined(CLEARED | DEFINE | WRITE_CLEAR | READ_CLEAR):
     takes(write, write_lock, read_lock, not_written, not_read, start)
-    is_now("It is as defined", WRITTEN | WRITE_LOCKED | READ_LOCKED)
+    is_now("The index is as it was defined", WRITTEN | WRITE_LOCKED | READ_LOCKED)
     takes(without_data, write, read)
 
-tpm.chapter("It is TPM2_Startup that opens, not the power; what is not started cannot be asked.")
+tpm.chapter("TPM2_Startup clears the locks, not the power cycle.")
 with defined(WRITE_CLEAR | READ_CLEAR | CLEARED):
     takes(write, write_lock, tpm.power)
     tpm("TPM2_NV_ReadPublic: INITIALIZE").index_public(FIRST)
@@ -158,14 +160,14 @@ with defined(WRITE_CLEAR | READ_CLEAR | CLEARED):
     tpm("TPM2_Startup(CLEAR) on a device that is started: INITIALIZE").starting(CLEAR)
     is_now("Changes nothing")
 
-tpm.chapter("A lock is that of one index.")
+tpm.chapter("A lock affects only one index.")
 define(WRITE_CLEAR | READ_CLEAR)
-tpm.define("Another one", area(SECOND, BY_OWNER | WRITE_CLEAR | READ_CLEAR))
+tpm.define("Another index", area(SECOND, BY_OWNER | WRITE_CLEAR | READ_CLEAR))
 takes(write, write_lock, read_lock)
 write("TPM2_NV_Write of the other", SECOND)
 tpm.read("TPM2_NV_Read of it", SECOND, DATA, by=RH_OWNER)
 takes(not_written, not_read)
 tpm("TPM2_NV_UndefineSpace of what is locked").undefining(FIRST)
 define(WRITE_CLEAR | READ_CLEAR)
-is_now("It is open when it is defined again")
+is_now("The index is not locked when it is defined again")
 takes(write, read)

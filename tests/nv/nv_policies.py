@@ -84,7 +84,7 @@ for algorithm, name in HASHES:
         wrong = others_in(tpm.writing(FIRST, DATA, use), 1)
         tpm.fails("TPM2_NV_Write by a wrong value: AUTH_FAIL/s1", wrong)
         tpm("TPM2_NV_Write").writing(FIRST, DATA, Use(session, demand=use.demand))
-        tpm.digest_is("It counts once", session, zeros(session))
+        tpm.digest_is("The assertion counts once", session, zeros(session))
         tpm("TPM2_NV_Read: POLICY_FAIL/s1").reading(FIRST, 8, Use(session, demand=use.demand))
         tpm.read("TPM2_NV_Read", FIRST, DATA, tell(session))
     tpm.undefines(FIRST)
@@ -152,14 +152,18 @@ tpm("TPM2_NV_Write, with the value in both keys").writing(FIRST, DATA, tpm.by_va
 tpm("Once more, with its data encrypted").writing(FIRST, DATA, tpm.by_value(session, DECRYPTS))
 said = tpm("TPM2_NV_Read by the password, with what is read encrypted")
 said.read(FIRST, DATA, tpm.by_password(session, ENCRYPTS))
-tpm("It ends with the command").writing(FIRST, DATA, tpm.by_value(session, 0))
-tpm("It is no more: REFERENCE_H0").get_digest(session)
+tpm("The session ends with the command").writing(FIRST, DATA, tpm.by_value(session, 0))
+tpm("The session no longer exists: REFERENCE_H0").get_digest(session)
 tpm.undefines(FIRST)
 
 tpm.chapter("The policy is that of the index that authorizes, and of no other entity.")
 tpm.define("An index", area(FIRST, BY_POLICY | BY_OWNER, auth_policy=BY_KNOWING), auth=b"a")
-tpm.define("Another one with the same", area(SECOND, BY_POLICY, auth_policy=BY_KNOWING), auth=b"a")
-tpm.define("A third one with another", area(THIRD, BY_POLICY, auth_policy=bytes(32)), auth=b"a")
+tpm.define(
+    "Another index with the same policy", area(SECOND, BY_POLICY, auth_policy=BY_KNOWING), auth=b"a"
+)
+tpm.define(
+    "A third index with another policy", area(THIRD, BY_POLICY, auth_policy=bytes(32)), auth=b"a"
+)
 session = tpm.policy("A policy session")
 tpm("The third, whose policy is zeros, asks for no assertion").writing(THIRD, DATA, session)
 tpm("The third by another digest: POLICY_FAIL/s1").writing(THIRD, DATA, tpm.by_value(session))
@@ -172,8 +176,10 @@ for words, asker in (
 trial = tpm.trial("A trial session")
 tpm("TPM2_PolicyAuthValue").auth_value_told(trial)
 tpm("By it: ATTRIBUTES/s1").writing(FIRST, DATA, trial)
-tpm("Also when nothing can: ATTRIBUTES/s1").writing(FIRST, DATA, trial, by=RH_OWNER)
+tpm("A trial session fails even if nothing else can authorize: ATTRIBUTES/s1").writing(
+    FIRST, DATA, trial, by=RH_OWNER
+)
 tpm("The first is undefined: its policy is nobody's").undefining(FIRST)
-tpm("The second").writing(SECOND, DATA, tpm.by_value(session))
+tpm("The second index").writing(SECOND, DATA, tpm.by_value(session))
 said = tpm("TPM2_NV_Write through the session, which then returns to its start")
 said.writing(THIRD, DATA, session)

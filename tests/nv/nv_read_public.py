@@ -16,14 +16,14 @@ for algorithm, name in HASHES:
         (f"An index of {name} with a policy", with_policy),
         ("One of no bytes", area(0x01FF_FFFF, algorithm=algorithm, size=0)),
         ("A counter", counter(FIRST, algorithm=algorithm)),
-        ("One that is extended", extended(FIRST, algorithm=algorithm)),
+        ("An index that is extended", extended(FIRST, algorithm=algorithm)),
     ):
         tpm.define(what, public)
         answer = tpm("TPM2_NV_ReadPublic").index_public(public.index)
         text = number(public.index, 4) + number(algorithm, 2) + number(public.attributes, 4)
         text += sized(public.auth_policy) + number(public.data_size, 2)
         assert answer == sized(text) + sized(number(algorithm, 2) + digest(algorithm, text))
-        tpm("It is undefined").undefining(public.index)
+        tpm("The index is undefined").undefining(public.index)
 
 tpm.chapter("Attributes that come and go, and the Name with them.")
 tpm.define("An index with WRITE_STCLEAR and READ_STCLEAR", area(FIRST, BY_OWNER | LOCKS))
@@ -46,7 +46,9 @@ assert tpm.names[FIRST] in names
 tpm.chapter("With sessions, which authorize nothing.")
 tpm.define("Another index", area(SECOND, BY_VALUE), auth=b"a")
 plain = tpm.start("A session that is bound to nothing", bind=RH_NULL)
-encrypting = tpm.start("One that is bound to the other index, with AES", bind=SECOND, aes=True)
+encrypting = tpm.start(
+    "A session that is bound to the other index, with AES", bind=SECOND, aes=True
+)
 tpm.is_now("With both", SECOND, plain, encrypting)
 tpm.is_now("The public area encrypted", SECOND, encrypting.encrypting, plain)
 tpm("With a password: HANDLE/s1").index_public(SECOND, b"a")

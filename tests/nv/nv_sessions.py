@@ -150,7 +150,7 @@ for index, make in ((FIRST, area), (SECOND, extended), (THIRD, bits), (FOURTH, c
     tpm.define(what, make(index, BY_VALUE), owner.decrypting, auth=b"hidden")
 tpm("The value is the one that was sent: TPM2_NV_Write").writing(FIRST, b"x")
 session = tpm.start("A session that is bound to the first index, with AES", bind=FIRST, aes=True)
-plain = tpm.start("One that is bound to nothing, with AES", aes=True)
+plain = tpm.start("A session that is bound to nothing, with AES", aes=True)
 for name, use in (("the bound session", session), ("the other", plain)):
     tpm(f"TPM2_NV_Write with its data encrypted by {name}").writing(FIRST, DATA, use.decrypting)
     tpm.read("TPM2_NV_Read with its answer encrypted", FIRST, DATA, use.encrypting)

@@ -1,6 +1,6 @@
-"""Writes nv_types.tpm. Each type of index allows one change: an ordinary one is written, a counter
-incremented, bits are set, and the others are extended. Every other change is refused, before the
-first one and after it.
+"""Writes nv_types.tpm. Each type of index allows one change: an ordinary index is written, a
+counter is incremented, bits are set, and an extended index is extended. Every other change is
+refused, before and after the first write.
 """
 
 from tests.common.vocabulary import area, bits, BY_OWNER, counter, digest, extended, FIRST, number
@@ -40,13 +40,13 @@ for index, (fitting, (name, make, value)) in enumerate(zip(CHANGES, TYPES), FIRS
     others(index, fitting)
     said = tpm("TPM2_NV_Read: it is not written yet: NV_UNINITIALIZED")
     said.reading(index, len(value), by=RH_OWNER)
-    tpm.is_now("It has none of the attributes of later", index)
+    tpm.is_now("The index has none of the attributes that writes and locks set", index)
     tpm.does(fitting, CHANGES[fitting](index))
     tpm.read("TPM2_NV_Read", index, value, by=RH_OWNER)
-    tpm.is_now("It has WRITTEN", index)
+    tpm.is_now("The index has WRITTEN", index)
     others(index, fitting)
 
-    tpm.read("It is unchanged", index, value, by=RH_OWNER)
+    tpm.read("The data are unchanged", index, value, by=RH_OWNER)
     said = tpm("TPM2_NV_WriteLock, which none of the attributes allows: ATTRIBUTES/h2")
     said.write_locking(index, by=RH_OWNER)
     tpm("Nor TPM2_NV_ReadLock: ATTRIBUTES/h2").read_locking(index, by=RH_OWNER)

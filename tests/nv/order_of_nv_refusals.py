@@ -106,7 +106,7 @@ def define_space():
         case("2,048 bytes, for which there is no space", "NV_SPACE", defined(NEW), none),
         case("With nothing wrong", "SUCCESS", defined(NEW, size=4), none),
     )
-    tpm("It is undefined").undefining(NEW)
+    tpm("The index is undefined").undefining(NEW)
 
 
 def change_auth():
@@ -125,7 +125,7 @@ def change_auth():
 
     both = prepared()
     absent = both.but(entries=[others_in(both, 1).entries[0], ABSENT_SESSION])
-    tpm.refused("The last entry is not there: REFERENCE_S1", absent)
+    tpm.refused("The last session does not exist: REFERENCE_S1", absent)
     trial = Use(tpm.trial("A trial session"), shows_empty_key=True)
     case = "A trial session, on an index without a policy: ATTRIBUTES/s1"
     both_wrong(case, first=trial, index=ORDINARY)
@@ -133,7 +133,7 @@ def change_auth():
     both_wrong("A policy session, on an index without a policy: AUTH_UNAVAILABLE", index=ORDINARY)
     tpm("TPM2_PolicyPCR of no PCRs").pcrs(told, [])
     policy_in_order(told, both_wrong)
-    tpm.refused("The last one is: BAD_AUTH/s2", others_in(prepared(), 2))
+    tpm.refused("The last entry is wrong: BAD_AUTH/s2", others_in(prepared(), 2))
     for words, parameters in (
         ("newAuth is cut: INSUFFICIENT/p1", cut),
         ("It has 33 bytes: SIZE/p1", sized(bytes(33)) + b"\0"),
@@ -146,8 +146,7 @@ def change_auth():
 
 
 def policy_in_order(told, both_wrong):
-    """Makes assertions in a policy session. `both_wrong` is the outcome if both entries are wrong.
-    """
+    """Makes assertions in a policy session. `both_wrong` is the outcome if both entries are wrong."""
 
     def tell_code(code):
         tpm(f"TPM2_PolicyCommandCode of TPM2_{code.name}").command_code(told, code)

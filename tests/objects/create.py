@@ -36,12 +36,12 @@ for what, public, data in (
     ("An HMAC key", hmac_key(), b"key"),
     ("A restricted HMAC key", RESTRICTED_KEY, b"key"),
     ("An AES key to decrypt, which is not restricted", aes_key(ObjectAttribute.DECRYPT), bytes(16)),
-    ("One to encrypt and decrypt", aes_key(), bytes(16)),
+    ("An AES key to encrypt and decrypt", aes_key(), bytes(16)),
 ):
     with tpm.held(what, public, data=data) as handle:
         refused("As a parent: TYPE/h1", under(handle))
 
-tpm.chapter("What is created is new, as its seed is drawn: the same template twice.")
+tpm.chapter("Each created object is new, since its seed is drawn: the same template twice.")
 first = tpm.create("Sealed data", parent, sealed(), data=b"secret")
 second = tpm.create("Once more", parent, sealed(), data=b"secret")
 assert first.public.unique != second.public.unique
@@ -75,7 +75,7 @@ for what, public, data, key_bytes in (
 
 tpm.chapter("The nonces of sessions are drawn after them.")
 session = tpm.start("A session", aes=True)
-other = tpm.start("And another")
+other = tpm.start("Another session")
 tpm.create("TPM2_Create with both", parent, storage_key(), session, other)
 ranks = "first", "second", "third"
 long = [tpm.start(f"With a nonce of 32 bytes, the {it}", size=32, aes=True) for it in ranks]
@@ -111,7 +111,7 @@ for hierarchy, name in HIERARCHIES:
     assert fields.sized() == tpm.names[handle]
     qualified = digest(SHA256, number(hierarchy, 4) + tpm.names[handle])
     assert fields.sized() == number(SHA256, 2) + qualified and fields.sized() == b"label"
-    tpm.flush_objects("It is flushed", handle)
+    tpm.flush_objects("The object is flushed", handle)
 for what, pcrs in (
     ("PCR 0 and 17 of the SHA-256 bank", [(SHA256, [0, 17])]),
     ("PCR 17 of the SHA-1 bank, and PCR 0 of the SHA-256 bank", [(SHA1, [17]), (SHA256, [0])]),

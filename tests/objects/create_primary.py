@@ -29,7 +29,7 @@ assert mac(SHA256, b"Jefe", QUESTION) in answer
 said = tpm("With SHA-1, which is not its scheme's: VALUE/p2")
 said.raw(on_handle(CC.HMAC, FIRST, sized(QUESTION) + number(SHA1, 2)))
 tpm.raw("TPM2_Unseal: it is a key: ATTRIBUTES/h1", on_handle(CC.Unseal, FIRST))
-tpm("It is flushed").flush(FIRST)
+tpm("The object is flushed").flush(FIRST)
 
 tpm.chapter("primaryHandle.")
 others = RH_LOCKOUT, frames.RS_PW, 0, 0x0100_0000, 0x0200_0000, 0x0300_0000
@@ -57,7 +57,7 @@ for algorithm, hash_name in HASHES:
         names.add(tpm.names[first])
         public, qualified = tpm.read_public("TPM2_ReadPublic", second)
         assert qualified[2:] == digest(algorithm, number(hierarchy, 4) + public.name)
-        tpm.flush_objects("Both are flushed", first, second)
+        tpm.flush_objects("Both objects are flushed", first, second)
 assert len(names) == 2 * len(HIERARCHIES)
 
 tpm.chapter("Whatever is another in inSensitive or inPublic gives another object.")
@@ -100,7 +100,7 @@ tpm("35 bytes of outsideInfo: SIZE/p3").primary(RH_OWNER, storage_key(), outside
 case = "16 banks, the most that there may be, and one more: SIZE/p4"
 tpm(case).primary(RH_OWNER, storage_key(), pcrs=17 * [(SHA1, [])])
 creates("16 of them", RH_OWNER, storage_key(), pcrs=16 * [(SHA256, [23])])
-tpm.flush_objects("It is flushed", FIRST)
+tpm.flush_objects("The object is flushed", FIRST)
 whole = tpm.primary(RH_OWNER, storage_key())
 tpm.says("A byte after creationPCR: SIZE", whole.but(parameters=whole.parameters + b"\0"))
 

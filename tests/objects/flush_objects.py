@@ -24,7 +24,7 @@ tpm.says(case, *map(tpm.flush, (0x8100_0000, 0x81FF_FFFF)))
 parent = tpm.create_primary("A storage key, 80000000", RH_OWNER, storage_key())
 made = tpm.create("TPM2_Create of sealed data", parent, sealed(), data=b"secret")
 for place in range(1, PLACES):
-    is_at(place, tpm.load("" if place > 1 else "It is loaded seven times", parent, made))
+    is_at(place, tpm.load("" if place > 1 else "The object is loaded seven times", parent, made))
 tpm("A ninth object: OBJECT_MEMORY").primary(RH_OWNER, storage_key())
 tpm.says("Numbers past the eight: HANDLE/p1", *map(tpm.flush, ABSENT[2:]))
 said = tpm("With sessions (tag 8002): AUTH_CONTEXT")
@@ -38,11 +38,11 @@ for places in ((7,), (0,), (3, 1), (2, 5, 4), (6, 0, 7)):
         words = f"8000000{place}" if place else NEEDLESS
         tpm.flush_objects(words, FIRST + place)
         tpm("Once more: HANDLE/p1").flush(FIRST + place)
-        tpm("It is no more: REFERENCE_H0").public(FIRST + place)
+        tpm("The object no longer exists: REFERENCE_H0").public(FIRST + place)
     for place in sorted(places):
         said = tpm(f"TPM2_CreatePrimary: it is 8000000{place}")
         is_at(place, said.create_primary(RH_NULL, hmac_key(), data=b"key"))
-    tpm("And no more: OBJECT_MEMORY").primary(RH_NULL, hmac_key(), data=b"key")
+    tpm("There is no free slot: OBJECT_MEMORY").primary(RH_NULL, hmac_key(), data=b"key")
 
 tpm.chapter("All of them.")
 tpm.flush_objects("From the last to the first", *range(FIRST + 7, FIRST - 1, -1))

@@ -67,7 +67,7 @@ refused(words, *(tpm.hmac(key, b"text", it) for it in (0x000C, 0x0005, 0, 0xFFFF
 cut("A byte after it: SIZE", whole.parameters + b"\0")
 tpm.needs_entries(CC.HMAC, key, whole.parameters)
 refused("By another value: BAD_AUTH/s1", tpm.hmac(key, b"text", SHA256, b"b"))
-tpm.flush_objects("It is flushed", key)
+tpm.flush_objects("The object is flushed", key)
 
 tpm.chapter("Not every object is a key for it.")
 for what, public, data, outcome in (

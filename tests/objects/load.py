@@ -28,12 +28,12 @@ first = tpm.load("TPM2_Load: it is 80000001", parent, made)
 second = tpm.load("Once more: it is 80000002, and has the same Name", parent, made)
 assert (first, second) == (0x8000_0001, 0x8000_0002)
 tpm.unseal('TPM2_Unseal of the first, by "child"', first, b"secret")
-tpm.unseal("Of the second", second, b"secret")
+tpm.unseal("TPM2_Unseal of the second object", second, b"secret")
 refused("By the value of the parent: BAD_AUTH/s1", tpm.unsealing(second, b"parent"))
 tpm.flush_objects("The first is flushed", first)
-refused("It is no more: REFERENCE_H0", tpm.unsealing(first, b"child"))
+refused("The object no longer exists: REFERENCE_H0", tpm.unsealing(first, b"child"))
 tpm.unseal("The second is", second, b"secret")
-tpm.flush_objects("It is flushed", second)
+tpm.flush_objects("The object is flushed", second)
 session = tpm.start("An HMAC session, bound to the parent", bind=parent, algorithm=SHA1)
 with tpm.loaded("TPM2_Load by it", parent, made, session) as by_session:
     refused("Sealed data are no parent: TYPE/h1", tpm.loading(by_session, made))
@@ -44,7 +44,7 @@ with tpm.held("Another primary key", storage_key(unique=b"twin"), user_auth=b"pa
 same = tpm.owned("The same primary key once more", storage_key(), user_auth=b"parent")
 loaded = tpm.load("TPM2_Load under it", same, made)
 tpm.unseal("TPM2_Unseal", loaded, b"secret")
-tpm.flush_objects("Both are flushed", loaded, same)
+tpm.flush_objects("Both objects are flushed", loaded, same)
 said = tpm("The same template in TPM_RH_ENDORSEMENT")
 with said.held(storage_key(), hierarchy=RH_ENDORSEMENT, user_auth=b"parent") as alien:
     refused("TPM2_Load under it: INTEGRITY/p1", tpm.loading(alien, made))
@@ -94,7 +94,7 @@ with tpm.loaded("TPM2_Load", parent, longest) as handle:
 tpm.chapter("Objects of each type.")
 for what, public, data in (
     ("An HMAC key that is given", hmac_key(), b"key"),
-    ("One that is generated, of SHA-1", hmac_key(attributes=GENERATED, scheme=SHA1), b""),
+    ("An HMAC key that is generated, of SHA-1", hmac_key(attributes=GENERATED, scheme=SHA1), b""),
     ("A storage key", storage_key(), b""),
     ("A storage key with nameAlg SHA-1", storage_key(SHA1), b""),
     ("Sealed data with nameAlg SHA-1", sealed(SHA1), b"secret"),
@@ -112,5 +112,5 @@ for place in range(1, 8):
     assert tpm.load("" if place > 1 else "Seven more", parent, made) == 0x8000_0000 + place
 refused("The ninth: OBJECT_MEMORY", tpm.loading(parent, made))
 tpm.flush_objects("The fourth is flushed", 0x8000_0003)
-assert tpm.load("Its place is taken again", parent, made) == 0x8000_0003
-refused("And there is none: OBJECT_MEMORY", tpm.loading(parent, made))
+assert tpm.load("The freed slot is used again", parent, made) == 0x8000_0003
+refused("There is no free slot: OBJECT_MEMORY", tpm.loading(parent, made))

@@ -20,9 +20,9 @@ twin = tpm.owned("Other sealed data with the same value", sealed(), user_auth=PI
 
 for algorithm, hash_name in reversed(HASHES):
     tpm.chapter(f"Sessions with {hash_name}.")
-    unbound = tpm.start("One that is bound to nothing", algorithm=algorithm)
-    bound = tpm.start("One that is bound to the object", bind=handle, algorithm=algorithm)
-    owner = tpm.start("One that is bound to TPM_RH_OWNER", bind=RH_OWNER, algorithm=algorithm)
+    unbound = tpm.start("A session that is bound to nothing", algorithm=algorithm)
+    bound = tpm.start("A session that is bound to the object", bind=handle, algorithm=algorithm)
+    owner = tpm.start("A session that is bound to TPM_RH_OWNER", bind=RH_OWNER, algorithm=algorithm)
     for what, session in (
         ("By the first", unbound),
         ("By the one that is bound to it: its key is the session's alone", bound),
@@ -32,14 +32,14 @@ for algorithm, hash_name in reversed(HASHES):
         said = tpm(f"{what}: without an hmac, and with a wrong one: BAD_AUTH/s1")
         said.refused(right.but_entry(1, hmac=b""), right.but_entry(1, hmac=bytes(32)))
         tpm.accepted("TPM2_Unseal", right)
-        tpm.refused("The same buffer again: BAD_AUTH/s1", right)
+        tpm.refused("The same buffer is sent again: BAD_AUTH/s1", right)
         tpm.unseal("A new one", handle, SECRET, session)
     with tpm.breaking(key=lambda use, handle: use.session.key + PIN):
         tpm("By the bound one, with the value in the key: BAD_AUTH/s1").unsealing(handle, bound)
     tpm.unseal("The bound one authorizes the other object, too", twin, SECRET, bound)
     with tpm.breaking(key=lambda use, handle: use.session.key):
         tpm("But with that one's value in the key: BAD_AUTH/s1").unsealing(twin, bound)
-    tpm("And a PCR").reset(bound)
+    tpm("The same session authorizes a PCR").reset(bound)
 
     tpm.chapter("The hash of a command has the object's Name in it, and not its handle.")
     said = tpm("An hmac for the one, with the handle of the other: BAD_AUTH/s1")
@@ -54,11 +54,13 @@ for algorithm, hash_name in reversed(HASHES):
     said = tpm("An hmac for the first, with the handle of the second")
     said.accepted(prepared.but(handles=[again]))
     prepared = tpm.unsealing(handle, bound)
-    tpm.accepted("So it is with the one that is bound to the first", prepared.but(handles=[again]))
-    tpm.unseal("It is bound to the second as well", again, SECRET, bound)
+    tpm.accepted(
+        "The same with the session that is bound to the first object", prepared.but(handles=[again])
+    )
+    tpm.unseal("The session is bound to the second object as well", again, SECRET, bound)
 
     tpm.chapter("The object is flushed, and loaded again.")
-    tpm.flush_objects("Both are flushed", handle, again)
+    tpm.flush_objects("Both objects are flushed", handle, again)
     tpm("The session that is bound to it lives on").reset(bound)
     tpm("But there is no object: REFERENCE_H0").prepare(CC.Unseal, [handle], b"", bound)
     alien = tpm.owned("Another object takes the place of one", sealed(), user_auth=PIN, data=b"x")
@@ -67,12 +69,12 @@ for algorithm, hash_name in reversed(HASHES):
     handle = tpm.load("TPM2_Load of the object", parent, made)
     assert handle != alien
     tpm.unseal("To this it is bound: its key is the session's alone", handle, SECRET, bound)
-    tpm.flush_objects("The other is flushed", alien)
+    tpm.flush_objects("The other object is flushed", alien)
     tpm.flushes("A session is flushed", unbound, bound, owner)
 
 tpm.chapter("TPM2_StartAuthSession: bind is an object.")
 start = tpm.prepare(CC.StartAuthSession, *start_auth_session(bytes(16)))
-said = tpm("One that is not there: REFERENCE_H1")
+said = tpm("An object that does not exist: REFERENCE_H1")
 absent = 0x8000_0006, 0x8000_0007, 0x8000_0008, 0x80FF_FFFF
 said.says(*(start.but(handles=[RH_NULL, it]) for it in absent))
 tpm.says("A persistent one: HANDLE/h2", start.but(handles=[RH_NULL, 0x8100_0000]))
@@ -90,8 +92,8 @@ for what, public, data in (
 tpm.chapter("A wrong entry is a try if it uses the value of an object without noDA.")
 guarded = tpm.owned("Such an object", sealed(attributes=PROTECTED), user_auth=PIN, data=SECRET)
 plain = tpm.start("A session that is bound to nothing")
-to_guarded = tpm.start("One that is bound to this object", bind=guarded)
-to_open = tpm.start("One that is bound to an object with noDA", bind=handle)
+to_guarded = tpm.start("A session that is bound to this object", bind=guarded)
+to_open = tpm.start("A session that is bound to an object with noDA", bind=handle)
 
 
 def wrong(prepared):
@@ -119,7 +121,7 @@ tpm.refused(case, wrong(tpm.random(1, to_guarded)))
 said = tpm("Of the session that is bound to the one with noDA: BAD_AUTH/s1")
 said.refused(wrong(tpm.random(1, to_open)))
 tpm.flush_objects("The object is flushed", guarded)
-said = tpm("It is still a try of the session that was bound to it: AUTH_FAIL/s1")
+said = tpm("A wrong hmac of the session that was bound to it is still a failed try: AUTH_FAIL/s1")
 said.refused(wrong(tpm.random(1, to_guarded)))
 tpm.flushes("A session is flushed", plain, to_guarded, to_open)
 
@@ -154,7 +156,9 @@ for algorithm, hash_name in reversed(HASHES):
     tpm.flushes("A session is flushed", session, bound)
 
 tpm.chapter("Three sessions at once.")
-first, second, third = (tpm.start("One with AES", bind=it, aes=True) for it in (handle, twin, 10))
+first, second, third = (
+    tpm.start("A session with AES", bind=it, aes=True) for it in (handle, twin, 10)
+)
 said = tpm("The first authorizes, the second encrypts")
 said.unseal(handle, SECRET, first, second.encrypting, third)
 key = tpm.owned("An HMAC key", hmac_key(), third, first.decrypting, second.encrypting, data=b"k")

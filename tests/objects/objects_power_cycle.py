@@ -52,7 +52,7 @@ tpm("TPM2_Startup(STATE), while no state is saved: VALUE/p1").starting(STATE)
 start("The second start, with other random bytes.", bytes(range(64, 128)))
 tpm.forget(*handles)
 tpm.says("The objects are gone: REFERENCE_H0", *map(tpm.public, handles))
-tpm.says("They cannot be flushed: HANDLE/p1", *map(tpm.flush, handles))
+tpm.says("The objects cannot be flushed: HANDLE/p1", *map(tpm.flush, handles))
 
 again, _ = primaries()
 for hierarchy, _ in HIERARCHIES:
@@ -61,7 +61,7 @@ second_tickets = tickets()
 assert first_tickets[RH_OWNER] == second_tickets[RH_OWNER]
 assert first_tickets[RH_NULL] != second_tickets[RH_NULL]
 
-tpm.chapter("What was created before the power cycle is loaded under the same primary object.")
+tpm.chapter("Objects created before the power cycle are loaded under the same primary object.")
 for hierarchy, name in HIERARCHIES:
     said = tpm(f"The storage key in {name}")
     with said.held(storage_key(), hierarchy=hierarchy, flushed="The parent is flushed") as handle:

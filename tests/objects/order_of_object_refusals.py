@@ -23,7 +23,7 @@ def general_refusals(code, handle, cut, uses):
     for words, text in (
         ("Half a handle, and no sessions (tag 8001): INSUFFICIENT/h1", b"\x80\0"),
         ("A handle of another kind, and no sessions: VALUE/h1", number(other, 4)),
-        ("An object that is not there, and no sessions: REFERENCE_H0", number(0x8000_0007, 4)),
+        ("An object that does not exist, and no sessions: REFERENCE_H0", number(0x8000_0007, 4)),
     ):
         if code != CC.CreatePrimary or not words.startswith("An object"):
             tpm.raw(words, command(code, text))
@@ -118,7 +118,7 @@ of_loading(
 )
 tpm.flush_objects("Some are flushed", *others)
 again = tpm.load("With nothing wrong", parent, made, *uses)
-tpm.flush_objects("It is flushed", again)
+tpm.flush_objects("The object is flushed", again)
 
 tpm.chapter("TPM2_ReadPublic, with a session that authorizes nothing.")
 general_refusals(CC.ReadPublic, key, b"\0", [Use(session)])

@@ -21,4 +21,4 @@ for algorithm, hash_name in HASHES:
         tpm.says(f"{what}: INTEGRITY/p1", tpm.loading(parent, changed))
     handle = tpm.load("As it is", parent, made)
     tpm.unseal("TPM2_Unseal", handle, b"x")
-    tpm.flush_objects("Both are flushed", handle, parent)
+    tpm.flush_objects("Both objects are flushed", handle, parent)

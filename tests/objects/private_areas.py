@@ -40,7 +40,7 @@ for (algorithm, hash_name), (step, words) in zip(HASHES, LENGTHS):
     refused("With a byte after it", parent, public, private + b"\0", private + private)
     handle = tpm.load("As it is", parent, made)
     tpm.unseal("TPM2_Unseal", handle, b"x")
-    tpm.flush_objects("Both are flushed", handle, parent)
+    tpm.flush_objects("Both objects are flushed", handle, parent)
 
 tpm.chapter(
     "Someone knows the seed of the parent: that of a primary key follows from the hierarchy's. The "
@@ -92,7 +92,7 @@ class Forger:
         """
         return Made(self.forge(sensitive(**parts)), self.public, given)
 
-    def loaded(self, what, given=b"", flushed="It is flushed", **parts):
+    def loaded(self, what, given=b"", flushed="The object is flushed", **parts):
         return tpm.loaded(what, self.parent, self.made(given, **parts), flushed=flushed)
 
 

@@ -22,7 +22,7 @@ for hierarchy, name in ((RH_OWNER, "TPM_RH_OWNER"), (RH_NULL, "TPM_RH_NULL")):
     handles = [tpm.create_primary(f"A storage key in {name}", hierarchy, storage_key())]
     for algorithm, what in (
         (SHA1, "A storage key under it, with nameAlg SHA-1"),
-        (SHA256, "One under that, with nameAlg SHA-256"),
+        (SHA256, "A storage key under that key, with nameAlg SHA-256"),
     ):
         handles.append(tpm.below(f"{what}: TPM2_Create", handles[-1], storage_key(algorithm)))
     ranks = (SHA256, "The first"), (SHA1, "The second"), (SHA256, "The third")
@@ -30,14 +30,14 @@ for hierarchy, name in ((RH_OWNER, "TPM_RH_OWNER"), (RH_NULL, "TPM_RH_NULL")):
         public, answered = tpm.read_public(f"{what}: TPM2_ReadPublic", handle)
         qualified = number(algorithm, 2) + digest(algorithm, qualified + public.name)
         assert answered == qualified
-    tpm.flush_objects("They are flushed", *handles)
+    tpm.flush_objects("The objects are flushed", *handles)
 
-tpm.chapter("What is wrong with the command.")
+tpm.chapter("Faults in the command.")
 key = tpm.owned('An HMAC key, whose value is "a"', hmac_key(), user_auth=b"a", data=b"key")
 whole = tpm.public(key)
 tpm.says("A byte after the handle: SIZE", whole.but(parameters=b"\0"))
 tpm("A password, as it needs none: HANDLE/s1").public(key, b"a")
-session, other = tpm.start("A session", aes=True), tpm.start("And another")
+session, other = tpm.start("A session", aes=True), tpm.start("Another session")
 tpm.read_public("TPM2_ReadPublic with both", key, session, other)
 tpm.read_public("With outPublic encrypted", key, session.encrypting)
 said = tpm("There is no parameter to decrypt: ATTRIBUTES/s1")
@@ -47,5 +47,5 @@ bound = tpm.start("A session that is bound to the HMAC key", bind=key)
 case = "With its hmac, which has the Name of the HMAC key in it, for the other object: BAD_AUTH/s1"
 tpm.refused(case, tpm.public(key, bound).but(handles=[stranger]))
 tpm.read_public("For the right one", key, bound)
-tpm.flush_objects("Both are flushed", key, stranger)
-tpm.says("They are no more: REFERENCE_H0", tpm.public(key), tpm.public(stranger))
+tpm.flush_objects("Both objects are flushed", key, stranger)
+tpm.says("The objects no longer exist: REFERENCE_H0", tpm.public(key), tpm.public(stranger))

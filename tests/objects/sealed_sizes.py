@@ -30,9 +30,11 @@ for algorithm, hash_name in reversed(HASHES):
     assert answer == sized(data)
     tpm.unseal("In plain, by the same session", handle, data, session)
 
-    bound = tpm.start("One that is bound to the object", bind=handle, algorithm=algorithm, aes=True)
+    bound = tpm.start(
+        "A session that is bound to the object", bind=handle, algorithm=algorithm, aes=True
+    )
     tpm.unseal("TPM2_Unseal by it, with encrypt", handle, data, bound.encrypting)
-    unrelated = tpm.start("One that is bound to the parent", bind=parent, aes=True)
+    unrelated = tpm.start("A session that is bound to the parent", bind=parent, aes=True)
     tpm.unseal(
         "In addition to the one that authorizes", handle, data, session, unrelated.encrypting
     )
@@ -65,12 +67,12 @@ for algorithm, hash_name in reversed(HASHES):
         tpm.unseal("TPM2_Unseal", again, data, bound.encrypting, session)
     said = tpm("inSensitive by one, outPrivate by another, and a third authorizes")
     key = said.below(parent, storage_key(), session, unrelated.decrypting, bound.encrypting)
-    tpm.flush_objects("It is flushed", key)
+    tpm.flush_objects("The object is flushed", key)
     said = tpm("TPM2_CreatePrimary with inSensitive and outPublic encrypted")
     first = said.owned(sealed(), Use(session, IN | OUT), user_auth=b"pin", data=data)
     second = tpm.owned("In plain it is the same object", sealed(), user_auth=b"pin", data=data)
     assert tpm.names[first] == tpm.names[second]
-    tpm.flush_objects("Both are flushed", first, second)
+    tpm.flush_objects("Both objects are flushed", first, second)
 
     tpm.chapter("TPM2_HMAC, with what it takes and what it answers encrypted.")
     template, text = hmac_key(algorithm, scheme=ALG_NULL), b"a text of some length"

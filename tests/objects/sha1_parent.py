@@ -63,23 +63,23 @@ handle = tpm.load("TPM2_Load", chain[-1], leaf)
 tpm.unseal("TPM2_Unseal", handle, b"deep")
 _, answered = tpm.read_public("TPM2_ReadPublic", handle)
 assert answered == qualified(above, leaf.public.name, SHA1)
-said = tpm("It is loaded under its own parent alone: INTEGRITY/p1")
+said = tpm("The object is loaded under its own parent alone: INTEGRITY/p1")
 said.says(*(tpm.loading(it, leaf) for it in chain[:-1]))
 tpm.flush_objects("The parents are flushed", *chain)
-tpm.unseal("What was under them stays", handle, b"deep")
-assert tpm.read_public("And keeps its qualified name", handle)[1] == answered
-tpm.flush_objects("It is flushed", handle)
+tpm.unseal("The children stay loaded", handle, b"deep")
+assert tpm.read_public("A child keeps its qualified name", handle)[1] == answered
+tpm.flush_objects("The object is flushed", handle)
 tpm.chapter("All of it once more, from the primary key on.")
 parent = tpm.owned("The primary key", storage_key(SHA1))
 for made in links:
     child = tpm.load("TPM2_Load of the next one", parent, made)
-    tpm.flush_objects("Its parent is flushed", parent)
+    tpm.flush_objects("The parent is flushed", parent)
     parent = child
 handle = tpm.load("TPM2_Load of the sealed data", parent, leaf)
 tpm.unseal("TPM2_Unseal", handle, b"deep")
-tpm.flush_objects("Both are flushed", handle, parent)
+tpm.flush_objects("Both objects are flushed", handle, parent)
 
-tpm.chapter("What is under a parent is in its hierarchy: the ticket, and the qualified name.")
+tpm.chapter("A child is in its parent's hierarchy: the ticket, and the qualified name.")
 for hierarchy in (RH_PLATFORM, RH_ENDORSEMENT, RH_NULL):
     name = dict(HIERARCHIES)[hierarchy]
     primary = tpm.create_primary(f"A parent in {name}", hierarchy, storage_key(SHA1))
@@ -94,7 +94,7 @@ for hierarchy in (RH_PLATFORM, RH_ENDORSEMENT, RH_NULL):
     _, answered = tpm.read_public("TPM2_ReadPublic", handle)
     assert answered == qualified(second, tpm.names[handle], SHA256)
     tpm.unseal("TPM2_Unseal", handle, b"leaf")
-    tpm.flush_objects("They are flushed", primary, child, handle)
+    tpm.flush_objects("The objects are flushed", primary, child, handle)
 
 tpm.chapter("fixedTPM: what is under a parent without it is without it, down to the last.")
 movable = storage_key(attributes=OPEN | STORES)
@@ -105,7 +105,7 @@ said = tpm("TPM2_Create under that, with fixedTPM and fixedParent: ATTRIBUTES/p2
 said.child(child, sealed(), data=b"leaf")
 handle = tpm.below("With neither of them", child, sealed(attributes=OPEN), data=b"leaf")
 tpm.unseal("TPM2_Unseal", handle, b"leaf")
-tpm.flush_objects("They are flushed", primary, child, handle)
+tpm.flush_objects("The objects are flushed", primary, child, handle)
 
 tpm.chapter("A policy of SHA-1.")
 parent = tpm.owned("A parent with SHA-256", storage_key())

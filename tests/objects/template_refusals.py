@@ -226,7 +226,7 @@ def below_movable():
     ):
         template = sealed(attributes=attributes)
         handle = tpm.below(f"{what}: TPM2_Create", movable, template, data=b"x")
-        tpm.flush_objects("It is flushed", handle)
+        tpm.flush_objects("The object is flushed", handle)
     tpm.flush_objects("The parent is flushed", movable)
 
 
@@ -277,7 +277,7 @@ def create_what_is_right(target):
         make = tpm.create if target.code == CC.Create else tpm.create_primary
         made = make(what, target.handle, public, user_auth=user_auth, data=data)
         if target.code == CC.CreatePrimary:
-            tpm.flush_objects("It is flushed", made)
+            tpm.flush_objects("The object is flushed", made)
 
 
 for target in CREATING:

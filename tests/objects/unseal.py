@@ -43,12 +43,12 @@ session = tpm.start("An HMAC session")
 policy = tpm.policy("A policy session")
 case = "Nothing authorizes it: the right password, and a wrong one: AUTH_UNAVAILABLE"
 refused(case, tpm.unsealing(handle, b"pin"), tpm.unsealing(handle, b"nip"))
-tpm("Nor a session: AUTH_UNAVAILABLE").unsealing(handle, session)
+tpm("A session does not authorize either: AUTH_UNAVAILABLE").unsealing(handle, session)
 tpm("Of either type: AUTH_UNAVAILABLE").unsealing(handle, policy)
 tpm.needs_entries(CC.Unseal, handle)
-tpm.flush_objects("It is flushed", handle)
+tpm.flush_objects("The object is flushed", handle)
 
-tpm.chapter("What is not sealed is not given out.")
+tpm.chapter("Objects other than sealed data are refused.")
 for what, public, data, outcome in (
     ("A storage key", storage_key(), b"", "TYPE/h1"),
     ("With nameAlg SHA-1", storage_key(SHA1), b"", "TYPE/h1"),
@@ -59,5 +59,5 @@ for what, public, data, outcome in (
 ):
     with tpm.held(what, public, user_auth=b"a", data=data) as handle:
         refused("TPM2_Unseal by another value: BAD_AUTH/s1", tpm.unsealing(handle, b"b"))
-        refused(f"By the right one: {outcome}", tpm.unsealing(handle))
+        refused(f"By the right password: {outcome}", tpm.unsealing(handle))
         refused("With a byte after: SIZE", tpm.unsealing(handle).but(parameters=b"\0"))

@@ -29,13 +29,13 @@ for algorithm, name in HASHES:
     tpm("In the policy session, without").pcrs(session, BANKS)
     both("For the localities 0 and 1", lambda it: tpm.locality(it, 3))
     branches = [digest(algorithm, b"branch %d" % it) for it in range(7)] + [tpm.digest_of(session)]
-    both("One of eight branches", lambda it: tpm.branches(it, *branches))
+    both("TPM2_PolicyOR of eight branches", lambda it: tpm.branches(it, *branches))
     for it in (trial, session):
         said = tpm("TPM2_PolicySecret of TPM_RH_OWNER, with a policyRef")
         said.accepted(tpm.secret(it, b"owner", of=RH_OWNER, policy_ref=REFERENCE))
     both("For Unseal", lambda it: tpm.command_code(it, CC.Unseal))
     both("With a password", tpm.password_told)
-    both("And with the value", tpm.auth_value_told)
+    both("The same with TPM2_PolicyAuthValue", tpm.auth_value_told)
     tpm.digest_is("The trial session's digest", trial)
     tpm.digest_is("The policy session's is the same", session, tpm.digest_of(trial))
 
@@ -49,4 +49,4 @@ for algorithm, name in HASHES:
     tpm.digest_is("The trial session's digest", trial)
     tpm.digest_is("The policy session's is zeros yet", session, zeros(session))
     for it in (trial, session):
-        tpm("It is flushed").flush(it)
+        tpm("The session is flushed").flush(it)

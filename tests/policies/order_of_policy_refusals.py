@@ -14,8 +14,7 @@ tpm = Teller(__name__, __doc__, tries=True)
 
 
 def refused(words, prepared, *wrong):
-    """Sends a command that must be refused. The entries with the numbers `wrong` get wrong HMACs.
-    """
+    """Sends a command that must be refused. The entries with the numbers `wrong` get wrong HMACs."""
     tpm.refused(words, wrong_in(prepared, *wrong) if wrong else prepared)
 
 
@@ -29,19 +28,19 @@ def up_to_hmacs(text):
 
     case = "A handle of another kind, and an entry that is not there: VALUE/h1"
     refused(case, wrong_in(using(hmac, handle=hmac.handle), 1).but(entries=[ABSENT]))
-    case = "A session that is not there: REFERENCE_H0"
+    case = "A session that does not exist: REFERENCE_H0"
     refused(case, using(hmac, handle=ABSENT_POLICY).but(entries=[ABSENT]))
     case = "A fourth entry, and one that is not there: AUTHSIZE"
     refused(case, using(hmac).but(entries=4 * [ABSENT]))
     case = "A nonce of 33 bytes in the first entry, and the second is not there: SIZE/s1"
     refused(case, using(hmac).but(entries=[Entry(hmac.handle, bytes(33), 0xFF, b""), ABSENT]))
-    refused("An entry that is not there: REFERENCE_S0", using().but(entries=[ABSENT]))
+    refused("An entry that does not exist: REFERENCE_S0", using().but(entries=[ABSENT]))
     refused("A password after a session with a wrong hmac: HANDLE/s2", using(hmac, b""), 1)
     case = "Reserved attributes after it: RESERVED_BITS/s2"
     refused(case, using(hmac, plain).but_entry(2, attributes=0x98), 1)
     refused("audit after it: ATTRIBUTES/s2", using(hmac, plain).but_entry(2, attributes=0x81), 1)
-    refused("Both hmacs: BAD_AUTH/s1", using(hmac, policy), 1, 2)
-    refused("The second one's: BAD_AUTH/s2", using(hmac, policy), 2)
+    refused("Both hmacs are wrong: BAD_AUTH/s1", using(hmac, policy), 1, 2)
+    refused("The second hmac is wrong: BAD_AUTH/s2", using(hmac, policy), 2)
 
 
 def symmetric(use):
@@ -163,14 +162,14 @@ def secret(text, *uses, of=RH_LOCKOUT, session=policy.handle):
 CUT = b"\0\x20"
 case = "TPM_RH_NULL, and a policy session that does not exist: VALUE/h1"
 refused(case, secret(CUT, of=RH_NULL, session=RH_NULL))
-case = "An object that is not there, and that: REFERENCE_H0"
+case = "An object that does not exist, and that: REFERENCE_H0"
 refused(case, secret(CUT, of=0x8000_0000, session=RH_NULL))
 case = "An NV index that is not there, and that: HANDLE/h1"
 refused(case, secret(CUT, of=0x0100_0000, session=ABSENT_POLICY))
 refused("No policy session, no sessions: VALUE/h2", secret(CUT, session=hmac.handle))
 refused("One that is not there, and no sessions: REFERENCE_H1", secret(CUT, session=ABSENT_POLICY))
 refused("No sessions (tag 8001): AUTH_MISSING", secret(CUT))
-refused("An entry that is not there: REFERENCE_S0", secret(CUT).but(entries=[ABSENT]))
+refused("An entry that does not exist: REFERENCE_S0", secret(CUT).but(entries=[ABSENT]))
 case = "After a policy session: REFERENCE_S1"
 refused(case, secret(CUT, policy).but(entries=[*secret(CUT, policy).entries, ABSENT]))
 refused("A second password after a wrong one: HANDLE/s2", secret(CUT, b"wrong", b"lockout"))

@@ -12,7 +12,7 @@ for session in tpm.each_session():
     once = policy.after_auth_value(session.algorithm, zeros(session))
     twice = policy.after_auth_value(session.algorithm, once)
     tpm("TPM2_PolicyAuthValue").auth_value_told(session)
-    tpm.digest_is("Its digest is the hash of zeros and 0000016B", session, once)
+    tpm.digest_is("The digest of the session is the hash of zeros and 0000016B", session, once)
     tpm("TPM2_PolicyPassword after it").password_told(session)
     tpm.digest_is("The hash of that and 0000016B once more", session, twice)
     tpm.restarts(session)

@@ -1,5 +1,5 @@
-"""Writes policy_command_code.tpm. TPM2_PolicyCommandCode: the policy is only for one command. Its
-parameter is the code of a command, which the device need not implement.
+"""Writes policy_command_code.tpm. TPM2_PolicyCommandCode: the policy is only for one command. The
+parameter is the code of a command, which the device must implement.
 """
 
 from tests.common.policy_teller import PolicyTeller
@@ -28,14 +28,14 @@ for session in tpm.each_session():
 
     once = policy.after_command_code(session.algorithm, zeros(session), CC.Unseal)
     says("The code of Unseal: SUCCESS", CC.Unseal)
-    tpm.digest_is("Its digest", session, once)
+    tpm.digest_is("The digest of the session", session, once)
     case = "Another code, in a trial session too, NV_Read and ReadPublic: VALUE/p1"
     says(case, CC.NV_Read, CC.ReadPublic)
-    says("One that is no command's, which is another as well: VALUE/p1", UNKNOWN, 0)
+    says("Another code, which is not a command's: VALUE/p1", UNKNOWN, 0)
     texts("Cut, all the same: INSUFFICIENT/p1", number(CC.NV_Read, 4)[:3])
     tpm.digest_is("The digest is unchanged", session, once)
     says("The code of Unseal once more: SUCCESS", CC.Unseal)
-    tpm.digest_is("And it is in the digest again", session)
+    tpm.digest_is("The digest contains the assertion again", session)
     says("NV_Read: VALUE/p1", CC.NV_Read)
 
 for kind, name, algorithm, hash_name in (
@@ -43,13 +43,13 @@ for kind, name, algorithm, hash_name in (
     (SE_TRIAL, "trial", SHA1, "SHA-1"),
 ):
     tpm.chapter(f"Each code that there is, in a {name} session of {hash_name}.")
-    session = tpm.start("It is started", kind=kind, algorithm=algorithm)
+    session = tpm.start("The session is started", kind=kind, algorithm=algorithm)
     for code in sorted(CC):
         said = tpm(f"{code:X} in a new policy, and the digest of it: SUCCESS")
         said.says(tpm.restart(session), tpm.command_code(session, code))
         tpm.digest_is("", session)
 
-    tpm.chapter("And each number between 11F and 190 that is no code.")
+    tpm.chapter("Each number between 11F and 190 that is no code.")
     tpm.restarts(session)
     says("All of them: POLICY_CC/p1", *sorted(set(range(0x11F, 0x191)) - set(CC)))
     case = "Unseal's code with a vendor's bit, with a reserved bit, and with its bytes turned round"

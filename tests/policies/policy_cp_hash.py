@@ -28,12 +28,12 @@ def writes(data=b"data", offset=0):
 for session in tpm.each_session():
     algorithm, size = session.algorithm, digest_bytes(session.algorithm)
     one, other = bytes([1]) * size, bytes([2]) * size
-    case = "One of another size than a digest: none, a byte, a byte too few: SIZE/p1"
+    case = "A cpHashA with another size than a digest: none, a byte, a byte too few: SIZE/p1"
     says(case, b"", b"\1", bytes(size - 1))
     if algorithm == SHA1:
         says("A byte too many, and one of SHA-256: SIZE/p1", bytes(21), bytes(32))
     else:
-        says("One of SHA-1: SIZE/p1", bytes(20))
+        says("A cpHashA of SHA-1: SIZE/p1", bytes(20))
     texts("Over 32 bytes, whole or cut: SIZE/p1", sized(bytes(33)), b"\0\x21", b"\xff\xff")
     case = "Cut: no size, half of it, no bytes and one too few: INSUFFICIENT/p1"
     texts(case, b"", b"\0", number(size, 2), sized(one)[:-1])
@@ -44,19 +44,19 @@ for session in tpm.each_session():
     says("A cpHash: SUCCESS", one)
     hashed = hashlib.sha1 if algorithm == SHA1 else hashlib.sha256
     once = hashed(bytes(size) + bytes.fromhex("0000016e") + one).digest()
-    tpm.digest_is("Its digest, of the zeros, 0000016E and the cpHash", session, once)
-    says("Another one, in a trial session too: CPHASH", other, bytes(size))
-    says("One of another size comes before: SIZE/p1", b"", bytes(size - 1))
+    tpm.digest_is("The digest of the session, of the zeros, 0000016E and the cpHash", session, once)
+    says("Another cpHashA, in a trial session too: CPHASH", other, bytes(size))
+    says("A cpHashA of another size is refused first: SIZE/p1", b"", bytes(size - 1))
     tpm.digest_is("The digest is unchanged", session, once)
-    says("The same once more: SUCCESS", one)
-    tpm.digest_is("And it is in the digest again", session)
+    says("The same assertion once more: SUCCESS", one)
+    tpm.digest_is("The digest contains the assertion again", session)
 
     tpm.chapter("With TPM2_PolicySecret, which records a cpHash too.")
     outcome = "SUCCESS" if is_trial(session) else "CPHASH"
-    tpm(f"Another one by it: {outcome}").secret(session, cp_hash=other)
+    tpm(f"Another cpHashA by TPM2_PolicySecret: {outcome}").secret(session, cp_hash=other)
     recorded, wrong = (other, one) if is_trial(session) else (one, other)
     says("TPM2_PolicyCpHash of the one that is not recorded: CPHASH", wrong)
-    says("Of the one that is: SUCCESS", recorded)
+    says("TPM2_PolicyCpHash of the recorded cpHash: SUCCESS", recorded)
     tpm.says("The same by TPM2_PolicySecret: SUCCESS", tpm.secret(session, cp_hash=recorded))
     tpm("None by TPM2_PolicySecret, which leaves it").secret(session)
     says("TPM2_PolicyCpHash of the other: CPHASH", wrong)
@@ -75,7 +75,7 @@ once = policy.after_cp_hash(SHA256, zeros(session), one)
 for name, choices in (("AES", dict(aes=True)), ("TPM_ALG_XOR", dict(xor=True))):
     other = tpm.start(f"A session, bound to TPM_RH_OWNER, with {name}", RH_OWNER, **choices)
     tpm("TPM2_PolicyCpHash").cp_hash_told(session, one, other.decrypting)
-    tpm.digest_is("Its digest, of the cpHash in plain", session, once)
+    tpm.digest_is("The digest of the session, of the cpHash in plain", session, once)
     tpm.restarts(session)
 
 tpm.chapter(
@@ -85,7 +85,7 @@ tpm.chapter(
 )
 public = area(FIRST, BY_OWNER | BY_POLICY, auth_policy=policy.after_locality(SHA256, bytes(32), 2))
 tpm.define("An index whose policy is that of locality 1", public)
-tpm("It is written by the owner").writing(FIRST, b"data", by=RH_OWNER)
+tpm("The owner writes the index").writing(FIRST, b"data", by=RH_OWNER)
 RIGHT = tpm.cp_hash(writes())
 WRONG = (
     ("of other data", tpm.cp_hash(writes(b"date"))),
@@ -117,7 +117,7 @@ said.says(tpm.restart(session), tpm.locality(session, 2))
 tpm.does("TPM2_NV_Write", writes())
 tpm.locality_is(0)
 
-tpm.chapter("What comes before the cpHash: the PCRs, and the command code.")
+tpm.chapter("Conditions that are checked before the cpHash: the PCRs, and the command code.")
 says("Another cpHash: SUCCESS", bytes(32))
 tpm("TPM2_PolicyCommandCode of NV_Read").command_code(session, CC.NV_Read)
 tpm("TPM2_PolicyPCR of no PCR").pcrs(session, [])

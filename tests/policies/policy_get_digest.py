@@ -8,8 +8,8 @@ from tests.common.vocabulary import CC, policy, zeros
 tpm = PolicyTeller(__name__, __doc__)
 
 for session in tpm.each_session(size=20):
-    tpm.digest_is("It begins with zeros", session, zeros(session))
-    tpm.digest_is("They are there when asked again", session, zeros(session))
+    tpm.digest_is("The digest begins with zeros", session, zeros(session))
+    tpm.digest_is("The digest is unchanged when it is read again", session, zeros(session))
     said = tpm("There are no parameters: a byte after the handle, and two: SIZE")
     said.refused(*(tpm.told(CC.PolicyGetDigest, session, it) for it in (b"\0", b"\0\0")))
     tpm.makes("TPM2_PolicyAuthValue", session, tpm.auth_value_told(session), "The digest of that")
@@ -17,7 +17,7 @@ for session in tpm.each_session(size=20):
     said = tpm("With the session itself as an entry, which authorizes nothing")
     said.get_digest(session, session)
     tpm("With it once more|and a new nonce").get_digest(session, session)
-    tpm.digest_is("And without", session)
+    tpm.digest_is("Without the session as an entry", session)
 
 tpm.chapter("Two sessions have a digest each.")
 first, second = tpm.policy("The first"), tpm.policy("The second")

@@ -59,7 +59,7 @@ def handles_of(code, text):
     tpm.chapter(f"TPM2_{code.name}.")
     refused("No handle: INSUFFICIENT/h1", plain(code), plain(code, text=b"\3\0\0"))
     refused("A handle of another kind: VALUE/h1", *(plain(code, it, text=text) for it in OTHERS))
-    case = "A session that is not there; the first has an HMAC session's place: REFERENCE_H0"
+    case = "A session that does not exist; the first has an HMAC session's place: REFERENCE_H0"
     refused(case, *(plain(code, it, text=text) for it in ABSENT))
     for words, handle, behind in (
         (f"{TAGGED}; the handle comes first: AUTHSIZE", policy.handle, b""),
@@ -73,7 +73,7 @@ def handles_of(code, text):
     tpm.accepted("And the right one", in_policy)
     tpm("The trial session alone").told(code, trial, text, trial)
     restarts = [tpm.restart(it) for it in (policy, trial)]
-    tpm.says("They are restarted: SUCCESS", *restarts)
+    tpm.says("The sessions are restarted: SUCCESS", *restarts)
     told = [tpm.told(code, it, text) for it in (policy, trial)]
     tpm.says("Each without sessions (tag 8001), and restarted again: SUCCESS", *told, *restarts)
 
@@ -90,7 +90,7 @@ refused(
     "permanent handles, sessions, and a number of no kind: VALUE/h1",
     *(by_password(it, policy.handle) for it in handles),
 )
-refused("It is looked at before policySession is read: VALUE/h1", plain(SECRET, RH_NULL))
+refused("authHandle is checked before policySession is read: VALUE/h1", plain(SECRET, RH_NULL))
 case = "A transient object, while there is none: REFERENCE_H0"
 refused(case, by_password(0x8000_0000, policy.handle), by_password(0x80FF_FFFF, RH_OWNER))
 case = "A persistent object, and an NV index, while there are none: HANDLE/h1"
@@ -98,7 +98,9 @@ refused(case, *(by_password(it, policy.handle) for it in (0x8100_0000, 0x0100_00
 case = "No policySession: INSUFFICIENT/h2"
 refused(case, plain(SECRET, RH_OWNER), plain(SECRET, RH_OWNER, text=b"\3\0\0"))
 refused("A policySession of another kind: VALUE/h2", *(by_password(RH_OWNER, it) for it in OTHERS))
-refused("One that is not there: REFERENCE_H1", *(by_password(RH_OWNER, it) for it in ABSENT))
+refused(
+    "A session that does not exist: REFERENCE_H1", *(by_password(RH_OWNER, it) for it in ABSENT)
+)
 case = "Without sessions (tag 8001), after the handles: AUTH_MISSING"
 refused(case, plain(SECRET, RH_OWNER, policy.handle, text=NOTHING))
 case = "Which are looked at before: REFERENCE_H1"
@@ -109,10 +111,10 @@ tpm("A password, the HMAC session and the policy session itself").secret(policy,
 tpm.chapter("The place of an HMAC session is no policy session's, and the other way round.")
 other = tpm.start("An HMAC session, 02000003", algorithm=SHA1)
 refused("TPM2_PolicyGetDigest of 03000003: REFERENCE_H0", plain(CC.PolicyGetDigest, 0x0300_0003))
-tpm("It is flushed").flush(other)
+tpm("The session is flushed").flush(other)
 other = tpm.policy("A policy session takes its place", algorithm=SHA1)
 assert other.handle == 0x0300_0003
-tpm("Its digest").get_digest(other)
+tpm("The digest of the session").get_digest(other)
 
 for command in LATER:
     handles_of(*command)

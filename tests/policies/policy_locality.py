@@ -34,9 +34,9 @@ for session in tpm.each_session():
     ):
         wanted = policy.after_locality(session.algorithm, tpm.digest_of(session), mask)
         says(f"Localities {mask:02X}: SUCCESS", mask)
-        tpm.digest_is("Its digest", session, wanted)
+        tpm.digest_is("The digest of the session", session, wanted)
         if absent:
-            says("Of what is left none: RANGE/p1", *absent)
+            says("None of the remaining localities: RANGE/p1", *absent)
             tpm.digest_is("The digest is unchanged", session, wanted)
     says("Nothing, as ever: RANGE/p1", 0)
 
@@ -45,12 +45,12 @@ for session in tpm.each_session():
         twice = 2 * [tpm.locality(session, 1 << locality)]
         tpm.says(f"Locality {locality}: SUCCESS", tpm.restart(session), *twice)
         says("The others: RANGE/p1", 0x1F & ~(1 << locality))
-        tpm.digest_is("Its digest, of twice the same", session)
+        tpm.digest_is("The digest of the session, of twice the same", session)
 
 tpm.chapter("The locality of this command does not matter.")
 session = tpm.policy("A policy session")
 tpm.locality_is(3)
 says("For locality 0, from locality 3: SUCCESS", 1)
-tpm.digest_is("Its digest", session)
+tpm.digest_is("The digest of the session", session)
 tpm.locality_is(0)
 says("For locality 3, from locality 0: RANGE/p1", 8)

@@ -48,7 +48,7 @@ def adds(what, session, operand, offset=0, operation=EQ, index=FIRST, by=RH_OWNE
     """Makes an assertion that must be accepted, and checks the digest after it."""
     wanted = after(session, tpm.digest_of(session), index, operand, offset, operation)
     compares(what, session, operation, operand, offset=offset, index=index, by=by)
-    tpm.digest_is("Its digest", session, wanted)
+    tpm.digest_is("The digest of the session", session, wanted)
 
 
 # Contents of an index of four bytes, each with operands that are compared with it.
@@ -69,7 +69,13 @@ def both(session, operation, true, false):
     case = f"Operation {operation:X}, {NAMES[operation]}: it holds of these operands"
     compares(case, session, operation, *true, index=SECOND)
     if false:
-        fails("Of these it does not: POLICY", session, operation, *false, index=SECOND)
+        fails(
+            "Operands for which the comparison is false: POLICY",
+            session,
+            operation,
+            *false,
+            index=SECOND,
+        )
 
 
 def refused(words, by, offset=9):
@@ -77,7 +83,7 @@ def refused(words, by, offset=9):
 
 
 tpm.define("An index that holds eight bytes", area(FIRST, BY_OWNER | BY_VALUE), auth=b"")
-tpm("It is written").writing(FIRST, b"8 bytes.")
+tpm("The index is written").writing(FIRST, b"8 bytes.")
 
 for session in tpm.each_session():
     for what, *comparison in (
@@ -90,10 +96,10 @@ for session in tpm.each_session():
     ):
         adds(what, session, *comparison)
     if is_trial(session):
-        adds("What does not hold", session, b"9")
+        adds("A comparison that is false", session, b"9")
     else:
-        fails("What does not hold: POLICY", session, EQ, b"9")
-        tpm.digest_is("Its digest", session)
+        fails("A comparison that is false: POLICY", session, EQ, b"9")
+        tpm.digest_is("The digest of the session", session)
 
 tpm.chapter("The digest has the Name of the index as it is then.")
 trial = tpm.trial("A trial session")
@@ -103,16 +109,16 @@ before = after(trial, zeros(trial), SECOND, bytes(8), 0, EQ)
 tpm.digest_is("The digest is of its Name of now", trial, before)
 session = tpm.policy("A policy session")
 fails("A policy session does not: NV_UNINITIALIZED", session, EQ, bytes(8), index=SECOND)
-tpm("It is written").writing(SECOND, bytes(8), by=RH_OWNER)
-compares("Now it does", session, EQ, bytes(8), index=SECOND)
+tpm("The index is written").writing(SECOND, bytes(8), by=RH_OWNER)
+compares("Now the comparison is true", session, EQ, bytes(8), index=SECOND)
 written = after(session, zeros(session), SECOND, bytes(8), 0, EQ)
 assert written != before
 tpm.digest_is("The digest is another than before", session, written)
 tpm.restarts(trial)
-compares("So in the trial session", trial, EQ, bytes(8), index=SECOND)
+compares("The same in the trial session", trial, EQ, bytes(8), index=SECOND)
 tpm.digest_is("It is the same", trial, written)
 for each in (trial, session):
-    tpm("It is flushed").flush(each)
+    tpm("The session is flushed").flush(each)
 tpm("The index is undefined").undefining(SECOND)
 
 tpm.define("An index of four bytes", area(SECOND, BY_OWNER, size=4))
@@ -120,14 +126,14 @@ tpm.define("An index of four bytes", area(SECOND, BY_OWNER, size=4))
 session = tpm.policy("A policy session")
 for held, operands in OPERANDS.items():
     tpm.chapter(f"Comparisons with {held:08X}.")
-    tpm("It is written").writing(SECOND, number(held, 4), by=RH_OWNER)
+    tpm("The index is written").writing(SECOND, number(held, 4), by=RH_OWNER)
     for operation in range(len(COMPARE)):
         true = [it for it in operands if holds(operation, held, it)]
         false = [it for it in operands if it not in true]
         both(session, operation, *([number(it, 4) for it in those] for those in (true, false)))
 
 tpm.chapter("Bits of A5A5A5A5.")
-tpm("It is written").writing(SECOND, b"\xa5" * 4, by=RH_OWNER)
+tpm("The index is written").writing(SECOND, b"\xa5" * 4, by=RH_OWNER)
 zero, one, two, all_bits = bytes(4), number(1, 4), number(2, 4), b"\xff" * 4
 true = [b"\xa5" * 4, b"\x80\0\0\0", one, b"\x21" * 4, zero]
 false = [all_bits, two, b"\xa5\xa5\xa5\xa7", b"\xe5\xa5\xa5\xa5", b"\x5a" * 4]
@@ -150,14 +156,14 @@ tpm.chapter("Operands of other sizes, and at other offsets: the sign is that of 
 session = tpm.policy("A policy session")
 data = bytes([0x80, 0x00, 0x7F, 0xFF]) + bytes(range(60))
 tpm.define("An index of 64 bytes", area(THIRD, BY_OWNER, size=64))
-tpm("It is written").writing(THIRD, data, by=RH_OWNER)
+tpm("The index is written").writing(THIRD, data, by=RH_OWNER)
 for size, offset in ((1, 0), (2, 2), (3, 1), (32, 0), (32, 32), (31, 33), (1, 63)):
     piece, at = data[offset : offset + size], dict(offset=offset, index=THIRD)
     compares(f"{size} bytes at {offset}, equal", session, EQ, piece, **at)
     compares("Less or equal, signed", session, SIGNED_LE, piece, **at)
     fails("Another last bit: POLICY", session, EQ, flipped(piece), **at)
 compares("80 is less than 7F, signed", session, SIGNED_LT, b"\x7f", index=THIRD)
-fails("And not unsigned: POLICY", session, LT, b"\x7f", index=THIRD)
+fails("80 is not less than 7F, unsigned: POLICY", session, LT, b"\x7f", index=THIRD)
 compares("8000 is less than 0000, signed", session, SIGNED_LT, b"\0\0", index=THIRD)
 case = "007FFF is less than 008000, signed or not"
 compares(case, session, SIGNED_LT, b"\0\x80\0", offset=1, index=THIRD)
@@ -180,15 +186,15 @@ for index, make, change, held in (
     ),
 ):
     tpm.define("TPM2_NV_DefineSpace", make(index, BY_OWNER))
-    tpm.does("Its change", change(index, by=RH_OWNER))
+    tpm.does("The index is changed", change(index, by=RH_OWNER))
     compares("TPM2_PolicyNV", session, EQ, held, index=index)
-    tpm.does("Its change again", change(index, by=RH_OWNER))
+    tpm.does("The index is changed again", change(index, by=RH_OWNER))
     if make == bits:
         compares("It is the same", session, EQ, held, index=index)
     else:
-        fails("It is another: POLICY", session, EQ, held, index=index)
+        fails("The data are different: POLICY", session, EQ, held, index=index)
 for index in (THIRD, FOURTH, FIFTH):
-    tpm("They are undefined" if index == THIRD else "").undefining(index)
+    tpm("The indices are undefined" if index == THIRD else "").undefining(index)
 tpm("The session is flushed").flush(session)
 
 tpm.chapter("Refusals. The index is not written, is locked, and only the platform may read it.")
@@ -204,13 +210,13 @@ refused("By the platform: NV_LOCKED", RH_PLATFORM)
 tpm.power_cycle()
 session = tpm.policy("A policy session")
 trial = tpm.trial("A trial session")
-tpm.is_now("It is open", THIRD, cleared=NvAttribute.READLOCKED)
+tpm.is_now("The index is not locked", THIRD, cleared=NvAttribute.READLOCKED)
 refused("By the platform: NV_UNINITIALIZED", RH_PLATFORM)
-tpm("It is written").writing(THIRD, b"x")
+tpm("The index is written").writing(THIRD, b"x")
 refused("Past the end: NV_RANGE", THIRD)
 refused("What does not hold: POLICY", THIRD, offset=1)
 tpm.digest_is("The digest is zeros", session, zeros(session))
-refused("What holds: SUCCESS", THIRD, offset=0)
+refused("A comparison that is true: SUCCESS", THIRD, offset=0)
 
 tpm.chapter("In a trial session none of these matters.")
 tpm("TPM2_NV_ReadLock").read_locking(THIRD)
@@ -241,11 +247,11 @@ for words, *handles in (
     tpm.fails(words, right.but(handles=handles))
 for words, *texts in (
     ("operandB that is cut: INSUFFICIENT/p1", b"", b"\0", b"\0\1", b"\0\x20" + bytes(31)),
-    ("Of 33 bytes, whole or cut: SIZE/p1", text(bytes(33)), b"\0\x21"),
+    ("A buffer of 33 bytes, whole or truncated: SIZE/p1", text(bytes(33)), b"\0\x21"),
     ("offset that is cut: INSUFFICIENT/p2", empty, empty + b"\0"),
     ("operation that is cut: INSUFFICIENT/p3", empty + bytes(2), empty + bytes(3)),
     ("An operation over B: VALUE/p3", *(text(b"", 0, it) for it in (0xC, 0x10, 0x100, 0xFFFF))),
-    ("And a byte after it: VALUE/p3", text(b"", 0, 0xC) + b"\0"),
+    ("An operation over B, and a byte after it: VALUE/p3", text(b"", 0, 0xC) + b"\0"),
     ("A byte after the operation: SIZE", text() + b"\0"),
 ):
     tpm.fails(words, *(right.but(parameters=it) for it in texts))
@@ -257,7 +263,11 @@ tpm.restarts(session)
 tpm("By it").comparing(session, FIRST, b"8", hmac)
 tpm("With operandB encrypted").comparing(session, FIRST, b"8 bytes.", hmac.decrypting)
 once = after(session, zeros(session), FIRST, b"8", 0, EQ)
-tpm.digest_is("What is hashed is plain", session, after(session, once, FIRST, b"8 bytes.", 0, EQ))
+tpm.digest_is(
+    "The digest depends on the decrypted operandB",
+    session,
+    after(session, once, FIRST, b"8 bytes.", 0, EQ),
+)
 said = tpm("encrypt, but nothing is answered: ATTRIBUTES/s1")
 said.fails(tpm.comparing(session, FIRST, b"8", hmac).but_entry(1, attributes=0x41))
 

@@ -31,7 +31,7 @@ def define(what, index, auth_policy, by=BY_OWNER | BY_POLICY, make=area, **more)
 
 for session in tpm.each_session():
     texts("No parameter: INSUFFICIENT/p1", b"")
-    case = "What is neither 0 nor 1, also with a byte after it: VALUE/p1"
+    case = "Values other than 0 and 1, also with a byte after them: VALUE/p1"
     texts(case, b"\2", b"\x80", b"\xff", b"\2\0")
     texts("A byte after it: SIZE", b"\0\0", b"\1\0")
     tpm.digest_is("The digest is zeros", session, zeros(session))
@@ -39,11 +39,13 @@ for session in tpm.each_session():
         hashed = hashlib.sha1 if session.algorithm == SHA1 else hashlib.sha256
         once = hashed(zeros(session) + bytes.fromhex("0000018f") + bytes([value])).digest()
         says(f"{value:d}: SUCCESS", value)
-        tpm.digest_is("Its digest, of the zeros, 0000018F and the byte", session, once)
+        tpm.digest_is(
+            "The digest of the session, of the zeros, 0000018F and the byte", session, once
+        )
         says(f"{other:d}, in a trial session too: VALUE/p1", other)
         tpm.digest_is("The digest is unchanged", session, once)
         says(f"{value:d} once more: SUCCESS", value)
-        tpm.digest_is("And it is in the digest again", session)
+        tpm.digest_is("The digest contains the assertion again", session)
         says(f"{other:d}: VALUE/p1", other)
         tpm.restarts(session)
         tpm.digest_is("The digest is zeros", session, zeros(session))
@@ -51,7 +53,7 @@ for session in tpm.each_session():
 for algorithm, hash_name, index in ((SHA256, "SHA-256", FIRST), (SHA1, "SHA-1", SECOND)):
     tpm.chapter(f"An index that is written once, of {hash_name}.")
     once = policy.after_nv_written(algorithm, bytes(digest_bytes(algorithm)), NO)
-    define("Its policy is TPM2_PolicyNvWritten of 0", index, once, algorithm=algorithm)
+    define("The policy of the index is TPM2_PolicyNvWritten of 0", index, once, algorithm=algorithm)
     session = tpm.policy("A policy session", algorithm=algorithm)
     tpm("TPM2_NV_Write without it: POLICY_FAIL/s1").writing(index, b"1", session)
     says("1, which is another policy: SUCCESS", YES)
@@ -59,7 +61,7 @@ for algorithm, hash_name, index in ((SHA256, "SHA-256", FIRST), (SHA1, "SHA-1", 
     tpm.restarts(session)
     says("0: SUCCESS", NO)
     tpm("TPM2_NV_Write, the first one").writing(index, b"first", session)
-    tpm.digest_is("It counted once: the digest is zeros", session, zeros(session))
+    tpm.digest_is("The assertion counted once: the digest is zeros", session, zeros(session))
     says("0 once more, which the session does not know better: SUCCESS", NO)
     said = tpm("TPM2_NV_Write, the second one, of anything: POLICY_FAIL/s1")
     said.fails(*(tpm.writing(index, it, session) for it in (b"other", b"first", b"")))
@@ -67,9 +69,9 @@ for algorithm, hash_name, index in ((SHA256, "SHA-256", FIRST), (SHA1, "SHA-1", 
     tpm.restarts(session)
     says("1 is what holds now, and is not its policy: SUCCESS", YES)
     tpm("TPM2_NV_Write: POLICY_FAIL/s1").writing(index, b"other", session)
-    tpm.read("It is as first written", index, b"first", by=RH_OWNER)
+    tpm.read("The data are those of the first write", index, b"first", by=RH_OWNER)
     tpm("The owner may write all the same").writing(index, b"again", by=RH_OWNER)
-    tpm("It ends").flush(session)
+    tpm("The session ends").flush(session)
 
 tpm.chapter("An index that is read by its policy as soon as it is written.")
 define("An index", THIRD, WRITTEN)
@@ -82,7 +84,9 @@ tpm.read("TPM2_NV_Read by the same assertion", THIRD, b"data", session)
 says("1: SUCCESS", YES)
 tpm("TPM2_NV_Write too").writing(THIRD, b"more", session)
 
-tpm.chapter("What a startup clears is not written any more, and may be written once again.")
+tpm.chapter(
+    "An index that a startup clears is not written any more, and may be written once again."
+)
 by_clear = NvAttribute.CLEAR_STCLEAR | BY_OWNER | BY_POLICY
 define("An index with CLEAR_STCLEAR", FOURTH, UNWRITTEN, by_clear)
 for words in ("TPM2_NV_Write", "After a startup it is a first one again"):
@@ -103,12 +107,11 @@ for _ in range(2):
     says("0: SUCCESS", NO)
     tpm("Once more: POLICY_FAIL/s1").incrementing(FIFTH, session)
     tpm.restarts(session)
-    tpm("It is undefined").undefining(FIFTH)
-    define("And defined again", FIFTH, UNWRITTEN, make=counter)
+    tpm("The index is undefined").undefining(FIFTH)
+    define("The index is defined again", FIFTH, UNWRITTEN, make=counter)
 
 tpm.chapter(
-    "What is no NV index is neither written nor not: an object whose policy is the same refuses "
-    "both."
+    "An object is neither written nor unwritten: with the same policy it refuses both values."
 )
 parent = tpm.create_primary("A storage key", RH_OWNER, storage_key())
 for value, digest in ((NO, UNWRITTEN), (YES, WRITTEN)):
@@ -122,7 +125,7 @@ for value, digest in ((NO, UNWRITTEN), (YES, WRITTEN)):
     trial = tpm.trial("A trial session")
     tpm(f"{value:d}").written_told(trial, value)
     tpm("TPM2_Unseal by it: ATTRIBUTES/s1").unsealing(handle, trial)
-    tpm("It is flushed").flush(trial)
+    tpm("The session is flushed").flush(trial)
     tpm.accepted("The object is flushed", tpm.flush(handle))
 
 tpm.chapter(
@@ -143,7 +146,7 @@ tpm("Written: it refuses before the locality: POLICY_FAIL/s1").writing(SIXTH, b"
 tpm.fails("The command code refuses before it: POLICY_CC/s1", tpm.reading(SIXTH, 4, session))
 tpm("TPM2_PolicyPCR of no PCR").pcrs(session, [])
 tpm.accepted("TPM2_PCR_Reset of PCR 16", tpm.reset(b""))
-tpm("And a PCR before that: PCR_CHANGED").reading(SIXTH, 4, session)
+tpm("PCR_CHANGED comes before that code: PCR_CHANGED").reading(SIXTH, 4, session)
 tpm.restarts(session)
 
 tpm.chapter(
@@ -181,4 +184,4 @@ prepared = tpm.writing(EIGHTH, b"data", Use(bound, frames.DECRYPT))
 tpm.fails("With a wrong hmac, which is compared last: BAD_AUTH/s1", wrong_in(prepared))
 tpm.does("TPM2_NV_Write of a buffer that it masks", prepared)
 tpm.read("The data in plain", EIGHTH, b"data", by=RH_OWNER)
-tpm("It is no more: REFERENCE_H0").get_digest(bound)
+tpm("The session no longer exists: REFERENCE_H0").get_digest(bound)

@@ -18,7 +18,9 @@ def other(count):
 
 def joins(what, *branches):
     tpm(what).branches(session, *branches)
-    tpm.digest_is("Its digest", session, policy.after_or(session.algorithm, branches))
+    tpm.digest_is(
+        "The digest of the session", session, policy.after_or(session.algorithm, branches)
+    )
 
 
 def again():
@@ -58,7 +60,7 @@ for session in tpm.each_session():
         ("The digest is not among two", *other(2)),
         ("Not among eight", *other(8)),
         (f"A byte of it is missing, or {parts[0]}", *parts[1:]),
-        ("It has another last bit", current[:-1] + b"\1", current[:-1]),
+        ("A digest whose last bit differs", current[:-1] + b"\1", current[:-1]),
         ("No element has a byte", b"", b""),
     ):
         if is_trial(session):
@@ -66,7 +68,7 @@ for session in tpm.each_session():
             joins(f"{what}, which a trial session does not look at", *branches)
         else:
             tpm(f"{what}: VALUE/p1").branches(session, *branches)
-            tpm.digest_is("Its digest is unchanged", session, zeros(session))
+            tpm.digest_is("The digest of the session is unchanged", session, zeros(session))
 
     current = again()
     case = "A list of no digests, of one, of nine, and of 2^32 - 1: SIZE/p1"
@@ -94,7 +96,7 @@ for session in tpm.each_session():
     )
     tpm.digest_is("No refusal changed the digest", session, current)
 
-tpm.chapter("What was recorded before a list still holds after it.")
+tpm.chapter("Values that were recorded before TPM2_PolicyOR still count after it.")
 session = tpm.policy("A policy session is started")
 cp_hash = digest(session.algorithm, b"a command")
 tpm.says(
@@ -104,7 +106,7 @@ tpm.says(
     tpm.pcrs(session, [(SHA256, [0])]),
     tpm.secret(session, cp_hash=cp_hash),
 )
-tpm("Its digest").get_digest(session)
+tpm("The digest of the session").get_digest(session)
 joins("The digest is the first of two", tpm.digest_of(session), *other(1))
 tpm("Another command: VALUE/p1").command_code(session, CC.PCR_Read)
 tpm("Localities of which none is left: RANGE/p1").locality(session, 0b10011)

@@ -20,8 +20,7 @@ def changed(what, banks=ZERO):
 
 
 def values_digest(banks):
-    """Returns the hash of the values of the selected PCRs, in the order of banks and PCR numbers.
-    """
+    """Returns the hash of the values of the selected PCRs, in the order of banks and PCR numbers."""
     return tpm.history.pcrs.digest(session.algorithm, [(bank, sorted(it)) for bank, it in banks])
 
 
@@ -51,7 +50,7 @@ for session in tpm.each_session():
     one, of_one = selection((SHA256, [0])), number(1, 4) + number(SHA256, 2)
     case = "pcrDigest that is cut: INSUFFICIENT/p1"
     texts(case, b"", b"\0", b"\0\x01", number(32, 2) + bytes(31), front=b"")
-    case = "One of 33 bytes, whole or cut: SIZE/p1"
+    case = "A buffer of 33 bytes, whole or truncated: SIZE/p1"
     texts(case, sized(bytes(33)) + one, number(33, 2), b"\xff\xff", front=b"")
     texts(
         "The selection that is cut: within its number, before its first bank, within the bank's "
@@ -86,7 +85,9 @@ for session in tpm.each_session():
     ):
         tpm.says(f"{what}: SUCCESS", tpm.restart(session), tpm.pcrs(session, banks))
         told = zeros(session), selection(*banks), values_digest(banks)
-        tpm.digest_is("Its digest", session, policy.after_pcr(session.algorithm, *told))
+        tpm.digest_is(
+            "The digest of the session", session, policy.after_pcr(session.algorithm, *told)
+        )
 
     tpm.chapter("A digest that is given.")
     both = [(SHA1, [1]), (SHA256, [0, 23])]
@@ -94,14 +95,14 @@ for session in tpm.each_session():
     tpm.restarts(session)
     tpm("The right one").pcrs(session, both, right)
     once = policy.after_pcr(session.algorithm, zeros(session), selection(*both), right)
-    tpm.digest_is("It is as if none were given", session, once)
+    tpm.digest_is("The digest is the same as without pcrDigest", session, once)
     tpm("The right one of no values").pcrs(session, [], digest(session.algorithm, b""))
-    tpm.digest_is("Its digest, after the one before", session)
+    tpm.digest_is("The digest of the session, after the one before", session)
     for words, given in (
         ("Another, by one bit", flipped(right)),
-        ("One that is a byte too short", right[:-1]),
+        ("A pcrDigest that is a byte too short", right[:-1]),
         ("The first of its bytes alone", right[:1]),
-        ("That of other values", values_digest([(SHA256, [0, 1])])),
+        ("The pcrDigest of other values", values_digest([(SHA256, [0, 1])])),
         ("Zeros of its size", bytes(len(right))),
         ("Zeros of another size", bytes(52 - len(right))),
         ("The right one and a byte after it", (right + b"\0")[:32]),
@@ -111,7 +112,10 @@ for session in tpm.each_session():
         tpm.restarts(session)
         if is_trial(session):
             tpm.makes(
-                words, session, tpm.pcrs(session, both, given), "It is in the digest as it is"
+                words,
+                session,
+                tpm.pcrs(session, both, given),
+                "The digest is computed with this pcrDigest",
             )
         else:
             tpm(f"{words}: VALUE/p1").pcrs(session, both, given)
@@ -127,7 +131,7 @@ for session in tpm.each_session():
     outcome = "SUCCESS" if is_trial(session) else "PCR_CHANGED"
     tpm(f"With a wrong digest it is no other refusal: {outcome}").pcrs(session, ZERO, b"wrong")
     from_the_start("A policy from the start has the new value")
-    tpm.digest_is("Its digest", session)
+    tpm.digest_is("The digest of the session", session)
     extended("PCR 16, which is not selected, is extended in one bank", 16, (SHA1, bytes(20)))
     changed("TPM2_PolicyPCR again")
     from_the_start()
@@ -137,7 +141,7 @@ for session in tpm.each_session():
     event("TPM2_PCR_Event into PCR 23", 23)
     changed("TPM2_PolicyPCR again")
 
-    tpm.chapter("What changes no PCR.")
+    tpm.chapter("Commands that change no PCR.")
     from_the_start()
     event("TPM2_PCR_Event on TPM_RH_NULL", RH_NULL)
     extended("TPM2_PCR_Extend of PCR 0 by no digest", 0)
@@ -145,7 +149,7 @@ for session in tpm.each_session():
     tpm.refused("TPM2_PCR_Event by a wrong password: BAD_AUTH/s1", tpm.event(b"a", b"x"))
     tpm.accepted("TPM2_PCR_Read", tpm.read_pcr(0))
     tpm("TPM2_PolicyPCR again").pcrs(session, ZERO)
-    tpm.digest_is("Its digest, of twice the same", session)
+    tpm.digest_is("The digest of the session, of twice the same", session)
 
 tpm.chapter("Other assertions are not refused when a PCR has changed.")
 session = tpm.policy("A policy session")
@@ -169,5 +173,5 @@ tpm.makes("PCR 0", session, tpm.pcrs(session, ZERO))
 tpm.chapter("Each session by itself.")
 other = tpm.policy("Another policy session")
 tpm.accepted("TPM2_PCR_Reset of PCR 16", tpm.reset(b""))
-tpm("It has no assertion of a PCR").pcrs(other, ZERO)
+tpm("The session has no assertion about PCRs").pcrs(other, ZERO)
 tpm("But the one before has: PCR_CHANGED").pcrs(session, ZERO)

@@ -23,15 +23,17 @@ for session in tpm.each_session():
     said.told(CC.PolicyRestart, session, b"\0")
 
     tpm("TPM2_PolicyCommandCode of Unseal").command_code(session, 0x15E)
-    tpm("Of NV_Read: VALUE/p1").command_code(session, 0x14E)
-    forgets("Of Unseal again", tpm.command_code(session, 0x15E))
-    tpm.makes("Of NV_Read", session, tpm.command_code(session, 0x14E), "From zeros")
+    tpm("TPM2_PolicyCommandCode of NV_Read: VALUE/p1").command_code(session, 0x14E)
+    forgets("TPM2_PolicyCommandCode of Unseal again", tpm.command_code(session, 0x15E))
+    tpm.makes(
+        "TPM2_PolicyCommandCode of NV_Read", session, tpm.command_code(session, 0x14E), "From zeros"
+    )
 
     tpm("TPM2_PolicyLocality of locality 0").locality(session, 1)
-    tpm("Of locality 4: RANGE/p1").locality(session, 16)
-    forgets("Of locality 0 again", tpm.locality(session, 1))
-    tpm.makes("Of locality 4", session, tpm.locality(session, 16), "From zeros")
-    tpm("Of locality 0: RANGE/p1").locality(session, 1)
+    tpm("TPM2_PolicyLocality of locality 4: RANGE/p1").locality(session, 16)
+    forgets("TPM2_PolicyLocality of locality 0 again", tpm.locality(session, 1))
+    tpm.makes("TPM2_PolicyLocality of locality 4", session, tpm.locality(session, 16), "From zeros")
+    tpm("TPM2_PolicyLocality of locality 0: RANGE/p1").locality(session, 1)
 
     size = digest_bytes(session.algorithm)
     one, other = bytes([1]) * size, bytes([2]) * size
@@ -62,10 +64,10 @@ for algorithm in (SHA1, SHA256):
     tpm("TPM2_GetRandom, which it encrypts").random(8, session.encrypting)
 
 tpm.chapter("Only the session that is named is restarted.")
-other = tpm.policy("Another one")
+other = tpm.policy("Another session")
 tpm("TPM2_PolicyAuthValue in it").auth_value_told(other)
 tpm("TPM2_PolicyRestart of the one before").restart(session)
-tpm.digest_is("The other one's digest stays", other)
+tpm.digest_is("The digest of the other session is unchanged", other)
 said = tpm("TPM2_PolicyRestart without continueSession|it is restarted, and ends")
 said.restart(other, Use(other, 0))
-tpm("It is no more: REFERENCE_H0").get_digest(other)
+tpm("The session no longer exists: REFERENCE_H0").get_digest(other)

@@ -17,8 +17,7 @@ def accepted(what, **parameters):
 
 
 def refused(words, *choices):
-    """Sends TPM2_PolicySecret with each of these sets of parameters. Each command must be refused.
-    """
+    """Sends TPM2_PolicySecret with each of these sets of parameters. Each command must be refused."""
     tpm.refused(words, *(tpm.secret(session, **it) for it in choices))
 
 
@@ -47,31 +46,31 @@ for session in tpm.each_session():
         tpm.restarts(session)
         accepted(f"By {name}", of=handle)
         wanted = policy.after_secret(session.algorithm, zeros(session), name_of(handle), b"")
-        tpm.digest_is("Its digest", session, wanted)
+        tpm.digest_is("The digest of the session", session, wanted)
     tpm.restarts(session)
     for policy_ref, words in (
         (b"", "No policyRef, which is hashed all the same"),
-        (b"r", "One of a byte"),
-        (bytes(20), "Of 20 zeros"),
-        (bytes(range(32)), "Of 32 bytes"),
+        (b"r", "A policyRef of one byte"),
+        (bytes(20), "A policyRef of 20 zeros"),
+        (bytes(range(32)), "A policyRef of 32 bytes"),
         (b"", "None again"),
     ):
         accepted(words, policy_ref=policy_ref)
-        tpm.digest_is("Its digest", session)
+        tpm.digest_is("The digest of the session", session)
 
     tpm.restarts(session)
     right = session.nonce_tpm
     accepted("nonceTPM, the right one", nonce_tpm=right)
-    tpm.digest_is("It is not in the digest", session)
+    tpm.digest_is("The digest does not depend on this parameter", session)
     accepted("And once more, as it is the session's yet", nonce_tpm=right)
     wrong = (flipped(right), flipped(right, 0), right[:-1], right[:1], (right + b"\0")[:32], b"\0")
     wrong = [it for it in wrong if it != right]
     not_looked_at("Wrong ones: another bit, fewer bytes, more, one", "NONCE/p1", nonce_tpm=wrong)
-    tpm.digest_is("Its digest", session)
+    tpm.digest_is("The digest of the session", session)
     tpm("The session has a new nonce, by TPM2_GetRandom").random(1, session)
     refused_but_in_trial("The one before: NONCE/p1", dict(nonce_tpm=right))
     accepted("The new one", nonce_tpm=session.nonce_tpm)
-    tpm.digest_is("Its digest", session)
+    tpm.digest_is("The digest of the session", session)
 
     size = digest_bytes(session.algorithm)
     one, other = bytes([1]) * size, bytes(size)
@@ -79,14 +78,14 @@ for session in tpm.each_session():
     case = "cpHashA of another size than the session's digests, also in a trial session"
     sizes = [it for it in (1, 19, 21, 31) if it != size] + [52 - size]
     refused(f"{case}: SIZE/p2", *(dict(cp_hash=bytes(it)) for it in sizes))
-    accepted("One that is a digest", cp_hash=one)
+    accepted("A cpHashA with the size of a digest", cp_hash=one)
     tpm.digest_is("It is not in the digest", session)
-    accepted("The same again", cp_hash=one)
+    accepted("The same cpHashA again", cp_hash=one)
     accepted("None, which leaves it")
     others = flipped(one), flipped(one, 0), other
-    not_looked_at("Another one, by a bit, and zeros", "CPHASH", cp_hash=others)
+    not_looked_at("Another cpHashA, with one other bit, and one of zeros", "CPHASH", cp_hash=others)
     accepted("The first", cp_hash=one)
-    tpm.digest_is("Its digest", session)
+    tpm.digest_is("The digest of the session", session)
     tpm.restarts(session)
     refused("One in a command that is refused: VALUE/p4", dict(cp_hash=one, expiration=1))
     refused_but_in_trial("And by its nonceTPM: NONCE/p1", dict(cp_hash=one, nonce_tpm=b"x"))
@@ -104,7 +103,9 @@ for session in tpm.each_session():
         cut = b"", b"\0", b"\0\1", b"\0\x20" + bytes(31)
         raw(f"{case}: INSUFFICIENT/p{place}", *(front + it for it in cut))
         long = sized(bytes(33)) + behind, number(33, 2), b"\xff\xff"
-        raw(f"Of 33 bytes, whole or cut: SIZE/p{place}", *(front + it for it in long))
+        raw(
+            f"A buffer of 33 bytes, whole or truncated: SIZE/p{place}", *(front + it for it in long)
+        )
     raw("expiration that is cut: INSUFFICIENT/p4", *(3 * EMPTY + bytes(it) for it in (0, 1, 3)))
     whole = frames.policy_secret(), frames.policy_secret(expiration=1)
     raw("A byte after them, even if expiration is 1: SIZE", *(it + b"\0" for it in whole))
@@ -120,7 +121,7 @@ tpm.refused("The other way round: NONCE/p1", tpm.secret(other, nonce_tpm=session
 said = tpm("nonceTPM, cpHashA and policyRef of 32 bytes, followed by two entries of 32 bytes each")
 largest = dict(nonce_tpm=session.nonce_tpm, cp_hash=bytes(range(32)), policy_ref=bytes(32))
 said.secret(session, b"", session, Use(other, shows_empty_key=True), **largest)
-tpm.digest_is("Its digest", session)
+tpm.digest_is("The digest of the session", session)
 
 tpm.chapter("On the policy session that is named as a further entry too.")
 session = tpm.policy("The session, bound to TPM_RH_OWNER", bind=RH_OWNER, algorithm=SHA256)
@@ -129,11 +130,11 @@ said = tpm("With its old nonceTPM, as it has the new one after the command")
 said.secret(session, b"", session, nonce_tpm=old)
 tpm("The same again: NONCE/p1").secret(session, b"", session, nonce_tpm=old)
 tpm("With the new one").secret(session, b"", session, nonce_tpm=session.nonce_tpm)
-tpm.digest_is("Its digest", session)
+tpm.digest_is("The digest of the session", session)
 tpm.refused("Its hmac is wrong: BAD_AUTH/s2", wrong_in(tpm.secret(session, b"", session), 2))
-tpm("It ends with the command").secret(session, b"", Use(session, 0))
-tpm("It is no more: REFERENCE_H0").get_digest(session)
-unbound = tpm.policy("One that is bound to nothing", algorithm=SHA1)
+tpm("The session ends with the command").secret(session, b"", Use(session, 0))
+tpm("The session no longer exists: REFERENCE_H0").get_digest(session)
+unbound = tpm.policy("A session that is bound to nothing", algorithm=SHA1)
 tpm("It has neither key nor hmac").secret(unbound, b"", unbound)
 tpm("With an hmac by the empty key").secret(unbound, b"", Use(unbound, shows_empty_key=True))
-tpm.digest_is("Its digest", unbound)
+tpm.digest_is("The digest of the session", unbound)

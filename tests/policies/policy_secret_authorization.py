@@ -1,5 +1,5 @@
-"""Writes policy_secret_authorization.tpm. The authorization value of its first handle authorizes
-TPM2_PolicySecret, in a password or an HMAC session, as in any other command. The policy session
+"""Writes policy_secret_authorization.tpm. The authorization value of the first handle authorizes
+TPM2_PolicySecret, with a password or an HMAC session, as for any other command. The policy session
 needs no authorization.
 """
 
@@ -80,7 +80,7 @@ locked = tpm.policy("A policy session that is bound to TPM_RH_LOCKOUT", bind=RH_
 said = tpm("A wrong hmac of it, as a further entry: AUTH_FAIL/s2")
 said.refused(wrong_in(tpm.secret(target, b"owner", locked, of=RH_OWNER), 2))
 accepted("A right one", target, b"owner", locked, of=RH_OWNER)
-owned = tpm.policy("One that is bound to TPM_RH_OWNER", bind=RH_OWNER, algorithm=SHA256)
+owned = tpm.policy("A session that is bound to TPM_RH_OWNER", bind=RH_OWNER, algorithm=SHA256)
 said = tpm("A wrong hmac of it, with a first entry of TPM_RH_LOCKOUT: BAD_AUTH/s2")
 said.refused(wrong_in(tpm.secret(target, b"lockout", owned, of=RH_LOCKOUT), 2))
 case = "A right one, on TPM_RH_OWNER: it has the session's key alone, and no authorization value"

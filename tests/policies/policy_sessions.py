@@ -68,7 +68,7 @@ tpm.says("The sixth and the fourth are flushed: SUCCESS", *map(tpm.flush, flushe
 tpm.says("They are no more: REFERENCE_H0", *map(tpm.get_digest, flushed))
 hmac = start(SE_HMAC, 3, "An HMAC session takes the lowest free place", bind=RH_OWNER)
 policy = start(SE_POLICY, 5, "And a policy session the other", bind=RH_OWNER)
-tpm.digest_is("It begins with zeros", policy, zeros(policy))
+tpm.digest_is("The digest begins with zeros", policy, zeros(policy))
 
 tpm.chapter("A handle is that of a place and a kind.")
 said = tpm("The place of the HMAC session, as a policy session's: REFERENCE_H0")
@@ -105,7 +105,7 @@ tell(told, 0x15E, 4, CP_HASHES[0])
 tpm("As a trial session it takes any").branches(told, b"x", b"y")
 tpm("It ends by TPM2_FlushContext").flush(told)
 told = start(SE_POLICY, 7, "And a policy session again")
-tpm.digest_is("It begins with zeros", told, zeros(told))
+tpm.digest_is("The digest begins with zeros", told, zeros(told))
 is_policy_session(told)
 tell(told, 0x173, 8, CP_HASHES[1])
 
@@ -116,7 +116,7 @@ for session, words in ((policy, "policy"), (trial, "trial")):
     tpm.refused("The same again, of a nonce that is past: BAD_AUTH/s1", told)
     tpm("Without continueSession|and it ends").random(2, Use(session, 0))
     tpm("As an entry: REFERENCE_S0").random(2, session)
-    tpm("Its digest: REFERENCE_H0").get_digest(session)
+    tpm("The digest of the session: REFERENCE_H0").get_digest(session)
 said = tpm("A session that would end by a refused command: REFERENCE_S1")
 said.random(1, Use(sessions[0], 0), policy)
 tpm("Is there").get_digest(sessions[0])
@@ -138,7 +138,7 @@ said.raw(*(get_digest(0x0300_0000 + it) for it in range(16)))
 tpm.raw("Nor can it be flushed: HANDLE/p1", flush(0x0300_0000), flush(0x0300_000F))
 again = start(SE_POLICY, 0, "The first place is free", algorithm=SHA1)
 tpm.digest_is("A new policy is there", again, zeros(again))
-tpm("It is flushed").flush(again)
+tpm("The session is flushed").flush(again)
 
 tpm.chapter("Nor is anything left in the eighth place, whose session had assertions.")
 MIXED = (SE_POLICY, SE_HMAC, SE_TRIAL)
@@ -147,7 +147,7 @@ for place in range(8):
 assert last.handle == 0x0200_0007
 tpm("An HMAC session has the eighth").flush(last)
 last = start(SE_POLICY, 7, "And then a policy session has it")
-tpm.digest_is("It begins with zeros", last, zeros(last))
+tpm.digest_is("The digest begins with zeros", last, zeros(last))
 tell(last, 0x14E, 16, bytes([3]) * 32)
 for place in range(7):
     kind = 0x0200_0000 if MIXED[place % 3] == SE_HMAC else 0x0300_0000

@@ -32,10 +32,10 @@ def reset_by_both():
 tpm.accepted('ownerAuth is "owner"', tpm.change_auth(RH_OWNER, b"owner", b""))
 hmac = tpm.start("An HMAC session, bound to TPM_RH_OWNER, with AES", RH_OWNER, aes=True)
 policy = tpm.policy("A policy session, bound to nothing, and so without a key")
-bound = tpm.policy("One that is bound to TPM_RH_OWNER, with AES", bind=RH_OWNER, aes=True)
-lockout = tpm.policy("One that is bound to TPM_RH_LOCKOUT", bind=RH_LOCKOUT)
+bound = tpm.policy("A session that is bound to TPM_RH_OWNER, with AES", bind=RH_OWNER, aes=True)
+lockout = tpm.policy("A session that is bound to TPM_RH_LOCKOUT", bind=RH_LOCKOUT)
 trial = tpm.trial("A trial session, without a key")
-keyed = tpm.trial("One that is bound to TPM_RH_OWNER, with AES", bind=RH_OWNER, aes=True)
+keyed = tpm.trial("A session that is bound to TPM_RH_OWNER, with AES", bind=RH_OWNER, aes=True)
 target = tpm.policy("A policy session for assertions")
 WHAT = "TPM2_PCR_Reset, Extend, Event, HierarchyChangeAuth and PolicySecret"
 for words, session in (
@@ -79,7 +79,7 @@ tpm.chapter("But what is refused of entries whatever their hmacs are comes befor
 absent = Entry(0x0300_0009, b"", CONTINUE_SESSION, b"")
 for session in (bound, keyed):
     right = tpm.reset(session)
-    said = tpm("A session that is not there as the second entry: REFERENCE_S1")
+    said = tpm("A session that does not exist as the second entry: REFERENCE_S1")
     said.refused(right.but(entries=[*right.entries, absent]))
     tpm.refused("The same session twice: HANDLE/s2", right.but(entries=2 * right.entries))
     said = tpm("decrypt, but the first parameter is no sized buffer: ATTRIBUTES/s1")

@@ -41,7 +41,7 @@ def as_a_further_entry():
     said.change_auth(RH_OWNER, b"owner", hmac, session.decrypting)
     tpm("TPM2_GetRandom, which it encrypts").random(20, session.encrypting)
     tpm("TPM2_GetRandom that it does not encrypt").random(20, hmac, session)
-    tpm.digest_is("Its digest is unchanged", session)
+    tpm.digest_is("The digest of the session is unchanged", session)
     tpm("TPM2_PolicyGetDigest, which it encrypts itself").get_digest(session, session.encrypting)
     tpm("And which the HMAC session encrypts").get_digest(session, session, hmac.encrypting)
     right = event()
@@ -55,13 +55,13 @@ def as_a_further_entry():
     said.prepare(CC.PCR_Event, [16], b"\0\1", b"", session.decrypting)
     tpm.accepted("The right one", right)
     tpm.refused("It is of a nonce that is past: BAD_AUTH/s2", right)
-    tpm.digest_is("Its digest is unchanged", session)
+    tpm.digest_is("The digest of the session is unchanged", session)
 
 
 def of_its_own_policy():
     said = tpm("TPM2_PolicyPCR whose digest it decrypts itself|and its digest is of the plain one")
     said.pcrs(session, [], digest(session.algorithm, b""), [session.decrypting])
-    tpm.digest_is("Its digest", session)
+    tpm.digest_is("The digest of the session", session)
 
     def secret(words, *uses, nonce_tpm=None):
         given = session.nonce_tpm if nonce_tpm is None else nonce_tpm
@@ -74,7 +74,7 @@ def of_its_own_policy():
     secret(case, hmac.encrypting, session.decrypting)
     case = "It encrypts, after a password, and there is nothing to encrypt"
     secret(case, b"owner", session.encrypting, nonce_tpm=b"")
-    tpm.digest_is("Its digest", session)
+    tpm.digest_is("The digest of the session", session)
     if session.kind == SE_POLICY:
         case = "Another nonceTPM, decrypted: NONCE/p1"
         secret(case, b"owner", session.decrypting, nonce_tpm=flipped(session.nonce_tpm))
@@ -107,7 +107,7 @@ hmac = tpm.start("An HMAC session, bound to TPM_RH_OWNER, with AES", RH_OWNER, a
 for algorithm, hash_name in HASHES:
     for kind, name in KINDS:
         tpm.chapter(f"A {name} session of {hash_name}, bound to TPM_RH_OWNER.")
-        said = tpm("It is started")
+        said = tpm("The session is started")
         session = said.start(RH_OWNER, algorithm=algorithm, aes=True, kind=kind, size=20)
         as_a_further_entry()
         of_its_own_policy()
@@ -125,8 +125,8 @@ for algorithm, hash_name in HASHES:
         tpm.accepted("The right one", shown)
         tpm("TPM2_GetRandom, which it encrypts without a key").random(8, session.encrypting)
         tpm("TPM2_PolicyGetDigest, which it encrypts").get_digest(session, session.encrypting)
-        tpm.digest_is("Its digest is zeros", session, zeros(session))
-        tpm("It is flushed").flush(session)
+        tpm.digest_is("The digest of the session is zeros", session, zeros(session))
+        tpm("The session is flushed").flush(session)
 
 tpm.chapter("Without AES.")
 plain = tpm.policy("A policy session", bind=RH_OWNER)
@@ -160,7 +160,7 @@ tpm.refused("In the other order: BAD_AUTH/s1", turned)
 tpm.restarts(first)
 for it, kind in ((first, SE_POLICY), (second, SE_TRIAL)):
     assert it.kind == kind
-    tpm.digest_is("Its digest is zeros", it, zeros(it))
+    tpm.digest_is("The digest of the session is zeros", it, zeros(it))
 
 tpm.chapter("Bound to TPM_RH_LOCKOUT, a wrong hmac is a try at its value.")
 tpm.script.wait_each_time()
@@ -170,5 +170,5 @@ for it in (locked, trial):
     tpm.refused("After a password: AUTH_FAIL/s2", wrong_in(tpm.event(b"a", b"", it), 2))
     tpm.refused("As the first entry: AUTH_FAIL/s1", wrong_in(tpm.random(1, it), 1))
     tpm("A right one").random(1, it)
-said = tpm("One that is bound to TPM_RH_OWNER, in addition: BAD_AUTH/s3")
+said = tpm("A session that is bound to TPM_RH_OWNER, in addition: BAD_AUTH/s3")
 said.refused(wrong_in(tpm.random(1, locked, trial, first), 3))

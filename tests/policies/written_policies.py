@@ -53,8 +53,7 @@ def no_way(session, **demand):
 
 
 def after_version(old=ZEROS):
-    """Returns the digest after the assertion that the index contains at least the required version.
-    """
+    """Returns the digest after the assertion that the index contains at least the required version."""
     return policy.after_nv(SHA256, old, LEAST + number(0, 2) + number(AT_LEAST, 2), tpm.name(index))
 
 
@@ -80,7 +79,7 @@ tpm("The kernel, into PCR 11").event(KERNEL, b"", pcr=11)
 attributes = NvAttribute.AUTHREAD | BY_OWNER
 index, other = (tpm.index(it, attributes) for it in ("A version", "Another index"))
 for it in (index, other):
-    tpm("It is written" if it == index else "").writing(it, VERSION, by=RH_OWNER)
+    tpm("The index is written" if it == index else "").writing(it, VERSION, by=RH_OWNER)
 PLACES = [policy.after_locality(SHA256, ZEROS, it) for it in (LOCALITY_0, LOCALITIES_3_AND_4)]
 BY_INDEX = policy.after_secret(SHA256, ZEROS, tpm.name(index), b"")
 UPDATES = after_version(policy.after_or(SHA256, PLACES)), BY_INDEX

@@ -19,6 +19,7 @@ import tpmsim.device
 from tpmsim.device import ChildDevice, DeviceEnded, FileDevice, ServedDevice, SimulatorDevice
 from tpmsim.device import SwtpmDevice
 from tpmsim.standard import number
+from tests.common.interrupts import interrupted
 
 PACKAGE = str(pathlib.Path(tpmsim.device.__file__).parent)
 FIRST, SECOND, LATE = 8, 16, 24
@@ -125,31 +126,6 @@ def simulated():
         return serving(commands)
 
 
-def interrupted(act, left):
-    """Calls `act`, and interrupts it at the `left`-th line that it executes in the package. Returns
-    whether it executes that many lines.
-    """
-
-    def trace(frame, event, _):
-        nonlocal left
-        if not frame.f_code.co_filename.startswith(PACKAGE):
-            return None
-        if event == "line":
-            left -= 1
-            if not left:
-                raise KeyboardInterrupt
-        return trace
-
-    try:
-        sys.settrace(trace)
-        act()
-    except KeyboardInterrupt:
-        return True
-    finally:
-        sys.settrace(None)
-    return False
-
-
 def told(device, size):
     """After an interrupted command, sends a command for a different number of bytes, and describes
     its response. A FileDevice on a pipe reads back the command that it wrote. A device that was
@@ -170,7 +146,7 @@ def at_each_line(made, act):
     said, count = set(), 1
     while True:
         with made() as device:
-            if not interrupted(lambda: act(device), count):
+            if not interrupted(lambda: act(device), count, PACKAGE):
                 break
             said.add(told(device, SECOND))
         count += 1

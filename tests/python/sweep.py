@@ -2,11 +2,11 @@
 
     sweep.py PROGRAM COUNT [SEED]
 
-The program audits each script of tests/ and examples/, and COUNT random ones, of which the first
-has SEED. It audits each random script also from the image of its device at a power cycle, and with
-altered lines. If a script ends with a bad line, the audit must agree up to that line. The program
-names the logs whose audit is wrong, and saves their scripts. At the end it prints the counts. The
-status is 1 if an audit is wrong.
+The program audits each script of tests/ and examples/, and COUNT random scripts, of which the first
+one has the seed SEED. It also audits each random script from the image of its device at a power
+cycle, and with altered lines. If a script ends with a bad line, the audit must agree up to that
+line. The program names the logs whose audit is wrong, and saves their scripts. At the end it prints
+the counts. The status is 1 if an audit is wrong.
 """
 
 import pathlib

@@ -4,7 +4,8 @@ error.
 
     wrong_devices.py
 
-The program prints the fault that the audit finds for each device. The status is 1 if it misses one.
+The program prints the fault that the audit finds for each device. The status is 1 if the audit
+misses the error of a device.
 """
 
 import functools

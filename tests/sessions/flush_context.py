@@ -22,7 +22,7 @@ tpm.startup()
 flushes("While there is no session: HANDLE/p1", 0x0200_0000, 0x0200_000F)
 session = tpm.start("An HMAC session, 02000000", RH_OWNER)
 
-tpm.chapter("What is refused, and ends nothing.")
+tpm.chapter("Refused commands, which end no session.")
 areas = area(entry()), area(entry(session.handle)), area()
 texts(
     "With sessions (tag 8002), whatever the authorization area holds: a password, the session, "
@@ -40,15 +40,15 @@ flushes(
     *(2, 0x0100_0000, RH_OWNER, RH_NULL, RS_PW, 0x8100_0000, 0x0400_0000, 0xFFFF_FFFF),
 )
 flushes(
-    "A session that is not there: another number, far numbers, and a policy session with the "
+    "A session that does not exist: another number, far numbers, and a policy session with the "
     "number of the HMAC session: HANDLE/p1",
     *(0x0200_0001, 0x0200_0010, 0x0200_0100, 0x02FF_FFFF, 0x0300_0000),
 )
 flushes("A transient object, while there is none: HANDLE/p1", 0x8000_0000, 0x80FF_FFFF)
 tpm("The session is unchanged").reset(session)
 
-tpm.chapter("What ends a session.")
-other = tpm.start("Another one, 02000001", algorithm=SHA1, aes=True)
+tpm.chapter("Commands that end a session.")
+other = tpm.start("Another session, 02000001", algorithm=SHA1, aes=True)
 tpm.accepted("The first is flushed", tpm.flush(session))
 flushes("Once more: HANDLE/p1", session.handle)
 tpm("TPM2_PCR_Reset by it: REFERENCE_S0").reset(session)
@@ -61,4 +61,4 @@ tpm("TPM2_PCR_Reset by the old key: BAD_AUTH/s1").reset(session)
 tpm.accepted("By its own", stale)
 tpm.accepted("Both are flushed", tpm.flush(other))
 tpm.accepted("", tpm.flush(again))
-flushes("And there is none: HANDLE/p1", 0x0200_0000, 0x0200_0001, 0x0200_0002)
+flushes("The sessions no longer exist: HANDLE/p1", 0x0200_0000, 0x0200_0001, 0x0200_0002)

@@ -1,6 +1,6 @@
-"""Writes grounds.tpm. All that can authorize an entity, each ground once and accepted: a password,
-the HMAC of an HMAC session, or a policy session whose policy holds. The same grounds are lost in
-tests/sessions/lost_grounds.tpm.
+"""Writes grounds.tpm. Everything that can authorize an entity (a ground) is used once and accepted:
+a password, the HMAC of an HMAC session, or a policy session whose policy holds.
+tests/sessions/lost_grounds.tpm shows how the same grounds are lost.
 """
 
 from functools import partial
@@ -81,12 +81,12 @@ for handle, (name, value) in HIERARCHIES.items():
 loaded = tpm.sealed_object("An object with userWithAuth", attributes=HERE | USER, by=RH_OWNER)
 tpm.keep("A persistent copy of it", RH_OWNER, loaded, KEPT)
 to_write = tpm.index("An index with AUTHWRITE", NvAttribute.AUTHWRITE | NvAttribute.OWNERREAD)
-tpm("It is written").writing(to_write, DATA)
-said = tpm("One with AUTHREAD, which the owner writes")
+tpm("The index is written").writing(to_write, DATA)
+said = tpm("An index with AUTHREAD, which the owner writes")
 to_read = said.written_index(NvAttribute.AUTHREAD | NvAttribute.OWNERWRITE)
-of_owner = tpm.written_index("One with OWNERWRITE and OWNERREAD", BY_OWNER)
-of_platform = tpm.index("One with PPWRITE and PPREAD", BY_PLATFORM)
-tpm("It is written").writing(of_platform, DATA, by=RH_PLATFORM)
+of_owner = tpm.written_index("An index with OWNERWRITE and OWNERREAD", BY_OWNER)
+of_platform = tpm.index("An index with PPWRITE and PPREAD", BY_PLATFORM)
+tpm("The index is written").writing(of_platform, DATA, by=RH_PLATFORM)
 owner, platform = (f"The {it}, for an index with" for it in ("owner", "platform"))
 write, read, unseal = "TPM2_NV_Write", "TPM2_NV_Read", "TPM2_Unseal"
 writes = lambda index, asker: partial(tpm.writing, index, DATA, by=asker)
@@ -114,7 +114,7 @@ tpm.flushed_new("TPM_RH_NULL, whose is too: TPM2_CreatePrimary", at_null(b""))
 for entity in found[:8]:
     what = "With zeros after the value, which do not count" if entity is found[0] else ""
     tpm.does(what, entity.prepare(tpm.auth_value(entity.handle) + bytes(2)))
-tpm("And if it is empty").reset(bytes(32))
+tpm("The empty password, if the value is empty").reset(bytes(32))
 
 tpm.chapter(
     "HMAC SESSIONS. The key of the hmac is the session key, which an unbound session has not, "
@@ -122,7 +122,7 @@ tpm.chapter(
     "is left out."
 )
 unbound = tpm.start("A session bound to nothing")
-other = tpm.start("One bound to PCR 16", 16)
+other = tpm.start("A session bound to PCR 16", 16)
 for entity in found:
     tpm.chapter(f"{entity.words}: {entity.command}.")
     tpm.does("Bound to nothing: the key is the value", entity.prepare(unbound))
@@ -153,7 +153,7 @@ tpm.chapter(
     "authPolicy. What it asserted holds when the command comes, and counts for one command."
 )
 session = tpm.policy("A policy session, which is bound to nothing and so has no key")
-bound = tpm.policy("One bound to the owner, which has a key", bind=RH_OWNER)
+bound = tpm.policy("A session bound to the owner, which has a key", bind=RH_OWNER)
 
 tpm.chapter(
     "Nothing is demanded: the key of the hmac is the session key alone. Here the policy has no "
@@ -167,7 +167,7 @@ for name, prepare in commands:
 tpm.flushed(handle)
 both = tpm.sealed_object("An object with userWithAuth and this policy", ZEROS, HERE | USER)
 tpm.unseal("TPM2_Unseal by the policy", both, SECRET, session)
-tpm.unseal("And by the password", both, SECRET, PIN)
+tpm.unseal("TPM2_Unseal by the password", both, SECRET, PIN)
 tpm.flushed(both)
 
 # The policies are in the order of docs/table/policies.md.
@@ -209,7 +209,7 @@ condition(f"{words} one.", after_secret(tpm.name(KEPT)), told, by_kept)
 words = "TPM2_PolicyNV: an index held what it was compared with."
 condition(words, after_equal_data(tpm.name(compared)), "TPM2_PolicyNV", equal)
 
-tpm.chapter("What is demanded, with other keys and other values.")
+tpm.chapter("Demands of policies, with other keys and other values.")
 handle = tpm.sealed_object("An object whose policy is either of the two", AFTER_AUTH_VALUE)
 tpm.asserts_value(bound)
 demanded = Use(bound, demand=AUTH_VALUE)
@@ -236,7 +236,7 @@ tpm.chapter(
 handle = tpm.sealed_object("An object for TPM2_Unseal", after_code(CC.Unseal))
 said = tpm("An index for TPM2_NV_Write")
 written = said.index(NvAttribute.POLICYWRITE | NvAttribute.OWNERREAD, after_code(CC.NV_Write))
-said = tpm("One for TPM2_NV_Read, which the owner writes")
+said = tpm("An index for TPM2_NV_Read, which the owner writes")
 read = said.written_index(NvAttribute.POLICYREAD | NvAttribute.OWNERWRITE, after_code(CC.NV_Read))
 tpm.asserts_code(session)
 tpm.unseal("TPM2_Unseal", handle, SECRET, session)
@@ -273,7 +273,7 @@ index = tpm.index("An index with this policy", BY_POLICY, auth_policy)
 prepared = tpm.writing(index, DATA, Use(session, demand=AUTH_VALUE))
 tpm.locality_is(1)
 tpm.asserts(
-    "What the policy says, in its order",
+    "The assertions of the policy, in order",
     tpm.pcrs(session, PCR_16),
     tpm.locality(session, AT_LOCALITY_1),
     tpm.command_code(session, CC.NV_Write),

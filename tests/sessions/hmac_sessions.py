@@ -51,16 +51,16 @@ for bind, words in (
         said = tpm("Another handle, TPM_RH_ENDORSEMENT: BAD_AUTH/s1")
         said.refused(right.but(handles=[RH_ENDORSEMENT]))
         tpm.accepted("As it was computed|and the nonces are new, which no refusal did", right)
-        tpm.refused("The same buffer again, of a nonce that is past: BAD_AUTH/s1", right)
+        tpm.refused("The same buffer again, with an outdated nonce: BAD_AUTH/s1", right)
         said = tpm("With the new nonce|and the session ends")
         said.change_auth(RH_OWNER, AUTH, Use(session, ENDS))
-        tpm("It is no more: REFERENCE_S0").change_auth(RH_OWNER, AUTH, session)
+        tpm("The session no longer exists: REFERENCE_S0").change_auth(RH_OWNER, AUTH, session)
 
-tpm.chapter("What is in the key of an hmac.")
+tpm.chapter("The key of an hmac.")
 changing = tpm.change_auth, RH_OWNER, AUTH
 bound = tpm.start("A session bound to TPM_RH_OWNER", RH_OWNER)
-other = tpm.start("Another one, bound to TPM_RH_ENDORSEMENT", RH_ENDORSEMENT)
-unbound = tpm.start("And one that is unbound")
+other = tpm.start("Another session, bound to TPM_RH_ENDORSEMENT", RH_ENDORSEMENT)
+unbound = tpm.start("An unbound session")
 said = tpm("Bound to the entity, and its authorization value in the key all the same: BAD_AUTH/s1")
 said.refused(tpm.with_key(bound.key + AUTH, *changing, bound))
 case = "Bound to another, without the entity's value, and with the value of that other one"
@@ -74,7 +74,7 @@ for session, words in ((bound, "bound to it"), (other, "bound to another"), (unb
     tpm(f"As the rule is, {words}").change_auth(RH_OWNER, AUTH, session)
 said = tpm("The session that is bound to TPM_RH_OWNER on TPM_RH_ENDORSEMENT")
 said.change_auth(RH_ENDORSEMENT, b"endorsement", bound)
-tpm("And on PCR 16, whose authorization value is empty").reset(bound)
+tpm("The same session on PCR 16, whose authorization value is empty").reset(bound)
 
 tpm.chapter("A refused command leaves the session's nonce, whatever refused it.")
 tpm.refused("TPM2_PCR_Reset of PCR 0, which has a right hmac: LOCALITY", tpm.reset(bound, pcr=0))
@@ -97,14 +97,14 @@ said.refused(tpm.reset(bound).but_entry(1, hmac=b""))
 to_pcr = tpm.start("A session bound to PCR 16, which has a key, of an empty value", 16)
 tpm.refused("With no hmac: BAD_AUTH/s1", tpm.reset(to_pcr).but_entry(1, hmac=b""))
 tpm("With its hmac").reset(to_pcr)
-tpm.accepted("It ends", tpm.flush(to_pcr))
+tpm.accepted("The session ends", tpm.flush(to_pcr))
 
 tpm.chapter("Nonces of the caller have any length up to 32 bytes.")
 for nonce, words in ((b"", "no nonce"), (b"\x5a", "one byte"), (bytes(32), "32 bytes")):
     tpm(f"With {words}").reset(Use(bound, nonce=nonce))
 
 tpm.chapter("Sessions that authorize nothing, as entries of TPM2_GetRandom.")
-tpm("One, bound to TPM_RH_OWNER").random(4, bound)
+tpm("One session, bound to TPM_RH_OWNER").random(4, bound)
 tpm("Three, of which the unbound one has an empty hmac").random(4, other, unbound, bound)
 wrong = tpm.random(4, other, unbound, bound)
 tpm.refused("The third with a wrong hmac: BAD_AUTH/s3", wrong_in(wrong, 3))
@@ -134,7 +134,7 @@ again = tpm.reset(trailing)
 for what in ("If they stay the same the nonce does too, and a buffer is accepted again", "", ""):
     tpm.received(again, tpm.raw(f"{what}: SUCCESS", again.buffer()))
 tpm.accepted("Once more, and the random bytes are others", again)
-tpm.refused("So it is not accepted again: BAD_AUTH/s1", again)
+tpm.refused("So the buffer is not accepted again: BAD_AUTH/s1", again)
 
 tpm.chapter("The longest response that there is, 601 bytes.")
 banks = frames.selection((SHA256, range(8)), *15 * [(SHA256, range(24))])

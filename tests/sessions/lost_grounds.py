@@ -71,19 +71,19 @@ for words, attributes, outcome in (
 tpm.chapter("THE VALUE IS OF NO USE. It is right, in a password and in an HMAC session.")
 closed = tpm.sealed_object("An object without userWithAuth", AFTER_UNSEAL)
 lost("TPM2_Unseal: AUTH_UNAVAILABLE", *(tpm.unsealing(closed, it) for it in (PIN, hmac)))
-usable = tpm.sealed_object("The same with userWithAuth", AFTER_UNSEAL, HERE | USER)
+usable = tpm.sealed_object("An object with userWithAuth", AFTER_UNSEAL, HERE | USER)
 tpm.unseal("TPM2_Unseal by the password", usable, SECRET, PIN)
-tpm.unseal("And by the HMAC session", usable, SECRET, hmac)
+tpm.unseal("TPM2_Unseal by the HMAC session", usable, SECRET, hmac)
 tpm.flushed(closed, usable)
 said = tpm("An index with AUTHWRITE and without AUTHREAD")
 to_write = said.written_index(NvAttribute.AUTHWRITE | BY_OWNER)
 lost("TPM2_NV_Read: AUTH_UNAVAILABLE", *(tpm.reading(to_write, 8, it) for it in (PIN, hmac)))
 tpm("TPM2_NV_Write").writing(to_write, DATA, PIN)
-said = tpm("One with AUTHREAD and without AUTHWRITE")
+said = tpm("An index with AUTHREAD and without AUTHWRITE")
 to_read = said.written_index(NvAttribute.AUTHREAD | BY_OWNER)
 lost("TPM2_NV_Write: AUTH_UNAVAILABLE", *(tpm.writing(to_read, DATA, it) for it in (PIN, hmac)))
 tpm.read("TPM2_NV_Read", to_read, DATA, PIN)
-said = tpm("One whose policy is the command TPM2_NV_ChangeAuth")
+said = tpm("An index whose policy is the command TPM2_NV_ChangeAuth")
 admin = said.index(BY_VALUE, after_code(CC.NV_ChangeAuth))
 case = "TPM2_NV_ChangeAuth, which is in the ADMIN role: AUTH_UNAVAILABLE"
 lost(case, *(tpm.changing_auth(admin, PIN, it) for it in (PIN, hmac)))
@@ -114,9 +114,9 @@ for what, bent in (
     lost(f"{what}: AUTH_FAIL/s1", bent)
 tpm.does("Right, by the nonceTPM that is the same since the first", right)
 
-tpm.chapter("One under another key: here TPM2_Unseal of a protected object.")
+tpm.chapter("An hmac with another key, here in TPM2_Unseal of a protected object.")
 bound = tpm.start("A session bound to the object", openly)
-other = tpm.start("One bound to TPM_RH_ENDORSEMENT", RH_ENDORSEMENT)
+other = tpm.start("A session bound to TPM_RH_ENDORSEMENT", RH_ENDORSEMENT)
 case = "Unbound, with another value in the key, and with none: AUTH_FAIL/s1"
 lost(case, by_key(b"other", openly, hmac), by_key(b"", openly, hmac))
 tpm.unseal("With the value", openly, SECRET, hmac)
@@ -125,7 +125,7 @@ case = "Bound to the object, with the value in the key all the same, and by anot
 lost(f"{case}: AUTH_FAIL/s1", *(by_key(it, openly, bound) for it in keys))
 tpm.unseal("By the session key alone", openly, SECRET, bound)
 lost("Bound to another, without the value: AUTH_FAIL/s1", by_key(other.key, openly, other))
-tpm.unseal("With it", openly, SECRET, other)
+tpm.unseal("With the value in the key", openly, SECRET, other)
 
 tpm.chapter("An empty one, although there is a key.")
 for session, words in ((hmac, "the value"), (bound, "the session key")):
@@ -137,7 +137,7 @@ bound = tpm.start("A session bound to the owner", RH_OWNER)
 tpm("ownerAuth is another").change_auth(RH_OWNER, b"other", OWNER)
 changing = tpm.change_auth, RH_OWNER, OWNER, bound
 lost("Without the value in the key: BAD_AUTH/s1", tpm.with_key(bound.key, *changing))
-tpm("With it, and ownerAuth is unchanged").change_auth(RH_OWNER, OWNER, bound)
+tpm("With the value in the key, and ownerAuth is unchanged").change_auth(RH_OWNER, OWNER, bound)
 tpm("Without it, as it holds again").change_auth(RH_OWNER, OWNER, bound)
 index = tpm.index("An index that is not written", BY_VALUE)
 to_index = tpm.start("A session bound to it", index)
@@ -151,7 +151,7 @@ named = tpm.sealed_object("An object whose policy is the command TPM2_Unseal", A
 session = tpm.policy("A policy session, which is unbound")
 
 tpm.chapter("A POLICY. The session is a trial session (condition 1).")
-trial = tpm.trial("It is started")
+trial = tpm.trial("The session is started")
 tpm.asserts_code(trial)
 lost("TPM2_Unseal by it: ATTRIBUTES/s1", tpm.unsealing(named, trial))
 tpm.asserts_code(session)
@@ -169,8 +169,18 @@ lost(
 )
 for words, attributes, auth_policy, authorized in (
     ("An index with an empty authPolicy", BY_POLICY, b"", None),
-    ("One of 32 zeros, without POLICYREAD", NvAttribute.POLICYWRITE, ZEROS, CC.NV_Write),
-    ("One of 32 zeros, without POLICYWRITE", NvAttribute.POLICYREAD, ZEROS, CC.NV_Read),
+    (
+        "An index with the authPolicy 32 zeros, without POLICYREAD",
+        NvAttribute.POLICYWRITE,
+        ZEROS,
+        CC.NV_Write,
+    ),
+    (
+        "An index with the authPolicy 32 zeros, without POLICYWRITE",
+        NvAttribute.POLICYREAD,
+        ZEROS,
+        CC.NV_Read,
+    ),
 ):
     index = tpm.written_index(words, attributes | BY_OWNER, auth_policy)
     for prepared in (tpm.writing(index, DATA, session), tpm.reading(index, 8, session)):
@@ -196,14 +206,14 @@ told_pcr("what neither writes one nor clears")
 tpm.says("SUCCESS", extending(16), tpm.event(b"event", b"", pcr=RH_NULL))
 tpm.unseal("TPM2_Unseal", handle, SECRET, session)
 
-tpm.chapter("And after TPM2_PolicyOR, which leaves of the branch the condition.")
+tpm.chapter("The same after TPM2_PolicyOR, which keeps the condition of the branch.")
 branches = AFTER_PCR_16, AFTER_UNSEAL
 either = tpm.sealed_object("An object with its policy", policy.after_or(SHA256, branches))
 both = tpm.pcrs(session, PCR_16), tpm.branches(session, *branches)
 tpm.asserts("TPM2_PolicyPCR and TPM2_PolicyOR", *both)
 tpm("TPM2_PCR_Event of PCR 23").event(b"event", b"", pcr=23)
 lost("TPM2_Unseal: PCR_CHANGED", tpm.unsealing(either, session))
-tpm.asserts("Both from the start", tpm.restart(session), *both)
+tpm.asserts("Both assertions from the start", tpm.restart(session), *both)
 tpm.unseal("TPM2_Unseal", either, SECRET, session)
 tpm.flushed(handle, either)
 
@@ -218,7 +228,9 @@ tpm.chapter("The ADMIN role, and no command is recorded (condition 5), or anothe
 index = tpm.index("An index whose authPolicy is 32 zeros", BY_POLICY, ZEROS)
 lost("TPM2_NV_ChangeAuth: POLICY_FAIL/s1", tpm.changing_auth(index, PIN, session))
 tpm("TPM2_NV_Write, in the USER role").writing(index, DATA, session)
-admin = tpm("One whose policy is TPM2_NV_ChangeAuth").index(BY_POLICY, after_code(CC.NV_ChangeAuth))
+admin = tpm("An index whose policy is TPM2_NV_ChangeAuth").index(
+    BY_POLICY, after_code(CC.NV_ChangeAuth)
+)
 tpm.asserts_code(session, CC.NV_Read)
 lost("TPM2_NV_ChangeAuth: POLICY_CC/s1", tpm.changing_auth(admin, PIN, session))
 tpm.restarts(session)
@@ -231,7 +243,7 @@ tpm.chapter(
 )
 auth_policy = after_secret(name_of(RH_OWNER))
 first = tpm.index("An index with this policy", BY_POLICY, auth_policy)
-second = tpm.index("Another one", BY_POLICY, auth_policy)
+second = tpm.index("Another index", BY_POLICY, auth_policy)
 writing = lambda: tpm.writing(first, DATA, session)
 before = tpm.cp_hash(writing())
 
@@ -276,9 +288,9 @@ tpm.asserts_code(by_sha1)
 lost("The nameAlg is SHA-256: POLICY_FAIL/s1", tpm.unsealing(named, by_sha1))
 said = tpm("An object with nameAlg SHA-1")
 of_sha1 = said.sealed_object(after_code(CC.Unseal, SHA1), algorithm=SHA1)
-tpm.unseal("It is authorized", of_sha1, SECRET, by_sha1)
+tpm.unseal("The session authorizes the object", of_sha1, SECRET, by_sha1)
 tpm.asserts_code(session)
-lost("And not by a session of SHA-256: POLICY_FAIL/s1", tpm.unsealing(of_sha1, session))
+lost("A session of SHA-256 does not: POLICY_FAIL/s1", tpm.unsealing(of_sha1, session))
 tpm.unseal("Which authorizes what has its hash", named, SECRET, session)
 tpm.flushed(by_sha1, of_sha1)
 
@@ -306,8 +318,8 @@ for what, *told in (
     ("The value of another entity", pcr_16, two, other_value, equal),
     ("Another policyRef", pcr_16, two, other_ref, equal),
     ("At least the data, instead of just them", pcr_16, two, secret, at_least),
-    ("One assertion less", pcr_16, two, secret),
-    ("One more", pcr_16, two, secret, equal, all_of_them),
+    ("A policy with one assertion less", pcr_16, two, secret),
+    ("A policy with one assertion more", pcr_16, two, secret, equal, all_of_them),
     ("Another order", two, pcr_16, secret, equal),
     ("Just the policy, and TPM2_PolicyRestart", pcr_16, two, secret, equal, restart),
 ):
@@ -340,10 +352,12 @@ by_password = lambda: tpm.unsealing(handle, Use(session, demand=PASSWORD))
 by_value = lambda: tpm.unsealing(handle, Use(session, demand=AUTH_VALUE))
 by_nothing = lambda: tpm.unsealing(handle, Use(session, shows_empty_key=True))
 tpm.asserts_password(session)
-lost("It is empty: AUTH_FAIL/s1", by_password().but_entry(1, hmac=b""))
-lost("It is another value: AUTH_FAIL/s1", by_password().but_entry(1, hmac=b"other"))
-lost("It is an hmac, with the value in its key: AUTH_FAIL/s1", by_value())
-tpm.does("It is the value", by_password())
+lost("The hmac field is empty: AUTH_FAIL/s1", by_password().but_entry(1, hmac=b""))
+lost(
+    "The hmac field contains another value: AUTH_FAIL/s1", by_password().but_entry(1, hmac=b"other")
+)
+lost("The hmac field contains an hmac with the value in its key: AUTH_FAIL/s1", by_value())
+tpm.does("The hmac field contains the value", by_password())
 
 tpm.chapter("TPM2_PolicyAuthValue: the value is not in the key of the hmac.")
 tpm.asserts_value(session)

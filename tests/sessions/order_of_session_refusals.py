@@ -32,17 +32,17 @@ uses = first.decrypting, second.encrypting
 cut, absent = sized(bytes(16))[:-1], Entry(0x0200_0005, b"", 0xFF, b"")
 for words, *handles in (
     ("tpmKey is not TPM_RH_NULL, and bind is not there: VALUE/h1", RH_OWNER, 0x8000_0000),
-    ("An object that is not there, as bind: REFERENCE_H1", RH_NULL, 0x8000_0000),
+    ("An object that does not exist, as bind: REFERENCE_H1", RH_NULL, 0x8000_0000),
     ("An NV index that is not there: HANDLE/h2", RH_NULL, 0x0100_0000),
     ("A bind that is no entity: VALUE/h2", RH_NULL, 0x0200_0000),
-    ("A session that is not there, as the first entry: REFERENCE_S0", *NULLS),
+    ("A session that does not exist, as the first entry: REFERENCE_S0", *NULLS),
 ):
     tpm.refused(words, start(handles, cut, *uses).but(entries=[absent]))
 wrong = wrong_in(start(NULLS, cut, uses[0]), 1)
 said = tpm("As the second, whose fault comes before the first one's wrong hmac: REFERENCE_S1")
 said.refused(wrong.but(entries=[*wrong.entries, absent]))
-tpm.refused("Both hmacs: BAD_AUTH/s1", wrong_in(start(NULLS, cut, *uses), 1, 2))
-tpm.refused("The second one's: BAD_AUTH/s2", wrong_in(start(NULLS, cut, *uses), 2))
+tpm.refused("Both hmacs are wrong: BAD_AUTH/s1", wrong_in(start(NULLS, cut, *uses), 1, 2))
+tpm.refused("The second hmac is wrong: BAD_AUTH/s2", wrong_in(start(NULLS, cut, *uses), 2))
 no_type = sized(bytes(15)) + sized(b"\1") + b"\2" + frames.symmetric(False) + number(4, 2) + b"\0"
 hmac = sized(bytes(15)) + sized(b"\1") + b"\0" + frames.symmetric(False) + number(4, 2)
 for words, text in (
@@ -92,7 +92,7 @@ for words, text in (
     ("No handle: INSUFFICIENT/p1", b""),
     ("A byte after a handle that is no session's: SIZE", number(RH_OWNER, 4) + b"\0"),
     ("That handle: VALUE/p1", number(RH_OWNER, 4)),
-    ("A session that is not there: HANDLE/p1", number(0x0200_0009, 4)),
+    ("A session that does not exist: HANDLE/p1", number(0x0200_0009, 4)),
     ("The session: SUCCESS", number(first.handle, 4)),
 ):
     tpm.raw(words, flush(text))

@@ -28,7 +28,7 @@ for algorithm, size in ((SHA1, 16), (SHA1, 20), (SHA256, 16), (SHA256, 32)):
     ).change_auth(RH_OWNER, b"a new value", bound.decrypting)
     said = tpm("The unbound one does, to 32 bytes")
     said.change_auth(RH_OWNER, b"0123456789abcdef" * 2, unbound.decrypting)
-    said = tpm("What was set is a password now, and sets the first value")
+    said = tpm("The new value authorizes as a password, and sets the first value")
     said.accepted(tpm.change_auth(RH_OWNER, b"owner", b"0123456789abcdef" * 2))
     tpm("A value of which only zeros are sent").change_auth(RH_OWNER, bytes(20), bound.decrypting)
     said = tpm("It is empty now: the unbound one has no key and no hmac, and encrypts all the same")
@@ -36,9 +36,9 @@ for algorithm, size in ((SHA1, 16), (SHA1, 20), (SHA256, 16), (SHA256, 32)):
     said = tpm("TPM2_PCR_Event into PCR 16, by the bound one|with the digests of the data in plain")
     said.event(b"event data", bound.decrypting)
     tpm("TPM2_GetRandom of 20 bytes").random(20, bound.encrypting)
-    tpm("And by the unbound one").random(20, unbound.encrypting)
+    tpm("The same with the unbound session").random(20, unbound.encrypting)
     for session in (bound, unbound):
-        tpm.accepted("It is flushed", tpm.flush(session))
+        tpm.accepted("The session is flushed", tpm.flush(session))
 
 tpm.chapter("Sizes. Blocks have 16 bytes, and the last may be cut.")
 session = tpm.start("A session, bound to TPM_RH_OWNER", RH_OWNER, aes=True)
@@ -77,8 +77,12 @@ everywhere = tpm.with_nonces_of([other], tpm.event, b"event data", *by)
 entries = [right.entries[0], everywhere.entries[1], right.entries[2]]
 tpm.refused("The second entry's hmac has no other nonce: BAD_AUTH/s2", right.but(entries=entries))
 tpm.accepted("Nothing was changed by the refusals", right)
-tpm("It ends as it decrypts").change_auth(RH_OWNER, b"owner", session, Use(other, DECRYPT))
-tpm("And is no more: REFERENCE_S1").change_auth(RH_OWNER, b"owner", session, other.decrypting)
+tpm("The session decrypts, and then ends").change_auth(
+    RH_OWNER, b"owner", session, Use(other, DECRYPT)
+)
+tpm("The session no longer exists: REFERENCE_S1").change_auth(
+    RH_OWNER, b"owner", session, other.decrypting
+)
 
 tpm.chapter("Sessions that encrypt when nothing is authorized.")
 other = tpm.start("Another session, bound to TPM_RH_ENDORSEMENT", RH_ENDORSEMENT, aes=True)
@@ -105,7 +109,7 @@ for words, uses in (
     new = tpm.start(words, RH_OWNER, size=20, aes=True, uses=uses)
     tpm("By the new session, which ends").change_auth(RH_OWNER, b"owner", Use(new, DECRYPT))
 
-tpm.chapter("What is refused, with right hmacs.")
+tpm.chapter("Refused commands with right hmacs.")
 cut = b"", b"\0", b"\0\x01", b"\0\x20" + bytes(31), b"\0\x21" + bytes(32), b"\xff\xff"
 tpm.refused(
     "decrypt, and the first parameter is cut: no size, half of it, or fewer bytes, also where it "

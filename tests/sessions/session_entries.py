@@ -53,7 +53,7 @@ refused(case, reset(entry(plain, nonce=bytes(33))), reset(entry(plain, hmac=byte
 refused("In the second: SIZE/s2", reset(password, entry(plain, nonce=bytes(33))))
 refused("In the third: SIZE/s3", reset(password, entry(plain), entry(aes, hmac=bytes(33))))
 
-tpm.chapter("A session that is not there.")
+tpm.chapter("A session that does not exist.")
 case = "The next number, and far ones: REFERENCE_S0"
 refused(case, *(reset(entry(it)) for it in (0x0200_0003, 0x0200_0010, 0x0200_0100, 0x02FF_FFFF)))
 case = "A policy session with the number of an HMAC session: REFERENCE_S0"
@@ -134,8 +134,10 @@ tpm.chapter(
 right = tpm.event(b"abc", aes)
 case = "33 bytes of nonce, a handle that is no session's: SIZE/s2"
 refused(case, second(entry(0x8000_0000, 0xFF, nonce=bytes(33))))
-refused("That handle: VALUE/s2", second(entry(0x8000_0000, 0xFF)))
-refused("A session that is not there: REFERENCE_S1", second(entry(0x0200_0009, 0xFF)))
+refused(
+    "A second entry with a handle that is not a session: VALUE/s2", second(entry(0x8000_0000, 0xFF))
+)
+refused("A session that does not exist: REFERENCE_S1", second(entry(0x0200_0009, 0xFF)))
 case = "A session that occurs twice, and a password: HANDLE/s2"
 refused(case, second(entry(aes, 0xFF)), second(entry(RS_PW, 0xFF)))
 refused("All attributes: RESERVED_BITS/s2", second(entry(plain, 0xFF)))
@@ -149,7 +151,7 @@ refused("The second entry's wrong hmac alone: BAD_AUTH/s2", second(entry(more, S
 tpm.chapter("The order of entries: all of the first comes before the second.")
 case = "The last fault of the first entry, and the first of the second: SYMMETRIC/s1"
 refused(case, event(entry(plain, DECRYPT), entry(0x8000_0000, 0xFF, nonce=bytes(33))))
-case = "And all of the second before the third: SYMMETRIC/s2"
+case = "The second entry's faults come before the third entry's: SYMMETRIC/s2"
 refused(case, event(entry(aes), entry(plain, DECRYPT), entry(aes, 0xFF, nonce=bytes(33))))
 cut = frames.entry(plain.handle, bytes(33)) + frames.entry(aes.handle)[:-1]
 four = (frames.entry(plain.handle, bytes(33)), *3 * [frames.entry(aes.handle)])
@@ -159,6 +161,6 @@ said.raw(
 )
 
 tpm.accepted("No session was changed by a refusal: the right entry alone", right)
-tpm("The other two").event(b"abc", plain, more)
+tpm("The other two sessions").event(b"abc", plain, more)
 said = tpm("The three of them, decrypting and in another order")
 said.event(b"abc", more, Use(aes, DECRYPT | STAYS), plain)

@@ -23,8 +23,7 @@ def start(**changes):
 
 
 def refused(words, *choices):
-    """Sends TPM2_StartAuthSession with each of these sets of values. Each command must be refused.
-    """
+    """Sends TPM2_StartAuthSession with each of these sets of values. Each command must be refused."""
     tpm.raw(words, *(start(**it) for it in choices))
 
 
@@ -79,7 +78,7 @@ each(
     "0, a transient object, a persistent one, an NV index and a session: VALUE/h1",
     *("tpm_key", RH_OWNER, 0, 0x8000_0000, 0x8100_0000, 0x0100_0000, 0x0200_0000),
 )
-heads("It is looked at before bind is read: VALUE/h1", number(RH_OWNER, 4))
+heads("tpmKey is checked before bind is read: VALUE/h1", number(RH_OWNER, 4))
 heads("No bind, and three bytes of it: INSUFFICIENT/h2", NULL, NULL + b"\x40\0\0")
 each(
     "A bind that is no entity: PCR 24, TPM_RS_PW, two other permanent handles, an HMAC "
@@ -128,7 +127,7 @@ case = "One that is neither SHA-1 nor SHA-256, here TPM_ALG_NULL, TPM_ALG_SHA384
 each(f"{case}: HASH/p5", "algorithm", ALG_NULL, 0x000C, 0x0005)
 texts("A byte after them: SIZE", start_text() + b"\0")
 
-tpm.chapter("Of two faults the one that is read first.")
+tpm.chapter("Of two faults, the response reports the one that is read first.")
 XOR = numbers(frames.XOR)
 case = "nonceCaller that says too much, and a sessionType of 02: SIZE/p1"
 refused(case, dict(nonce=bytes(33), kind=0x02))
@@ -182,7 +181,7 @@ for kind, name in ((frames.SE_POLICY, "policy"), (frames.SE_TRIAL, "trial")):
 
 tpm.chapter("Sessions for the command, which authorize nothing.")
 first = tpm.start("A session, bound to TPM_RH_OWNER", RH_OWNER)
-second = tpm.start("Another one, started with the first as an entry", uses=[first])
+second = tpm.start("Another session, started with the first one as an entry", uses=[first])
 assert second.handle == 0x0200_0001
 third = tpm.start(
     "A third one, bound to TPM_RH_OWNER, with both as entries|and the new session's nonce is "
@@ -197,7 +196,7 @@ beside = tpm.prepare(CC.StartAuthSession, handles, parameters, first)
 other_bind = beside.but(handles=[RH_NULL, RH_LOCKOUT])
 tpm.refused("With another bind than the hmac is of: BAD_AUTH/s1", other_bind)
 for session in (third, second, first):
-    tpm.accepted("It ends", tpm.flush(session))
+    tpm.accepted("The session ends", tpm.flush(session))
 
 tpm.chapter("There are sixteen sessions at most.")
 sessions = []
@@ -210,7 +209,7 @@ refused("A salt, which is looked at before: VALUE/p2", dict(salt=b"\0"))
 refused("A nonce of 15 bytes, which is too: SIZE/p1", dict(nonce=bytes(15)))
 said = tpm("Another session that would end gives its place up too late: SESSION_MEMORY")
 said.prepare(CC.StartAuthSession, *frames.start_auth_session(NONCE), Use(sessions[4], ENDS))
-tpm("It has not ended, and its nonce is the same").reset(sessions[4])
+tpm("The session has not ended, and has the same nonce").reset(sessions[4])
 tpm.accepted("Two are flushed, the tenth", tpm.flush(sessions[9]))
 tpm.accepted("And the fourth", tpm.flush(sessions[3]))
 assert tpm.start("The next takes the lowest free number").handle == 0x0200_0003
@@ -250,4 +249,4 @@ for kind, name in ((frames.SE_POLICY, "policy"), (frames.SE_TRIAL, "trial")):
     session = tpm.start(f"A {name} session", kind=kind, xor=True)
     assert session.handle == 0x0300_0000
     tpm("TPM2_GetRandom by it").random(4, session)
-    tpm.accepted("It is flushed", tpm.flush(session))
+    tpm.accepted("The session is flushed", tpm.flush(session))

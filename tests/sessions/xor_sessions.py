@@ -126,7 +126,7 @@ for algorithm, nonce_size in ((SHA1, 16), (SHA1, 20), (SHA256, 16), (SHA256, 32)
     changing = tpm.change_auth(RH_OWNER, OWNER_AUTH, unbound.decrypting)
     masking("And back, by the unbound one", changing, OWNER_AUTH, auth_value=b"another")
     for session in (bound, unbound):
-        tpm.accepted("It is flushed", tpm.flush(session))
+        tpm.accepted("The session is flushed", tpm.flush(session))
 
 tpm.chapter("Both directions of one command, with one session and with two.")
 session = tpm.start("A session, bound to TPM_RH_OWNER", RH_OWNER, xor=True)
@@ -175,11 +175,11 @@ for name, made_by, demand in (
     unsealing = tpm.unsealing(by_policy, Use(told, ENCRYPTS, demand=demand))
     case = "TPM2_Unseal: its value is in the key of the mask, whatever the policy demands"
     masked(case, unsealing, b"behind a policy", auth_value=b"pin")
-    tpm.accepted("It is flushed", tpm.flush(by_policy))
+    tpm.accepted("The session is flushed", tpm.flush(by_policy))
     tpm.accepted("And the session", tpm.flush(told))
 trial = tpm.start("A trial session", kind=SE_TRIAL, xor=True)
 masked("TPM2_GetRandom by it", tpm.random(32, trial.encrypting), drawn(32))
-tpm.accepted("It is flushed", tpm.flush(trial))
+tpm.accepted("The session is flushed", tpm.flush(trial))
 
 tpm.chapter(
     "TPM2_StartAuthSession has a sized buffer in both directions, and a nonce that is masked is "

@@ -6,7 +6,7 @@ import json
 import pathlib
 import sys
 
-from tpmsim.explain.own_nv import type_words
+from tpmsim.explain.words import index_type_words
 from tpmsim.explain.words import algorithm_words, bytes_words, command_words, flag_words
 from tpmsim.explain.words import handle_words, localities_words, seconds_words, SESSIONS
 from tpmsim.model.state_text import open_state
@@ -85,7 +85,7 @@ def object_values(held):
 def index_values(index):
     public = index.public
     return {
-        "type": type_words(public.kind),
+        "type": index_type_words(public.kind),
         "attributes": flag_words(public.attributes & ~KIND_BITS, nv.Attribute),
         "authValue": bytes_words(index.auth_value),
         "authPolicy": public.auth_policy.hex() or "empty",

@@ -13,6 +13,5 @@ REASONS = {
     "object": "objects cannot be loaded by their creation or from outside, be duplicated, or get another authorization value",
     "policy": "these policy commands are not served",
     "scheme": "keyed hashes have no XOR scheme",
-    "sequence": "there are no hash and HMAC sequences: data have up to 1,024 bytes, and no ticket",
     "ticket": "TPM2_PolicySecret has no expiration, and makes no ticket",
 }

@@ -1,6 +1,6 @@
 #!/bin/sh
-# Uses a device with Debian's tpm2-tools, each tool in its own process, and reports for each tool whether
-# it succeeded. Not part of the gate. It installs nothing, and leaves no files.
+# Uses a device with Debian's tpm2-tools, each tool in its own process. Reports for each tool whether it
+# succeeded. Not part of the gate. It installs nothing, and leaves no files.
 #
 #   tools/interop/tpm2_tools.sh            in each of these three ways
 #   tools/interop/tpm2_tools.sh WAY..      in these ways:

@@ -11,9 +11,9 @@
 #   tools/soak/fuzz.sh --replay FILE   plays a script or a stream that an earlier run kept
 #
 # It runs PROGRAM, or the one that tools/lib/program.sh names. If a response differs, it prints the seed and the
-# line of the difference, and keeps the script or the stream. The first one is also kept in a reduced form, with
-# only the lines that are needed to reproduce the difference. tests/common/streams.py defines the lines of a
-# stream. The last lines contain the totals. The status is 1 if anything differs.
+# line of the difference, and keeps the script or the stream. It also keeps the first of them in a reduced form,
+# with only the lines that are needed to reproduce the difference. tests/common/streams.py defines the lines of
+# a stream. The last lines contain the totals. The status is 1 if anything differs.
 set -u
 
 is_number() {

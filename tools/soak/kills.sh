@@ -7,9 +7,9 @@
 #   tools/soak/kills.sh               1,000 kills, with seed 1
 #   tools/soak/kills.sh 5000 7        5,000 kills, with seed 7
 #
-# The first line of the output reports whether everything was right. If not, the script keeps the last image,
-# and prints its path. The second line reports when the kills happened, which differs from run to run. The other
-# lines are about --save-each.
+# The first line of the output reports whether everything was right. If something was wrong, the script keeps
+# the last image, and prints its path. The second line reports when the kills happened, which differs from run
+# to run. The other lines are about --save-each.
 set -u
 
 top=$(CDPATH='' cd "$(dirname "$0")/../.." && pwd -P) || exit 1

@@ -1,9 +1,9 @@
 #!/bin/sh
-# Plays random scripts on two devices of the library. One is never restored. The other is restored from its
-# state text into another handle at random moments, before one event in four. Both must return the same
-# response to every event (tests/library/moved.c). Then both the library and the Python device try to restore
-# every prefix of a state text, and the text with each byte changed (tests/library/snapshots.py). It is not
-# part of the gate, and needs python3, a C compiler and the library in dist/.
+# Plays random scripts on two devices of the library. The first device is never restored. The second one is
+# restored from its state text into another handle at random moments, before one event in four. Both must return
+# the same response to every event (tests/library/moved.c). Then both the library and the Python device try to
+# restore every prefix of a state text, and the text with each byte changed (tests/library/snapshots.py). It is
+# not part of the gate, and needs python3, a C compiler and the library in dist/.
 #
 #   tools/soak/snapshots.sh                 the scripts of the seeds 1 to 100, of 1,000 commands each
 #   tools/soak/snapshots.sh 7               the script of seed 7

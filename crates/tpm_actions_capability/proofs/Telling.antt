@@ -1,5 +1,5 @@
--- The encoding of a list of elements, computed from the bytes written so far and the elements that
--- remain to be written.
+-- The bytes written so far, followed by the encoding of the remaining elements, are the complete
+-- encoding of the list.
 use Rattle.std.proofs.Common.{arith, ◌≡◌, ℕ, zero, suc, ◌-◌, ◌≢◌, true, false, List, ◌∷◌, ◌++◌, filter, take, refl, ap, sym, ◌∙◌}
 use Rattle.std.proofs.lemmas.List.{append_assoc}
 use Rattle.std.proofs.lemmas.List.Concat.{flat_map-cons}
@@ -7,8 +7,8 @@ use Rattle.tpm_actions_capability.specs.Element.{is_from, text_of, told_text}
 use Rattle.tpm_actions_capability.specs.declared.element.Element.{Element}
 use Rattle.tpm_actions_capability.specs.declared.element.Telling.{Telling}
 
--- If an element is written, one fewer may be written after it, and the complete encoding is the
--- same.
+-- If an element is written, the number of elements that may still be written decreases by one, and
+-- the complete encoding stays the same.
 pub told_one : (telling : Telling) (from left : ℕ) (text new : List ℕ) (e : Element) (es : List Element) → left ≢ 0 → is_from from e ≡ true → new ≡ text ++ told_text telling e → new ++ text_of telling from (left - 1) es ≡ text ++ text_of telling from left (e ∷ es)
 told_one telling from zero text new e es some is told = absurd (some refl)
 told_one telling from (suc left) text new e es some is told =

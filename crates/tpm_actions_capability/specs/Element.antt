@@ -23,8 +23,8 @@ told_text tell.NumberAndValue e = to_be_bytes w32 e.number ++ to_be_bytes w32 e.
 abbrev pub is_from : ℕ → Element → Bool
 is_from from e = nat_le from e.number
 
--- the number of elements whose number is at least `from`; and how many of these are listed: the
--- requested number, but at most 64
+-- the number of elements whose number is at least `from` (`found_count`), and how many of these
+-- elements are listed (`told_count`): as many as requested, but at most 64
 abbrev pub found_count : ℕ → List Element → ℕ
 found_count from elements = count_by (is_from from) elements
 

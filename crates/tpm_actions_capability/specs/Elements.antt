@@ -21,7 +21,7 @@ use Rattle.tpm_record.specs.Record.{Record}
 use Rattle.tpm_actions_capability.specs.Element.{by_itself, if_there}
 use Rattle.tpm_actions_capability.specs.declared.element.Element.{Element}
 
--- ---- handles, by the highest byte of the first requested one
+-- ---- handles, by the highest byte of the first requested handle
 
 -- the handles of type 00: the PCRs
 abbrev pub pcr_elements : List Element

@@ -9,7 +9,7 @@ ghost use Rattle.tpm_actions_capability.specs.declared.element.Element.{Element 
 use arrayvec::ArrayVec;
 use tpm_record::rows::answer::Parameters;
 
-/// The maximum number of elements in one answer; no capability lists more.
+/// The maximum number of elements in an answer. No capability has more elements.
 pub(crate) const ELEMENT_LIMIT: usize = 64;
 
 /// All elements that a capability lists.

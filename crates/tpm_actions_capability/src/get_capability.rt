@@ -60,7 +60,7 @@ fn read_parameters(parameters: &[u8]) -> Result<CapabilityParameters, Refused>
 }
 
 impl Capability {
-    /// The capability with this number; VALUE if it is not supported.
+    /// The capability with this number. Returns VALUE if it is not supported.
     fn of(number: u32) -> Result<Capability, Refused>
         ensures { result ≡ capability_of number }
     {

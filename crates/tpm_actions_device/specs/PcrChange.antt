@@ -1,5 +1,5 @@
--- The common part of the commands that change a PCR. With TPM_RH_NULL instead of a PCR, they
--- neither check nor change any PCR.
+-- The common part of the commands that change a PCR. With TPM_RH_NULL instead of a PCR, these
+-- commands neither check nor change any PCR.
 use Rattle.tpm_types.specs.declared.action_check.ActionCheck.TheVariants as action
 use Rattle.std.specs.Prelude.{ℕ, Option, Some, None, Result, Ok, Err}
 use Rattle.tpm_pcr.specs.Values.{BankValues}

@@ -10,7 +10,7 @@ use Rattle.tpm_record.specs.rows.Request.{Request}
 use Rattle.tpm_record.specs.rows.Rows.{Success, only}
 
 -- the row of TPM2_Shutdown. Parameter: shutdownType. Effect: the newly saved state replaces the
--- one saved before
+-- previously saved state
 unfoldable pub shutdown_row : Record → Request → Result Success Refused
 shutdown_row r q = do
   type ← only (startup_type_at q.parameters)

@@ -61,7 +61,7 @@ parameters_in text = do
     hash = hash.0;
   })
 
--- whether the session encrypts by XOR and the hash for its masks is not the session's own
+-- whether the session encrypts by XOR and its masks use a hash algorithm other than the session's
 abbrev pub has_other_mask : SymmetricDefinition → HashAlg → Bool
 has_other_mask (symmetric.Xor mask) hash = not (hash_number mask == hash_number hash)
 has_other_mask other hash = false

@@ -27,8 +27,7 @@ use Rattle.tpm_actions_device.specs.declared.startup.Start.{Start}
 use Rattle.tpm_actions_device.specs.declared.startup.Start.TheVariants.{Reset, Restart, Resume}
 
 -- the kind of a startup. If TPM2_Shutdown(STATE) saved a state, CLEAR is a TPM Restart, and STATE
--- is a TPM Resume; otherwise CLEAR is a TPM Reset. Refused by check A1 if STATE is requested and no
--- state was saved
+-- is a TPM Resume. If not, CLEAR is a TPM Reset, and check A1 refuses STATE
 abbrev pub start_of : StartupType → SavedKind → Result Start Refused
 start_of type.Clear saved.Nothing = Ok Reset
 start_of type.Clear saved.Clear = Ok Reset
@@ -104,8 +103,8 @@ start_draws Restart = 0
 start_draws Resume = 0
 
 -- the row of TPM2_Startup. Parameter: startupType, from any locality. Refused by check A1 if STATE
--- is requested and no state was saved. Effect: starts the device. The saved state is discarded, as
--- it is by any other successful command that does not preserve it
+-- is requested, but TPM2_Shutdown(STATE) saved no state. Effect: starts the device. The saved state
+-- is then discarded, as after every success of a command that does not preserve it
 unfoldable pub startup_row : Record → Request → Result Success Refused
 startup_row r q = do
   type ← only (startup_type_at q.parameters)

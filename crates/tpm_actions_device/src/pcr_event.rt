@@ -16,7 +16,7 @@ use tpm_record::rows::reading::{end, parameter};
 use tpm_types::{DATA_LIMIT, Refused, read_buffer};
 
 /// TPM2_PCR_Event: extends a PCR with the digests of the data, and returns the digests. With
-/// TPM_RH_NULL it checks and changes nothing, but still returns the digests.
+/// TPM_RH_NULL, the command checks and changes no PCR, but still returns the digests.
 #[tactic(auto, unfolding(crate::specs::PcrEvent::pcr_event_row))]
 pub fn pcr_event<K: Keep>(keep: &mut K, call: &Call, answer: &mut Answer) -> Result<(), Refused>
     requires { IsEmpty answer.old }

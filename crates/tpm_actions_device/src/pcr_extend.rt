@@ -15,8 +15,8 @@ use tpm_record::rows::call::Call;
 use tpm_record::rows::reading::{end, parameter};
 use tpm_types::{DigestValues, Refused};
 
-/// TPM2_PCR_Extend: extends a PCR with each digest in turn. With TPM_RH_NULL it checks and changes
-/// nothing.
+/// TPM2_PCR_Extend: extends a PCR with each digest in turn. With TPM_RH_NULL, the command checks
+/// and changes no PCR.
 #[tactic(auto, unfolding(crate::specs::PcrExtend::pcr_extend_row))]
 pub fn pcr_extend<K: Keep>(keep: &mut K, call: &Call, _answer: &mut Answer) -> Result<(), Refused>
     requires { IsEmpty _answer.old }

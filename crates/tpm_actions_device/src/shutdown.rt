@@ -13,8 +13,8 @@ use tpm_record::rows::call::Call;
 use tpm_record::rows::reading::{end, parameter};
 use tpm_types::{Refused, StartupType};
 
-/// TPM2_Shutdown: saves the state that the next TPM2_Startup uses; with STATE, it includes the
-/// values of PCRs 0 to 15.
+/// TPM2_Shutdown: saves the state that the next TPM2_Startup uses. With STATE, this state includes
+/// the values of PCRs 0 to 15.
 #[tactic(auto, unfolding(crate::specs::Shutdown::shutdown_row))]
 pub fn shutdown<K: Keep>(keep: &mut K, call: &Call, _answer: &mut Answer) -> Result<(), Refused>
     requires { IsEmpty _answer.old }

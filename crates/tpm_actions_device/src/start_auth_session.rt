@@ -53,7 +53,7 @@ fn read_parameters(parameters: &[u8]) -> Result<SessionParameters, Refused>
     })
 }
 
-/// Whether the session encrypts by XOR and the hash for its masks is not the session's own.
+/// Whether the session encrypts by XOR and its masks use a hash algorithm other than the session's.
 fn has_other_mask(symmetric: SymmetricDefinition, hash: HashAlg) -> bool
     ensures { result ≡ has_other_mask symmetric hash }
 {

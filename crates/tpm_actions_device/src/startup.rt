@@ -51,17 +51,17 @@ fn reset_lockout(lockout: &mut Lockout)
 /// The kind of a startup (TPM 2.0 Library, Part 1, section 12.2.3).
 #[derive(Clone, Copy, PartialEq, Eq)]
 pub enum Start {
-    /// TPM Reset: a startup with CLEAR, if no state was saved.
+    /// TPM Reset: a startup with CLEAR, unless TPM2_Shutdown(STATE) saved a state.
     Reset,
-    /// TPM Restart: a startup with CLEAR, if a state was saved.
+    /// TPM Restart: a startup with CLEAR, if TPM2_Shutdown(STATE) saved a state.
     Restart,
-    /// TPM Resume: a startup with STATE, if a state was saved.
+    /// TPM Resume: a startup with STATE, if TPM2_Shutdown(STATE) saved a state.
     Resume,
 }
 
 impl Start {
-    /// The kind of a startup with this type. Returns VALUE if the type is STATE and no state was
-    /// saved.
+    /// The kind of a startup with this type. Returns VALUE if the type is STATE, but
+    /// TPM2_Shutdown(STATE) saved no state.
     fn of(kind: StartupType, saved: SavedKind) -> Result<Start, Refused>
         ensures { result ≡ start_of kind saved }
     {
@@ -131,8 +131,8 @@ fn begin<K: Keep>(keep: &mut K, start: Start, random: &[u8; 256]) -> usize
     }
 }
 
-/// TPM2_Startup: a TPM Reset, a TPM Restart or a TPM Resume. Returns VALUE if the type is STATE and
-/// no state was saved.
+/// TPM2_Startup: a TPM Reset, a TPM Restart or a TPM Resume. Returns VALUE if the type is STATE,
+/// but TPM2_Shutdown(STATE) saved no state.
 #[tactic(auto, unfolding(crate::specs::Startup::startup_row))]
 pub fn startup<K: Keep>(keep: &mut K, call: &Call, answer: &mut Answer) -> Result<(), Refused>
     requires { IsEmpty answer.old }

@@ -16,7 +16,7 @@ use Rattle.tpm_types.specs.declared.refused.Refused.{Refused}
 use Rattle.tpm_record.specs.rows.Refusals.{or_refusal, parameter_refusal}
 
 -- the refusal if a check of a template, or of a public area to be loaded, fails; `before` is the
--- number of the command's own checks before those of the template. The template is the second
+-- number of the command's own checks before the template's checks. The template is the second
 -- parameter
 abbrev pub template_refusal : (before : ℕ) → TemplateFault → Refused
 template_refusal before template.AuthPolicySize = parameter_refusal (action_named (before + 1)) 2 code.Size

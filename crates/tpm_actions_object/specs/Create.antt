@@ -16,7 +16,7 @@ use Rattle.tpm_actions_object.specs.Checks.{given_passes, public_passes}
 use Rattle.tpm_actions_object.specs.Creation.{Parameters, creation_text, object_parent, parameters_in}
 use Rattle.tpm_actions_object.specs.Loaded.{is_fixed, parent_passes, loaded_at}
 
--- the IV of the private area: the sixteen random bytes that follow those for the object
+-- the IV of the private area: the sixteen random bytes that follow the random bytes for the object
 abbrev pub initial_vector : Parameters → List ℕ → List ℕ
 initial_vector p random = take 16 (drop (drawn_by p.template p.given) random)
 

@@ -22,7 +22,7 @@ use Rattle.tpm_actions_object.specs.Checks.{given_passes, public_passes}
 use Rattle.tpm_actions_object.specs.Creation.{Parameters, creation_rest, hierarchy_parent, parameters_in}
 use Rattle.tpm_actions_object.specs.Loaded.{place_for}
 
--- the hierarchy that a handle names; the general checks ensure that it names one
+-- the hierarchy that a handle names; the general checks ensure that the handle names a hierarchy
 abbrev pub named_hierarchy : Handle → Result HierarchyHandle Refused
 named_hierarchy handle = ok_or (hierarchy_of handle) handle_refusal
 

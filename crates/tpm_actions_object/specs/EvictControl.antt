@@ -47,14 +47,15 @@ is_of_platform handle = nat_le 0x81800000 handle.number
 
 -- whether the platform (if `by_platform`) or the owner may use this persistent handle. The owner
 -- may not use the platform's handles; for a new persistent object the platform may use only its own
+-- handles
 abbrev pub may_name : (by_platform removes : Bool) → Handle → Bool
 may_name true true wanted = true
 may_name true false wanted = is_of_platform wanted
 may_name false removes wanted = not (is_of_platform wanted)
 
--- the checks of an eviction by the platform (if `by_platform`) or the owner. Check A1 refuses it if
--- that hierarchy may not evict the object; A2 if the object has stClear; A3 if that hierarchy may
--- not use the handle
+-- the checks of an eviction by the platform (if `by_platform`) or the owner. Check A1 refuses the
+-- eviction if this hierarchy may not evict the object; A2 if the object has stClear; A3 if this
+-- hierarchy may not use the handle
 abbrev pub eviction_passes : (by_platform removes : Bool)
     → Object → Handle → Result (Unit {0}) Refused
 eviction_passes by_platform removes object wanted = do
@@ -80,8 +81,8 @@ copied objects object wanted = do
   a6 ← refused_if (nat_le persistent_limit (length objects)) (action_refusal action.Sixth (plain code.NvSpace))
   Ok (with_persistent objects wanted object)
 
--- the persistent objects after an eviction, which removes a persistent object or copies a
--- transient one
+-- the persistent objects after an eviction, which removes a persistent object or copies a transient
+-- object
 abbrev pub evicted : Entries Object → Handle → Object → Handle → Result (Entries Object) Refused
 evicted objects handle object wanted =
     if is_persistent handle then removed objects handle wanted else copied objects object wanted

@@ -42,8 +42,8 @@ no_place action = action_refusal action (plain code.ObjectMemory)
 abbrev pub place_for : ActionCheck → Record → Result ℕ Refused
 place_for action r = ok_or (lowest_free r.objects) (no_place action)
 
--- The code put an object into its slot, or refused the command because no slot was free or memory
--- ran out (if it can). A refusal changes nothing.
+-- On success, the object is in its slot. On a refusal, nothing changed: no slot was free, or memory
+-- ran out, which is possible only if `can` is true.
 abbrev pub Loads : Bool → Result ℕ Refused → Record → Object → Result Handle Refused → Record
     → Type 0
 Loads can (Ok place) old object (Ok handle) new =

@@ -11,7 +11,7 @@ use tpm_types::{ActionCheck, Refused, ResponseCode};
 use tpm_types_object::{Public, SensitiveCreate};
 
 /// The refusal if a check of a template fails. `before` is the number of the command's own checks
-/// before those of the template.
+/// before the template's checks.
 fn template_refusal(before: u8, fault: TemplateFault) -> Refused
     requires { before ≤ 4 }
     ensures { result ≡ template_refusal before fault }
@@ -36,7 +36,7 @@ fn template_refusal(before: u8, fault: TemplateFault) -> Refused
 }
 
 /// The refusal if a check of inSensitive fails. `before` is the number of the command's own checks
-/// before those of inSensitive.
+/// before the checks of inSensitive.
 fn creation_refusal(before: u8, fault: CreationFault) -> Refused
     requires { before ≤ 4 }
     ensures { result ≡ creation_refusal before fault }
@@ -61,7 +61,7 @@ fn creation_refusal(before: u8, fault: CreationFault) -> Refused
 }
 
 /// Checks a template, or a public area to be loaded. `before` is the number of the command's own
-/// checks before those of the template.
+/// checks before the template's checks.
 pub fn public_passes(before: u8, public: &Public, parent_is_fixed: bool) -> Result<(), Refused>
     requires { before ≤ 4 }
     ensures { result ≡ public_passes before parent_is_fixed public.now }

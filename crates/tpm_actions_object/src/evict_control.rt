@@ -1,5 +1,5 @@
-//! TPM2_EvictControl: makes a transient object persistent or removes a persistent one (specified in
-//! `specs/EvictControl`).
+//! TPM2_EvictControl: makes a transient object persistent or removes a persistent object (specified
+//! in `specs/EvictControl`).
 
 ghost use Rattle.std.specs.Prelude.{◌≡◌, IfOk, OnOk, false, true};
 ghost use Rattle.tpm_record.specs.Persistent.{can_persist};
@@ -72,8 +72,8 @@ fn may_name(by_platform: bool, removes: bool, wanted: Handle) -> bool
     }
 }
 
-/// Refuses an object that the platform (if `by_platform`) or the owner may not evict, or a handle
-/// that they may not use.
+/// Refuses an object that the platform (if `by_platform`) or the owner may not evict, an object
+/// with stClear, or a handle that this hierarchy may not use.
 fn check_eviction(
     by_platform: bool,
     removes: bool,
@@ -137,7 +137,8 @@ fn put<K: Keep>(keep: &mut K, object: Object, wanted: Handle) -> Result<(), Refu
     }
 }
 
-/// TPM2_EvictControl: makes a copy of a transient object persistent, or removes a persistent one.
+/// TPM2_EvictControl: makes a copy of a transient object persistent, or removes a persistent
+/// object.
 #[tactic(auto, unfolding(crate::specs::EvictControl::evict_control_row))]
 pub fn evict_control<K: Keep>(
     keep: &mut K,

@@ -18,7 +18,8 @@ use Rattle.tpm_record.specs.rows.Target.{reading_passes}
 use Rattle.tpm_record.specs.declared.rows.target.Target.{Target}
 use Rattle.tpm_actions_policy.specs.PolicyNv.{Parameters, compared}
 
--- the data of a written index has the size stated in its public area
+-- the data of an index has the size stated in its public area, or is empty if the index is not
+-- written
 abbrev HasItsSize : NvIndex → Type 0
 HasItsSize index =
     length index.bytes ≡ (if has index.public.attributes attribute.Written then index.public.data_size else 0)

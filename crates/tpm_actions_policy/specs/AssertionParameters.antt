@@ -1,4 +1,4 @@
--- The assertion of the definitions that corresponds to the parameters in the code.
+-- Converts the parameters of an assertion in the code to the assertion of the definitions.
 use Rattle.std.specs.Prelude.{◌≡◌, Result, Ok, Err}
 use Rattle.tpm_policy.specs.Assertion as assertion
 use Rattle.tpm_policy.specs.Assertion.{Assertion}

@@ -1,4 +1,4 @@
-//! TPM2_PolicyNvWritten: allows only a written NV index, or only an unwritten one (specified in
+//! TPM2_PolicyNvWritten: allows only written NV indices, or only unwritten NV indices (specified in
 //! `specs/PolicyNvWritten`).
 
 ghost use Rattle.std.specs.Prelude.{◌≡◌};
@@ -16,7 +16,7 @@ use tpm_record::rows::call::Call;
 use tpm_record::rows::reading::{end, parameter};
 use tpm_types::{Refused, read_yes_no};
 
-/// TPM2_PolicyNvWritten: allows only a written NV index, or only an unwritten one.
+/// TPM2_PolicyNvWritten: allows only written NV indices, or only unwritten NV indices.
 #[tactic(auto, unfolding(crate::specs::Assertions::assertion_row))]
 pub fn policy_nv_written<K: Keep>(
     keep: &mut K,

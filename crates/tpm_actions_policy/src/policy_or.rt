@@ -1,5 +1,4 @@
-//! TPM2_PolicyOR: continues a policy after any one of several branches (specified in
-//! `specs/PolicyOr`).
+//! TPM2_PolicyOR: continues a policy after any of several branches (specified in `specs/PolicyOr`).
 
 ghost use Rattle.std.specs.Prelude.{◌≡◌};
 ghost use Rattle.tpm_commands.specs.declared.command_code.CommandCode.TheVariants as command;
@@ -16,7 +15,7 @@ use tpm_record::rows::call::Call;
 use tpm_record::rows::reading::{end, parameter};
 use tpm_types::{DigestList, Refused};
 
-/// TPM2_PolicyOR: continues a policy after any one of several branches.
+/// TPM2_PolicyOR: continues a policy after any of several branches.
 #[tactic(auto, unfolding(crate::specs::Assertions::assertion_row))]
 pub fn policy_or<K: Keep>(keep: &mut K, call: &Call, _answer: &mut Answer) -> Result<(), Refused>
     requires { IsEmpty _answer.old }

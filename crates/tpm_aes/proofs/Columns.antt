@@ -1,4 +1,4 @@
--- The steps of an AES round and of the key expansion, computed on 32-bit words.
+-- The steps of an AES round and of the key expansion, computed on 32-bit words, match the standard.
 use Rattle.std.proofs.Common.{◌≡◌, ℕ, ◌-◌, ◌<◌, ◌≤◌, List, [], ◌∷◌, ◌++◌, ap, ap₂, arith, bit_xor, length, map, refl, slice_index_or, sym, ◌∙◌}
 use Rattle.std.proofs.lemmas.List.FromFn.{get_or-map-range_with_len}
 use Rattle.std.specs.Int.{to_le_bytes, w32}

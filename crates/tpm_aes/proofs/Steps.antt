@@ -38,7 +38,7 @@ get_or-expanded_key : (key : List ℕ) (n : ℕ) → n < 11
 unfolding expanded_key
 get_or-expanded_key key n within = get_or-map-range_with_len (round_key key) 0 11 n n [] within (omega arith)
 
--- If the bytes of 11 keys are those of the round keys 0 to 10, then these keys together are the
+-- If the bytes of 11 keys are the bytes of the round keys 0 to 10, then these keys together are the
 -- expanded key.
 pub expanded_key_from : (keys : List (List ℕ)) (key : List ℕ) → length keys ≡ 11
     → ((k : ℕ) → k < 11 → bytes_of (slice_index_or keys k []) ≡ round_key key k)
@@ -55,8 +55,8 @@ pub record HasKeysBelow (keys : List (List ℕ)) (key : List ℕ) (n : ℕ) : Ty
   pub size : length keys ≡ 11
   pub each : (k : ℕ) → k < n → bytes_of (slice_index_or keys k []) ≡ round_key key k
 
--- If entries 0 to n - 1 are the keys for rounds 0 to n - 1, and the key for round n is stored at
--- index n, then entries 0 to n are the keys for rounds 0 to n.
+-- Suppose that entries 0 to n - 1 are the keys for rounds 0 to n - 1. If the key for round n is
+-- then stored at index n, entries 0 to n are the keys for rounds 0 to n.
 pub round_keys_more : (keys : List (List ℕ)) (key next : List ℕ) (n : ℕ) → 1 ≤ n → n < length keys
     → ((k : ℕ) → k < n → bytes_of (slice_index_or keys k []) ≡ round_key key k)
     → bytes_of next ≡ next_round_key n (bytes_of (slice_index_or keys (n - 1) []))

@@ -1,4 +1,5 @@
--- Replacing the blocks of a list one after another, from the start.
+-- If the blocks of a list are replaced one after another, from the start, the result is the
+-- concatenation of the replacements.
 use Rattle.std.proofs.Common.{◌≡◌, ℕ, zero, suc, ◌+◌, ◌-◌, ◌*◌, ◌<◌, ◌≤◌, List, [], ◌∷◌, ◌++◌, add-one, add-zero, ap, append_assoc, arith, drop, length, length-append, length-drop, min, refl, sym, take, ◌∙◌, inl, inr}
 use Rattle.std.proofs.lemmas.Bool.{cases_lt}
 use Rattle.std.proofs.lemmas.Grind.{div_ceil_times, flat_map-append}
@@ -32,7 +33,8 @@ pieces_to-suc piece n =
     ∙ flat_map-append piece (range_with_len 0 n) ((0 + n) ∷ [])
     ∙ ap (λ (xs : List ℕ). pieces_to piece n ++ xs) (append-nil (piece (0 + n)) ∙ ap piece number)
 
--- The same claim as `pieces_to-suc`, for n + 1 written as a sum.
+-- The first n + 1 pieces, concatenated, are the first n pieces followed by piece n. This lemma says
+-- `n + 1` where `pieces_to-suc` says `suc n`.
 pub pieces_to-add-one : (piece : ℕ → List ℕ) (n : ℕ) → pieces_to piece (n + 1) ≡ pieces_to piece n ++ piece n
 pieces_to-add-one piece n = ap (pieces_to piece) (add-one n) ∙ pieces_to-suc piece n
 

@@ -1,4 +1,4 @@
--- The S-box values of two bytes, as published (FIPS 197, 5.1.1, figure 7).
+-- The S-box values of two bytes are the published values (FIPS 197, 5.1.1, figure 7).
 use Rattle.std.proofs.Common.{◌≡◌, refl}
 use Rattle.tpm_aes.specs.Field.{affine, inverse, sub_byte, times_power, times_terms}
 

@@ -1,4 +1,5 @@
--- XORs of four-byte words and of lists of bytes.
+-- The bytes of the XOR of two words are the XORs of their bytes. XORing a list byte by byte gives
+-- the XOR of the whole list.
 use Rattle.std.proofs.Common.{◌≡◌, ℕ, suc, zero, ◌+◌, ◌/◌, ◌%◌, ◌^◌, ◌<◌, ◌≤◌, List, [], ◌∷◌, ◌++◌, add-one, ap, ap₂, arith, bit_xor, drop, length, refl, slice_index_or, slice_set, sym, take, ◌∙◌}
 use Rattle.std.proofs.lemmas.Nat.{xor_mod, xor_shr}
 use Rattle.std.specs.Int.{to_le_bytes, w32}
@@ -48,7 +49,7 @@ bytes-byte a small =
     let fourth : a / 16777216 % 256 ≡ 0 = omega arith in
     rw (first, second, third, fourth) refl
 
--- a list whose first i bytes are XORed with those of another list
+-- a list whose first i bytes are XORed with the first i bytes of another list
 abbrev pub xored_front : List ℕ → List ℕ → ℕ → List ℕ
 xored_front old other i = xor_of (take i old) (take i other) ++ drop i old
 
@@ -72,7 +73,8 @@ set-xored_front (x ∷ xs) (y ∷ ys) zero within fits = refl
 set-xored_front (x ∷ xs) (y ∷ ys) (suc i) within fits =
     ap (λ (t : List ℕ). bit_xor x y ∷ t) (set-xored_front xs ys i (omega arith) (omega arith))
 
--- The same claim as `set-xored_front`, but reading byte i from the list that is being changed.
+-- If the first i bytes of a list are XORed and byte i is XORed next, then the first i + 1 bytes are
+-- XORed. Unlike `set-xored_front`, this lemma reads byte i from the list that is being changed.
 pub xored_more : (old other bytes : List ℕ) (i : ℕ) → i < length old → length old ≤ length other
     → bytes ≡ xored_front old other i
     → slice_set bytes i (bit_xor (slice_index_or bytes i 0) (slice_index_or other i 0)) ≡ xored_front old other (i + 1)

@@ -5,7 +5,7 @@ use Rattle.std.specs.Prelude.{List, [], ◌∷◌, ◌++◌, map, slice_index}
 use Rattle.std.specs.List.{flat_map, range_with_len}
 use Rattle.tpm_aes.specs.Field.{sub_byte, times, times_power}
 
--- the bytewise XOR of two lists, up to the end of the shorter one (FIPS 197, 5.1.4, AddRoundKey)
+-- the bytewise XOR of two lists, up to the end of the shorter list (FIPS 197, 5.1.4, AddRoundKey)
 abbrev pub xor_of : List ℕ → List ℕ → List ℕ
 xor_of [] ys = []
 xor_of (x ∷ xs) [] = []

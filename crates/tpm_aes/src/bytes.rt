@@ -1,4 +1,4 @@
-//! Blocks and their words.
+//! Converts blocks to words and back, and XORs bytes.
 
 ghost use Rattle.std.specs.Prelude.{◌≡◌, ◌<◌, ◌≤◌, length};
 ghost use Rattle.std.specs.Int.{to_le_bytes, w32};

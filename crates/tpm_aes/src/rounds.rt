@@ -43,8 +43,8 @@ pub(crate) fn shifted_state(state: Words) -> Words
     ]
 }
 
-/// The state with a round key added (FIPS 197, 5.1.4). The key is the first parameter, so that
-/// its words are read before those of the state are computed. Otherwise the compiler packs the
+/// The state with a round key added (FIPS 197, 5.1.4). The key is the first parameter, so that its
+/// words are read before the words of the state are computed. Otherwise the compiler packs the
 /// state into one register in each round and then extracts its words again.
 pub(crate) fn add_round_key(key: Words, state: Words) -> Words
     ensures { bytes_of result ≡ xor_of (bytes_of state) (bytes_of key) }

@@ -49,7 +49,8 @@ guard_passed false d r y e = (refl, e)
 pub ok_is : {A E : Type 0} (x y : A) → (let done : Result A E = Ok x in done ≡ Ok y) → x ≡ y
 ok_is x y e = cc
 
--- A read of `bytes` consumed `text` at their start and left `rest`.
+-- A read of `bytes` consumed `text` and left `rest`: `bytes` is `text` followed by `rest`, and each
+-- number in `rest` is below 256.
 pub record Takes (bytes text rest : List ℕ) : Type 0 where
   pub parts : bytes ≡ text ++ rest
   pub rest_fits : AreBytes rest

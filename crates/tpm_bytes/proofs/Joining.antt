@@ -1,4 +1,4 @@
--- The items read so far, followed by those still to be read, are the whole list.
+-- The items read so far, followed by the items still to be read, are the whole list.
 use Rattle.std.proofs.Common.{◌≡◌, ℕ, suc, List, [], ◌∷◌, ◌++◌, map, Result, Ok, Err, refl, ap, sym, ◌∙◌, append_assoc}
 use Rattle.std.proofs.lemmas.List.{map-append}
 use Rattle.tpm_bytes.specs.Many.{many_at}
@@ -10,8 +10,8 @@ behind front read = do
   others ← read
   Ok (front ++ others.0, others.1)
 
--- Counting an item as the last one already read, or as the first one still to be read, gives the
--- same whole list.
+-- The whole list is the same, no matter whether an item counts as the last item already read or as
+-- the first item still to be read.
 pub moved : {A E : Type 0} (front : List A) (x : A) (read : Result (List A × List ℕ) E) → behind (front ++ x ∷ []) read ≡ behind front (read >>= λ others. Ok (x ∷ others.0, others.1))
 moved front x (Err e) = refl
 moved front x (Ok y) = ap (λ l. Ok (l, y.1)) (append_assoc front (x ∷ []) y.0)

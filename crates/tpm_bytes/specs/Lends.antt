@@ -1,4 +1,4 @@
--- The bytes in a sink after a mutable borrow of them ends.
+-- What a sink contains after a mutable borrow of its bytes ends.
 use Rattle.std.specs.Prelude.{ℕ, List, length}
 use Rattle.std.specs.List.{refill}
 use Rattle.std.specs.Borrow.{Array, Lends, Fml, RattleType, MutBor, u8}

@@ -1,7 +1,7 @@
 -- Numbers in ascending order.
 use Rattle.std.specs.Prelude.{ℕ, zero, suc, List, [], ◌∷◌, ◌++◌}
 
--- the numbers below this one, in ascending order
+-- the numbers below n, in ascending order
 abbrev pub numbers_below : ℕ → List ℕ
 numbers_below zero = []
 numbers_below (suc n) = numbers_below n ++ n ∷ []

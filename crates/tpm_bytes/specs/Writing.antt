@@ -14,8 +14,8 @@ Puts capacity text old result new =
     × OnOk result (new ≡ old ++ text)
     × OnErr result (new ≡ old)
 
--- A write of bytes as a sized buffer, with a two-byte size, appends the whole buffer if it fits.
--- Otherwise it appends nothing.
+-- A write of bytes as a sized buffer appends the whole buffer if the size of the bytes fits in two
+-- bytes and the buffer fits. Otherwise it appends nothing.
 abbrev pub PutsSized : {E : Type 0} → ℕ → List ℕ → List ℕ → Result (Unit {0}) E → List ℕ → Type 0
 PutsSized capacity bytes old result new =
     (IsOk result ↔ ((length bytes < 2 ^ 16) × (length old + (2 + length bytes) ≤ capacity)))

@@ -43,10 +43,11 @@ is_served number = is_some (code_named number)
 unfoldable pub code_called : List ℕ → Option CommandCode
 code_called name = find (λ code. pointwise nat_eq name (code_name code)) all_codes
 
--- the number of handles of a command, and the number of those that need authorization
+-- the number of handles of a command
 abbrev pub handle_count : CommandCode → ℕ
 handle_count code = length (shape_of code).handles
 
+-- the number of a command's handles that need authorization
 abbrev pub authorized_handles : CommandCode → ℕ
 authorized_handles code = count_by (λ rule. is_some rule.role) (shape_of code).handles
 

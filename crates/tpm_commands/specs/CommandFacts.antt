@@ -52,8 +52,8 @@ reading shape = record shape { reads_nv = true }
 abbrev pub without_sessions : Facts → Facts
 without_sessions shape = record shape { forbids_sessions = true }
 
--- the shape of a command that creates a session or an object, and can run out of memory. It returns
--- the new handle, followed by a sized buffer
+-- the shape of a command that creates a session or an object, and can run out of memory. The
+-- command returns the new handle, followed by a sized buffer
 abbrev pub making : Facts → Facts
 making shape = record shape { sized_answer = true; answers_handle = true; grows = true }
 
@@ -104,11 +104,11 @@ create_parameters =
 abbrev pub define_parameters : List ParameterKind
 define_parameters = parameter.Buffer 32 ∷ parameter.NvPublic ∷ []
 
--- the handles of TPM2_PolicySecret (authHandle and policySession), and its parameters (nonceTPM,
--- cpHashA, policyRef and expiration)
+-- the handles of TPM2_PolicySecret: authHandle, policySession
 abbrev pub secret_handles : List HandleRule
 secret_handles = user kind.EntityNotNull ∷ unauthorized kind.PolicySession ∷ []
 
+-- the parameters of TPM2_PolicySecret: nonceTPM, cpHashA, policyRef, expiration
 abbrev pub secret_parameters : List ParameterKind
 secret_parameters =
     parameter.Buffer 32 ∷ parameter.Buffer 32 ∷ parameter.Buffer 32 ∷ parameter.U32 ∷ []
@@ -117,12 +117,12 @@ secret_parameters =
 abbrev pub evict_handles : List HandleRule
 evict_handles = user kind.Provision ∷ unauthorized kind.Object ∷ []
 
--- the handles of TPM2_PolicyNV (authHandle, nvIndex and policySession), and its parameters
--- (operandB, offset and operation)
+-- the handles of TPM2_PolicyNV: authHandle, nvIndex, policySession
 abbrev pub compared_handles : List HandleRule
 compared_handles =
     user kind.NvAuth ∷ unauthorized kind.NvIndex ∷ unauthorized kind.PolicySession ∷ []
 
+-- the parameters of TPM2_PolicyNV: operandB, offset, operation
 abbrev pub compared_parameters : List ParameterKind
 compared_parameters = parameter.Buffer 32 ∷ parameter.U16 ∷ parameter.Operation ∷ []
 

@@ -72,21 +72,25 @@ is_sized parameter.Operation = false
 is_sized parameter.PersistentHandle = false
 is_sized parameter.YesNo = false
 
--- the shape of a command, regardless of where its lists are in memory. Its fields: the handles and
--- how each is authorized; the parameters; whether the response's first parameter is a sized buffer;
--- whether a handle precedes the response's parameters; whether sessions are forbidden; whether
--- memory can run out; whether the command reads the NV index that authorizes it, if there is one
--- (otherwise, it writes that index, or administers it in the role ADMIN); and whether the command,
--- if it succeeds, preserves the state that TPM2_Shutdown saved (otherwise, its success discards
--- that state: Part 3, section 9.4)
+-- the shape of a command, regardless of where its lists are in memory
 pub record Facts : Type 0 where
+  -- the command's handles, and how each handle is authorized
   pub handles : List HandleRule
+  -- the kinds of the command's parameters
   pub parameters : List ParameterKind
+  -- whether the first parameter of the response is a sized buffer
   pub sized_answer : Bool
+  -- whether a handle precedes the response's parameters
   pub answers_handle : Bool
+  -- whether the command forbids an authorization area
   pub forbids_sessions : Bool
+  -- whether the command can run out of memory
   pub grows : Bool
+  -- whether the command reads the NV index that authorizes it, if there is one. If false, the
+  -- command writes that index, or administers it in the role ADMIN
   pub reads_nv : Bool
+  -- whether the command, if it succeeds, preserves the state that TPM2_Shutdown saved. If false,
+  -- the command's success discards that state (Part 3, section 9.4)
   pub keeps_shutdown : Bool
 
 abbrev pub facts_of : Shape → Facts

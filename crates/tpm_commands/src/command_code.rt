@@ -175,7 +175,7 @@ macro_rules! holds {
     ($fact:ident:) => { false };
 }
 
-/// A shape with these handles and parameters. Of the other facts, only the listed ones are true.
+/// A shape with these handles and parameters. Of the other facts, only the listed facts are true.
 macro_rules! shape {
     ([$($handle:expr),*], $parameters:expr $(, $fact:ident)*) => {
         Shape {
@@ -373,8 +373,8 @@ impl CommandCode {
         }
     }
 
-    /// If the handle at this position (counted from 0) names an NV index that authorizes the
-    /// command, how the command uses that index.
+    /// How the command uses the NV index that the handle at this position (counted from 0) names,
+    /// if that index authorizes the command.
     pub fn nv_use_at(self, place: usize) -> NvUse
         ensures { result ≡ nv_use_at self place }
     {

@@ -7,10 +7,11 @@ use Rattle.tpm_record.specs.Record.{Record}
 use Rattle.tpm_step.specs.Events.{PlainEvent, Given, Cycled, Placed}
 use Rattle.tpm_step.specs.Step.{Stepped, step}
 use Rattle.tpm_context.specs.declared.fault.ContextFault.{ContextFault}
-use Rattle.tpm_completion.specs.Completed.{behind, completed, completed_with, done_behind, loaded_behind, passed}
+use Rattle.tpm_completion.specs.Completed.{behind, completed, completed_with, done_behind, loaded_behind, passed, sending_behind}
 use Rattle.tpm_completion.specs.Completion.{forgotten}
-use Rattle.tpm_completion.specs.Execution.{AsksFirst, Behind, Completes, CompletesIf, Loads, Passes, PlacesIf, Seen, asked_behind, opened_behind, placed_behind}
+use Rattle.tpm_completion.specs.Execution.{AsksFirst, Behind, Completes, CompletesIf, Loads, Passes, PlacesIf, Seen, Sends, asked_behind, opened_behind, placed_behind, sent_behind, sent_effect, sent_event}
 use Rattle.tpm_completion.specs.declared.completion.Completion.{Completion}
+use Rattle.tpm_completion.specs.declared.sending.Sent.{Sent}
 
 same : (c l : Completion) (old : Record) (event : PlainEvent) (x : Stepped) (d : ℕ) → x ≡ step old event → l ≡ forgotten x.after c → d ≡ drawn_by old event x.row.check → record { step = x; layer = l; drawn = d } ≡ passed c old event
 unfolding passed
@@ -27,14 +28,19 @@ loads_exactly : (first : Seen) (opened : Result Object ContextFault) (seen : See
 loads_exactly first (Ok object) seen (refused, places) = places_exactly refused first object seen places
 loads_exactly first (Err fault) seen is = is
 
-behind_exactly : (first : Seen) (buffer : List ℕ) (asked : Option (List ℕ)) (seen : Seen) → Behind false first buffer asked seen → seen ≡ done_behind first buffer asked
-behind_exactly first buffer (Some context) seen loads = loads_exactly first (opened_behind first context) seen loads
-behind_exactly first buffer None seen is = is
+sends_exactly : (first : Seen) (buffer : List ℕ) (locality : ℕ) (sent : Option Sent) (seen : Seen) → Sends false first buffer locality sent seen → seen ≡ sending_behind first buffer locality sent
+sends_exactly first buffer locality (Some sent) seen (second, p, is) =
+    is ∙ ap (λ (s : Seen). sent_effect first s sent) (passes_exactly first.layer first.step.after (sent_event sent locality) second p)
+sends_exactly first buffer locality None seen is = is
+
+behind_exactly : (first : Seen) (buffer : List ℕ) (locality : ℕ) (asked : Option (List ℕ)) (seen : Seen) → Behind false first buffer locality asked seen → seen ≡ done_behind first buffer locality asked
+behind_exactly first buffer locality (Some context) seen loads = loads_exactly first (opened_behind first context) seen loads
+behind_exactly first buffer locality None seen sends = sends_exactly first buffer locality (sent_behind first buffer) seen sends
 
 asks_first_exactly : (c : Completion) (old : Record) (buffer : List ℕ) (locality elapsed : ℕ) (random : List ℕ) (seen : Seen) → AsksFirst false c old buffer locality elapsed random seen → seen ≡ completed_with c old (Given buffer locality elapsed random)
 asks_first_exactly c old buffer locality elapsed random seen (first, p, b) =
-    behind_exactly first buffer (asked_behind first buffer) seen b
-    ∙ ap (λ (f : Seen). behind f buffer) (passes_exactly c old (Given buffer locality elapsed random) first p)
+    behind_exactly first buffer locality (asked_behind first buffer) seen b
+    ∙ ap (λ (f : Seen). behind f buffer locality) (passes_exactly c old (Given buffer locality elapsed random) first p)
 
 pub completes_exactly : (c : Completion) (old : Record) (event : PlainEvent) (seen : Seen) → Completes false c old event seen → seen ≡ completed_with c old event
 completes_exactly c old (Given buffer locality elapsed random) seen x = asks_first_exactly c old buffer locality elapsed random seen x

@@ -5,3 +5,5 @@ pub mod Exactly
 pub mod DeviceFirst
 pub mod Runs
 pub mod Loaded
+pub mod Sequenced
+pub mod SentEffect

@@ -10,13 +10,14 @@ use Rattle.tpm_commands.specs.CommandFacts.{all_codes}
 use Rattle.tpm_commands.specs.declared.command_code.CommandCode.{CommandCode}
 use Rattle.tpm_commands.specs.declared.command_code.CommandCode.TheVariants as command
 use Rattle.tpm_record.specs.Record.{Record}
-use Rattle.tpm_actions_capability.specs.Elements.{command_element}
+use Rattle.tpm_actions_capability.specs.Elements.{command_element, object_elements}
 use Rattle.tpm_actions_capability.specs.declared.element.Element.{Element}
 use Rattle.tpm_completion.specs.Answer.{is_refusal}
 use Rattle.tpm_completion.specs.Handles.{sessions_shown}
 use Rattle.tpm_completion.specs.Listing.{element, listing}
 use Rattle.tpm_completion.specs.PcrProperties.{pcr_property_elements}
 use Rattle.tpm_completion.specs.Properties.{property_elements}
+use Rattle.tpm_completion.specs.Sequences.{sequence_elements}
 use Rattle.tpm_completion.specs.declared.capability.Asked.{Asked}
 use Rattle.tpm_completion.specs.declared.completion.Completion.{Completion}
 use Rattle.tpm_completion.specs.declared.listing.Form.TheVariants as form
@@ -47,15 +48,19 @@ algorithm_elements =
     ∷ element 0x43 0x202  -- CFB
     ∷ []
 
--- ---- commands, with their attributes: ContextSave has a handle, and ContextLoad answers one
+-- ---- commands, with their attributes (TPMA_CC): the number of handles in bits 25 to 27; bit 28 if
+-- the response has a handle; bit 24 (flushed) if the command removes a sequence object
 
--- the layer's own commands that are listed just before a command of the device:
--- IncrementalSelfTest; StirRandom; ContextLoad and ContextSave; GetTestResult and Hash; TestParms
+-- the layer's own commands that are listed just before a command of the device: SequenceComplete and
+-- IncrementalSelfTest; StirRandom; HMAC_Start and SequenceUpdate; ContextLoad and ContextSave;
+-- GetTestResult and Hash; EventSequenceComplete and HashSequenceStart; TestParms
 abbrev pub own_before : CommandCode → List Element
-own_before command.SelfTest = element 0x142 0x142 ∷ []
+own_before command.SelfTest = element 0x13e 0x0300_013e ∷ element 0x142 0x142 ∷ []
 own_before command.PolicyNv = element 0x146 0x146 ∷ []
+own_before command.Unseal = element 0x15b 0x1200_015b ∷ element 0x15c 0x0200_015c ∷ []
 own_before command.FlushContext = element 0x161 0x1000_0161 ∷ element 0x162 0x0200_0162 ∷ []
 own_before command.PcrRead = element 0x17c 0x17c ∷ element 0x17d 0x17d ∷ []
+own_before command.PolicyGetDigest = element 0x185 0x0500_0185 ∷ element 0x186 0x1000_0186 ∷ []
 own_before command.PolicyPassword = element 0x18a 0x18a ∷ []
 own_before _ = []
 
@@ -70,14 +75,16 @@ command_elements = flat_map commands_by all_codes
 -- ---- the answer
 
 -- the layer's list of the handles whose most significant byte is `kind`: loaded sessions for 02,
--- saved sessions for 03, None for other values
+-- saved sessions for 03, transient objects and then sequence objects for 80, None for other values
 abbrev pub handles_told : Record → Completion → Asked → (kind : ℕ) → Option (List ℕ)
 handles_told r c asked kind =
     if kind == 0x02 then
     Some (listing form.Value 1 (asked.property % 2 ^ 24) asked.count (sessions_shown r c false))
     else (if kind == 0x03 then
     Some (listing form.Value 1 (asked.property % 2 ^ 24) asked.count (sessions_shown r c true))
-    else None)
+    else (if kind == 0x80 then
+    Some (listing form.Value 1 asked.property asked.count (object_elements r ++ sequence_elements c))
+    else None))
 
 -- the layer's list for a capability that the device answered, if the layer has one
 abbrev pub told_of : Record → Completion → Asked → Option (List ℕ)

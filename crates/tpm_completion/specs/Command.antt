@@ -6,7 +6,7 @@ use Rattle.tpm_bytes.specs.Reading.{◌>>=◌, number_at, refused_if, too_short}
 use Rattle.tpm_bytes.specs.declared.cursor.Short.{Short}
 use Rattle.tpm_completion.specs.declared.command.PlainCommand.{PlainCommand}
 
--- a command without sessions: its code, and the bytes after its header
+-- a command: its code, and the bytes after its header
 pub record Command : Type 0 where
   pub code : ℕ
   pub parameters : List ℕ
@@ -21,6 +21,16 @@ plain_command buffer = do
   size ← number_at w32 tag.1
   code ← number_at w32 size.1
   tagged ← refused_if (not (tag.0 == 0x8001)) too_short
+  sized ← refused_if (not (size.0 == length buffer)) too_short
+  Ok (record { code = code.0; parameters = code.1 })
+
+-- the command in a buffer whose tag is TPM_ST_SESSIONS and whose size is the size in its header
+unfoldable pub authorized_command : List ℕ → Result Command Short
+authorized_command buffer = do
+  tag ← number_at w16 buffer
+  size ← number_at w32 tag.1
+  code ← number_at w32 size.1
+  tagged ← refused_if (not (tag.0 == 0x8002)) too_short
   sized ← refused_if (not (size.0 == length buffer)) too_short
   Ok (record { code = code.0; parameters = code.1 })
 

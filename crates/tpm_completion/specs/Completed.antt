@@ -8,8 +8,9 @@ use Rattle.tpm_step.specs.Events.{PlainEvent, Given, Cycled, Placed}
 use Rattle.tpm_step.specs.Step.{step}
 use Rattle.tpm_context.specs.declared.fault.ContextFault.{ContextFault}
 use Rattle.tpm_completion.specs.Completion.{forgotten}
-use Rattle.tpm_completion.specs.Execution.{Seen, answered, asked_behind, opened_behind, placed_behind, reply_behind, unopened_behind}
+use Rattle.tpm_completion.specs.Execution.{Seen, answered, asked_behind, opened_behind, placed_behind, reply_behind, sent_behind, sent_effect, sent_event, unopened_behind}
 use Rattle.tpm_completion.specs.declared.completion.Completion.{Completion}
+use Rattle.tpm_completion.specs.declared.sending.Sent.{Sent}
 
 -- the effect of an event that the device executes without the layer
 unfoldable pub passed : Completion → Record → PlainEvent → Seen
@@ -25,18 +26,27 @@ abbrev pub loaded_behind : Seen → Result Object ContextFault → Seen
 loaded_behind first (Ok object) = placed_behind first (step first.step.after (Placed object))
 loaded_behind first (Err fault) = unopened_behind first fault
 
--- the effect after the device has executed a command: the context of an object is loaded, or the
--- layer may answer
-abbrev pub done_behind : Seen → (buffer : List ℕ) → Option (List ℕ) → Seen
-done_behind first buffer (Some context) = loaded_behind first (opened_behind first context)
-done_behind first buffer None = answered first (reply_behind first buffer)
+-- the effect after the device refused a command: it executes the command that the layer sends, if
+-- there is one, or the layer may answer
+abbrev pub sending_behind : Seen → (buffer : List ℕ) → (locality : ℕ) → Option Sent → Seen
+sending_behind first buffer locality (Some sent) =
+    sent_effect first (passed first.layer first.step.after (sent_event sent locality)) sent
+sending_behind first buffer locality None = answered first (reply_behind first buffer)
 
-abbrev pub behind : Seen → (buffer : List ℕ) → Seen
-behind first buffer = done_behind first buffer (asked_behind first buffer)
+-- the effect after the device has executed a command: the context of an object is loaded, or the
+-- layer sends a command to the device, or it may answer
+abbrev pub done_behind : Seen → (buffer : List ℕ) → (locality : ℕ) → Option (List ℕ) → Seen
+done_behind first buffer locality (Some context) =
+    loaded_behind first (opened_behind first context)
+done_behind first buffer locality None =
+    sending_behind first buffer locality (sent_behind first buffer)
+
+abbrev pub behind : Seen → (buffer : List ℕ) → (locality : ℕ) → Seen
+behind first buffer locality = done_behind first buffer locality (asked_behind first buffer)
 
 abbrev pub completed_with : Completion → Record → PlainEvent → Seen
 completed_with c old (Given buffer locality elapsed random) =
-    behind (passed c old (Given buffer locality elapsed random)) buffer
+    behind (passed c old (Given buffer locality elapsed random)) buffer locality
 completed_with c old Cycled = passed c old Cycled
 completed_with c old (Placed object) = passed c old (Placed object)
 

@@ -1,6 +1,6 @@
 -- How the completing layer handles one event: what the device executes, what the client gets, and
 -- the layer's new state.
-use Rattle.std.specs.Prelude.{◌≡◌, ℕ, ◌==◌, Bool, true, false, List, Option, Some, None, Result, Ok, Err}
+use Rattle.std.specs.Prelude.{◌≡◌, ℕ, ◌==◌, Bool, true, false, List, replicate, Option, Some, None, Result, Ok, Err}
 use Rattle.tpm_machine.specs.Follows.{After, Follows}
 use Rattle.tpm_machine.specs.Drawn.{drawn_by}
 use Rattle.tpm_machine.specs.State.{latest_drawn, state_of}
@@ -19,7 +19,9 @@ use Rattle.tpm_completion.specs.Completion.{forgotten}
 use Rattle.tpm_completion.specs.Loading.{context_asked, object_opened, placed_reply}
 use Rattle.tpm_completion.specs.Reply.{reply}
 use Rattle.tpm_completion.specs.Saving.{Reply, refused}
+use Rattle.tpm_completion.specs.Sending.{sent_for, sent_reply}
 use Rattle.tpm_completion.specs.declared.completion.Completion.{Completion}
+use Rattle.tpm_completion.specs.declared.sending.Sent.{Sent}
 
 -- the effect of an event: the response; the device's row and new record; the layer's new state; and
 -- the number of random bytes that the device's last event drew
@@ -103,6 +105,31 @@ abbrev pub Loads : (can : Bool) → Seen → Result Object ContextFault → Seen
 Loads can first (Ok object) seen = (refused : Bool) × PlacesIf can refused first object seen
 Loads can first (Err fault) seen = seen ≡ unopened_behind first fault
 
+-- ---- a command for which the layer sends a command to the device
+
+-- the command that the layer sends, if any; `first` is the effect of the client's command on the
+-- device
+abbrev pub sent_behind : Seen → (buffer : List ℕ) → Option Sent
+sent_behind first buffer =
+    sent_for first.step.after first.layer buffer first.step.response
+
+-- the event of the command that is sent. It follows the client's command at once, and may draw only
+-- zeros; it draws nothing
+abbrev pub sent_event : Sent → (locality : ℕ) → PlainEvent
+sent_event sent locality = Given sent.command locality 0 (replicate 256 0)
+
+-- the effect after the device executed the command that was sent, with the effect `second`; the row
+-- is still that of the client's command, which the device refused
+abbrev pub sent_effect : (first second : Seen) → Sent → Seen
+sent_effect first second sent =
+    let reply : Reply =
+    sent_reply second.layer (second.step.row.check == 0) sent.work second.step.response in
+    record {
+      step = record second.step { response = reply.response; row = first.step.row };
+      layer = reply.after;
+      drawn = second.drawn;
+    }
+
 -- ---- any command
 
 -- the context of the object that a command is to load, if any; `first` is the command's effect on
@@ -116,18 +143,30 @@ abbrev pub reply_behind : Seen → (buffer : List ℕ) → Reply
 reply_behind first buffer =
     reply first.step.after first.layer buffer first.step.response (first.step.row.check == 0)
 
--- After the device has executed a command, the context of an object is loaded, or the layer
--- answers, or the client gets the device's response.
-abbrev pub Behind : (can : Bool) → Seen → (buffer : List ℕ) → Option (List ℕ) → Seen → Type 0
-Behind can first buffer (Some context) seen = Loads can first (opened_behind first context) seen
-Behind can first buffer None seen = seen ≡ answered first (reply_behind first buffer)
+-- After the device refused a command, it executes the command that the layer sends, if there is
+-- one. Otherwise, the layer answers, or the client gets the device's response.
+abbrev pub Sends : (can : Bool) → Seen → (buffer : List ℕ) → (locality : ℕ) → Option Sent → Seen
+    → Type 0
+Sends can first buffer locality (Some sent) seen =
+    (second : Seen) × Passes can first.layer first.step.after (sent_event sent locality) second
+    × (seen ≡ sent_effect first second sent)
+Sends can first buffer locality None seen = seen ≡ answered first (reply_behind first buffer)
+
+-- After the device has executed a command, the context of an object is loaded, or the layer sends a
+-- command to the device, or the layer answers, or the client gets the device's response.
+abbrev pub Behind : (can : Bool) → Seen → (buffer : List ℕ) → (locality : ℕ) → Option (List ℕ)
+    → Seen → Type 0
+Behind can first buffer locality (Some context) seen =
+    Loads can first (opened_behind first context) seen
+Behind can first buffer locality None seen =
+    Sends can first buffer locality (sent_behind first buffer) seen
 
 -- The device executes the command first, and the layer may answer afterwards.
 abbrev pub AsksFirst : Bool → Completion → Record → (buffer : List ℕ) → (locality elapsed : ℕ)
     → List ℕ → Seen → Type 0
 AsksFirst can c old buffer locality elapsed random seen =
     (first : Seen) × Passes can c old (Given buffer locality elapsed random) first
-    × Behind can first buffer (asked_behind first buffer) seen
+    × Behind can first buffer locality (asked_behind first buffer) seen
 
 -- An event has this effect with the layer. The device alone executes a power cycle or a placed
 -- object.

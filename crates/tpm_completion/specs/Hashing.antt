@@ -59,12 +59,15 @@ ticket_text hierarchy proof digest =
 
 -- ---- the answer
 
--- the digest of the data, and its ticket
-unfoldable pub hash_text : Hierarchies → (message : List ℕ) → HashAlg → HierarchyHandle → List ℕ
-hash_text hierarchies message hash asked =
-    let chosen : HierarchyHandle = ticket_hierarchy asked message in
-    let digest : List ℕ = hash_of hash message in
+-- a digest, and its ticket for this hierarchy
+unfoldable pub ticketed_text : Hierarchies → HierarchyHandle → (digest : List ℕ) → List ℕ
+ticketed_text hierarchies chosen digest =
     sized_text digest ++ ticket_text chosen (secrets_of hierarchies chosen).proof digest
+
+-- the digest of the data, and its ticket
+abbrev pub hash_text : Hierarchies → (message : List ℕ) → HashAlg → HierarchyHandle → List ℕ
+hash_text hierarchies message hash asked =
+    ticketed_text hierarchies (ticket_hierarchy asked message) (hash_of hash message)
 
 -- TPM2_Hash, whose parameters are data, hashAlg and hierarchy
 unfoldable pub hash_row : Hierarchies → List ℕ → Result (List ℕ) Refused

@@ -1,4 +1,5 @@
 pub mod Answer
+pub mod Authorizing
 pub mod Capability
 pub mod Command
 pub mod Completed
@@ -16,6 +17,11 @@ pub mod Properties
 pub mod Reply
 pub mod Run
 pub mod Saving
+pub mod Sending
+pub mod SequenceReply
+pub mod Sequenced
+pub mod SequenceRows
+pub mod Sequences
 pub mod Testing
 pub mod Told
 pub use Rattle.tpm_machine.specs.Drawn

@@ -25,7 +25,7 @@ use Rattle.tpm_completion.specs.declared.completion.Completion.{Completion}
 
 -- the number of commands that the layer adds to those of the device
 abbrev pub own_count : ℕ
-own_count = 7
+own_count = 12
 
 -- the number of all commands; the TPM 2.0 Library defines all of them
 abbrev pub command_count : ℕ

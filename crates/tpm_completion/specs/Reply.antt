@@ -1,5 +1,6 @@
 -- The completing layer's answers after the device has responded. The file Loading defines the
--- answer to TPM2_ContextLoad of an object's context. TPM 2.0 Library, Part 3, sections 10.3
+-- answer to TPM2_ContextLoad of an object's context, and the files SequenceReply and Sending define
+-- the answers to commands on sequence objects. TPM 2.0 Library, Part 3, sections 10.3
 -- (TPM2_IncrementalSelfTest), 10.4 (TPM2_GetTestResult), 15.4 (TPM2_Hash), 16.2 (TPM2_StirRandom),
 -- 28.2 (TPM2_ContextSave), 28.3 (TPM2_ContextLoad), 30.2 (TPM2_GetCapability) and 30.3
 -- (TPM2_TestParms).
@@ -20,6 +21,7 @@ use Rattle.tpm_completion.specs.Command.{Command, plain_command, tag_of}
 use Rattle.tpm_completion.specs.Context.{names_session}
 use Rattle.tpm_completion.specs.Hashing.{hash_row}
 use Rattle.tpm_completion.specs.Saving.{Reply, loaded, refused, saved}
+use Rattle.tpm_completion.specs.SequenceReply.{sequence_reply}
 use Rattle.tpm_completion.specs.Testing.{incremental_row, test_parms_row, test_result_row}
 use Rattle.tpm_completion.specs.declared.capability.Asked.{Asked}
 use Rattle.tpm_completion.specs.declared.completion.Completion.{Completion}
@@ -107,13 +109,24 @@ probed c buffer response =
     record { response = refusal 0x84; after = c }
     else stands c response
 
--- the answer to a buffer for which the device returned this response; `was_told` says whether this
--- response is a success
+-- the answer to a buffer that is not a command on sequence objects
 abbrev pub reply_by : Record → Completion → (buffer response : List ℕ) → (was_told : Bool)
     → Result Command Short → Reply
 reply_by r c buffer response was_told (Ok command) = command_reply r c command response was_told
 reply_by r c buffer response was_told (Err e) = probed c buffer response
 
+unfoldable pub plain_reply : Record → Completion → (buffer response : List ℕ) → (was_told : Bool)
+    → Reply
+plain_reply r c buffer response was_told =
+    reply_by r c buffer response was_told (plain_command buffer)
+
+-- the answer to a command on sequence objects, or else the other answer
+abbrev pub or_reply : Option Reply → Reply → Reply
+or_reply (Some reply) other = reply
+or_reply None other = other
+
+-- the answer to a buffer for which the device returned this response; `was_told` says whether this
+-- response is a success
 unfoldable pub reply : Record → Completion → (buffer response : List ℕ) → (was_told : Bool) → Reply
 reply r c buffer response was_told =
-    reply_by r c buffer response was_told (plain_command buffer)
+    or_reply (sequence_reply r c buffer response) (plain_reply r c buffer response was_told)

@@ -1,5 +1,5 @@
 -- The device's executions for one event: the event itself and, with the layer, the placing of the
--- object whose context a command loads.
+-- object whose context a command loads, or the command that the layer sends.
 use Rattle.std.specs.Prelude.{ℕ, Bool, true, false, List, [], ◌∷◌, Option, Some, None, Result, Ok, Err}
 use Rattle.tpm_machine.specs.Executions.{Execution}
 use Rattle.tpm_machine.specs.Follows.{Follows, StretchFollows}
@@ -9,8 +9,9 @@ use Rattle.tpm_record.specs.Record.{Record}
 use Rattle.tpm_step.specs.Events.{PlainEvent, Given, Cycled, Placed}
 use Rattle.tpm_step.specs.Step.{Stepped}
 use Rattle.tpm_context.specs.declared.fault.ContextFault.{ContextFault}
-use Rattle.tpm_completion.specs.Execution.{AsksFirst, Behind, Completes, CompletesIf, Loads, PlacesIf, Seen, asked_behind, opened_behind}
+use Rattle.tpm_completion.specs.Execution.{AsksFirst, Behind, Completes, CompletesIf, Loads, PlacesIf, Seen, Sends, asked_behind, opened_behind, sent_behind, sent_event}
 use Rattle.tpm_completion.specs.declared.completion.Completion.{Completion}
+use Rattle.tpm_completion.specs.declared.sending.Sent.{Sent}
 
 -- the device's execution of an event, with this step
 abbrev pub executed : Record → PlainEvent → Stepped → Execution
@@ -30,19 +31,29 @@ run_loading can first (Ok object) seen (refused, places) =
     run_placing can refused first object seen places
 run_loading can first (Err fault) seen is = []
 
+-- the device's execution of the command that the layer sends; none if the layer sends no command
+abbrev pub run_sending : (can : Bool) (first : Seen) (buffer : List ℕ) (locality : ℕ)
+    (sent : Option Sent) (seen : Seen) → Sends can first buffer locality sent seen
+    → List Execution
+run_sending can first buffer locality (Some sent) seen (second, passes, is) =
+    executed first.step.after (sent_event sent locality) second.step ∷ []
+run_sending can first buffer locality None seen is = []
+
 -- the device's executions that follow the execution of a command
-abbrev pub run_behind : (can : Bool) (first : Seen) (buffer : List ℕ) (asked : Option (List ℕ))
-    (seen : Seen) → Behind can first buffer asked seen → List Execution
-run_behind can first buffer (Some context) seen loads =
+abbrev pub run_behind : (can : Bool) (first : Seen) (buffer : List ℕ) (locality : ℕ)
+    (asked : Option (List ℕ)) (seen : Seen) → Behind can first buffer locality asked seen
+    → List Execution
+run_behind can first buffer locality (Some context) seen loads =
     run_loading can first (opened_behind first context) seen loads
-run_behind can first buffer None seen is = []
+run_behind can first buffer locality None seen sends =
+    run_sending can first buffer locality (sent_behind first buffer) seen sends
 
 abbrev pub run_command : (can : Bool) (c : Completion) (old : Record) (buffer : List ℕ)
     (locality elapsed : ℕ) (random : List ℕ) (seen : Seen)
     → AsksFirst can c old buffer locality elapsed random seen → List Execution
 run_command can c old buffer locality elapsed random seen (first, passes, behind) =
     executed old (Given buffer locality elapsed random) first.step
-    ∷ run_behind can first buffer (asked_behind first buffer) seen behind
+    ∷ run_behind can first buffer locality (asked_behind first buffer) seen behind
 
 abbrev pub run_with : (can : Bool) (c : Completion) (old : Record) (event : PlainEvent)
     (seen : Seen) → Completes can c old event seen → List Execution

@@ -4,7 +4,9 @@ ghost use Rattle.std.specs.Prelude.{◌≡◌, ◌+◌, ◌≤◌, [], length};
 ghost use Rattle.std.specs.Str.{bytes_eq};
 ghost use Rattle.tpm_step.specs.Answer.{framed};
 ghost use Rattle.tpm_completion.specs.Answer.{is_refusal};
+ghost use Rattle.tpm_completion.specs.SequenceRows.{authorized_success};
 
+use crate::codes::SUCCESS;
 use tpm_bytes::{append, is_equal};
 use tpm_step::Response;
 
@@ -18,6 +20,25 @@ pub fn answer(code: u32, body: &[u8], text: &mut Response)
     append(text, &((10 + body.len()) as u32).to_be_bytes());
     append(text, &code.to_be_bytes());
     append(text, body);
+}
+
+/// Replaces the device's response with one that reports success to a command with sessions: the
+/// handle that it returns, if any, the parameters, and the answers to the entries.
+pub fn answer_authorized(handle: &[u8], parameters: &[u8], area: &[u8], text: &mut Response)
+    requires handle { length handle.now ≤ 4 }
+    requires parameters { length parameters.now ≤ 600 }
+    requires area { length area.now ≤ 10 }
+    ensures { text.new.items ≡ authorized_success handle.now parameters.now area.now }
+{
+    let size = 14 + handle.len() + parameters.len() + area.len();
+    text.clear();
+    append(text, &0x8002u16.to_be_bytes());
+    append(text, &(size as u32).to_be_bytes());
+    append(text, &SUCCESS.to_be_bytes());
+    append(text, handle);
+    append(text, &(parameters.len() as u32).to_be_bytes());
+    append(text, parameters);
+    append(text, area);
 }
 
 /// Whether a response is a refusal with this code.

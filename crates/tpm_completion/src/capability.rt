@@ -1,11 +1,13 @@
-//! TPM2_GetCapability: algorithms, properties, commands, and the handles of sessions.
+//! TPM2_GetCapability: algorithms, properties, commands, and the handles of sessions, transient
+//! objects and sequence objects.
 
 ghost use Rattle.std.specs.Prelude.{◌≡◌, ◌≤◌, ◌+◌, ◌*◌, ◌/◌, ◌%◌, ◌^◌, ◌++◌, [], length};
 ghost use Rattle.tpm_completion.specs.Capability.{algorithm_elements, asked_at, capability_told, command_elements, commands_by, handles_told, is_empty, refused_of, told_of};
 ghost use Rattle.tpm_completion.specs.Handles.{sessions_shown};
 ghost use Rattle.tpm_completion.specs.PcrProperties.{pcr_property_elements};
 ghost use Rattle.tpm_completion.specs.Properties.{property_elements};
-ghost use Rattle.tpm_actions_capability.specs.Elements.{command_element};
+ghost use Rattle.tpm_actions_capability.specs.Elements.{command_element, object_elements};
+ghost use Rattle.tpm_completion.specs.Sequences.{sequence_elements};
 ghost use Rattle.std.specs.List.{flat_map};
 ghost use Rattle.tpm_completion.specs.Listing.{listing};
 ghost use Rattle.tpm_completion.specs.declared.listing.Form.TheVariants as form;
@@ -14,7 +16,7 @@ ghost use Rattle.tpm_completion.specs.Told.{Tells};
 use crate::answer::is_refusal;
 use crate::codes::VALUE_OF_PARAMETER_1;
 use crate::completion::Completion;
-use crate::handles::sessions;
+use crate::handles::{objects, sessions};
 use crate::listing::{Elements, Form, LISTING_LIMIT, element, list};
 use crate::properties::properties;
 use arrayvec::ArrayVec;
@@ -94,8 +96,15 @@ fn list_command(code: CommandCode, elements: &mut Commands)
     ensures few { length elements.new.items ≤ length elements.old.items + 3 }
 {
     match code {
-        CommandCode::SelfTest => elements.push(element(0x142, 0x142)),
+        CommandCode::SelfTest => {
+            elements.push(element(0x13e, 0x0300_013e));
+            elements.push(element(0x142, 0x142));
+        }
         CommandCode::PolicyNv => elements.push(element(0x146, 0x146)),
+        CommandCode::Unseal => {
+            elements.push(element(0x15b, 0x1200_015b));
+            elements.push(element(0x15c, 0x0200_015c));
+        }
         CommandCode::FlushContext => {
             elements.push(element(0x161, 0x1000_0161));
             elements.push(element(0x162, 0x0200_0162));
@@ -103,6 +112,10 @@ fn list_command(code: CommandCode, elements: &mut Commands)
         CommandCode::PcrRead => {
             elements.push(element(0x17c, 0x17c));
             elements.push(element(0x17d, 0x17d));
+        }
+        CommandCode::PolicyGetDigest => {
+            elements.push(element(0x185, 0x0500_0185));
+            elements.push(element(0x186, 0x1000_0186));
         }
         CommandCode::PolicyPassword => elements.push(element(0x18a, 0x18a)),
         _ => {}
@@ -147,7 +160,20 @@ fn tell_sessions<K: Keep>(
     list(elements.as_slice(), Form::Value, 1, from, asked.count, text);
 }
 
-/// Writes the list of session handles if the client asks for it. Otherwise, returns false.
+/// Writes the list of the handles of transient objects and of sequence objects.
+fn tell_objects<K: Keep>(layer: &Completion, keep: &K, asked: Asked, text: &mut Listing)
+    requires { text.old ≡ [] }
+    ensures { text.new ≡ listing form.Value 1 asked.property asked.count
+        (object_elements (K.record_of keep.now) ++ sequence_elements layer.now) }
+{
+    let mut elements = ArrayVec::new();
+    objects(keep, &mut elements);
+    layer.list_sequences(&mut elements);
+    let from = asked.property;
+    list(elements.as_slice(), Form::Value, 1, from, asked.count, text);
+}
+
+/// Writes the list of handles of sessions, or of transient objects, if the client asks for it. Otherwise, returns false.
 fn tell_handles<K: Keep>(layer: &Completion, keep: &K, asked: Asked, text: &mut Listing) -> bool
     requires { text.old ≡ [] }
     ensures { Tells (handles_told (K.record_of keep.now) layer.now asked (asked.property / 2 ^ 24))
@@ -156,6 +182,7 @@ fn tell_handles<K: Keep>(layer: &Completion, keep: &K, asked: Asked, text: &mut 
     match asked.property >> 24 {
         0x02 => tell_sessions(layer, keep, asked, false, text),
         0x03 => tell_sessions(layer, keep, asked, true, text),
+        0x80 => tell_objects(layer, keep, asked, text),
         _ => return false,
     }
     true

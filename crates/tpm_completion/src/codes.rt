@@ -1,13 +1,21 @@
 //! The numbers of the commands and response codes that the layer uses. TPM 2.0 Library, Part 2,
 //! sections 6.5 (TPM_CC) and 6.6 (TPM_RC).
 
+pub const SEQUENCE_COMPLETE: u32 = 0x13e;
+
 pub const INCREMENTAL_SELF_TEST: u32 = 0x142;
 
 pub const STIR_RANDOM: u32 = 0x146;
 
+pub const HMAC_START: u32 = 0x15b;
+
+pub const SEQUENCE_UPDATE: u32 = 0x15c;
+
 pub const CONTEXT_LOAD: u32 = 0x161;
 
 pub const CONTEXT_SAVE: u32 = 0x162;
+
+pub const FLUSH_CONTEXT: u32 = 0x165;
 
 pub const GET_CAPABILITY: u32 = 0x17a;
 
@@ -15,11 +23,17 @@ pub const GET_TEST_RESULT: u32 = 0x17c;
 
 pub const HASH: u32 = 0x17d;
 
+pub const EVENT_SEQUENCE_COMPLETE: u32 = 0x185;
+
+pub const HASH_SEQUENCE_START: u32 = 0x186;
+
 pub const TEST_PARMS: u32 = 0x18a;
 
 pub const SUCCESS: u32 = 0;
 
 pub const VALUE: u32 = 0x084;
+
+pub const AUTH_MISSING: u32 = 0x125;
 
 pub const TOO_MANY_CONTEXTS: u32 = 0x12e;
 

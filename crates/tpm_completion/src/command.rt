@@ -2,11 +2,11 @@
 
 ghost use Rattle.std.specs.Prelude.{◌≡◌};
 ghost use Rattle.tpm_bytes.specs.Reading.{Gives};
-ghost use Rattle.tpm_completion.specs.Command.{command_of, plain_command, tag_of};
+ghost use Rattle.tpm_completion.specs.Command.{authorized_command, command_of, plain_command, tag_of};
 
 use tpm_bytes::{Cursor, Short};
 
-/// A command without sessions: its code, and the bytes after its header.
+/// A command: its code, and the bytes after its header.
 #[derive(Drop)]
 pub struct PlainCommand<'a> {
     pub code: u32,
@@ -14,8 +14,7 @@ pub struct PlainCommand<'a> {
 }
 
 impl<'a> PlainCommand<'a> {
-    /// Parses a command without sessions whose buffer has the size that its header states. The
-    /// layer answers no other command of TPM 2.0.
+    /// Parses a command without sessions whose buffer has the size that its header states.
     #[tactic(auto, unfolding(crate::specs::Command::plain_command))]
     pub fn read(buffer: &'a [u8]) -> Result<PlainCommand<'a>, Short>
         ensures { Gives command_of (plain_command buffer.now) result }
@@ -25,6 +24,27 @@ impl<'a> PlainCommand<'a> {
         let size = text.u32()?;
         let code = text.u32()?;
         if tag != 0x8001 {
+            return Err(Short);
+        }
+        if size as usize != buffer.len() {
+            return Err(Short);
+        }
+        Ok(PlainCommand {
+            code,
+            parameters: text.rest(),
+        })
+    }
+
+    /// Parses a command with sessions whose buffer has the size that its header states.
+    #[tactic(auto, unfolding(crate::specs::Command::authorized_command))]
+    pub fn read_authorized(buffer: &'a [u8]) -> Result<PlainCommand<'a>, Short>
+        ensures { Gives command_of (authorized_command buffer.now) result }
+    {
+        let mut text = Cursor::new(buffer);
+        let tag = text.u16()?;
+        let size = text.u32()?;
+        let code = text.u32()?;
+        if tag != 0x8002 {
             return Err(Short);
         }
         if size as usize != buffer.len() {

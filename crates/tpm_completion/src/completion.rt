@@ -1,10 +1,14 @@
-//! The state of the layer: the sequence number of the last context, and which sessions are saved.
+//! The state of the layer: the sequence number of the last context, which sessions are saved, and
+//! the sequence objects.
 
-ghost use Rattle.std.specs.Prelude.{◌≡◌, ◌<◌};
+ghost use Rattle.std.specs.Prelude.{◌≡◌, ◌<◌, map};
 ghost use Rattle.tpm_types.specs.Limits.{session_limit};
+ghost use Rattle.tpm_bytes.specs.Numbers.{numbers_below};
 ghost use Rattle.tpm_completion.specs.Completion.{forgotten, new_completion, session_context, session_kept};
 
+use crate::sequences::no_sequences;
 use tpm_record::Keep;
+use tpm_sequence::SequenceObject;
 use tpm_types::SESSION_LIMIT;
 
 /// The state of the layer.
@@ -18,6 +22,8 @@ pub struct Completion {
     /// For each session, by its slot: the number of the context in which it was saved, or 0 if it
     /// is loaded.
     pub sessions: [u64; 16],
+    /// The sequence objects, by slot.
+    pub sequences: [Option<SequenceObject>; 3],
 }
 
 impl Completion {
@@ -31,6 +37,7 @@ impl Completion {
             start,
             count: 0,
             sessions: [0; 16],
+            sequences: no_sequences(),
         }
     }
 
@@ -66,30 +73,42 @@ impl Completion {
         }
     }
 
-    /// Forgets the contexts of sessions that no longer exist.
+    /// The context numbers of the sessions that the device still has.
+    fn sessions_kept<K: Keep>(&self, keep: &K) -> [u64; 16]
+        ensures { result ≡ map (session_kept (K.record_of keep.now) self.now)
+            (numbers_below session_limit) }
+    {
+        [
+            self.session_kept(keep, 0),
+            self.session_kept(keep, 1),
+            self.session_kept(keep, 2),
+            self.session_kept(keep, 3),
+            self.session_kept(keep, 4),
+            self.session_kept(keep, 5),
+            self.session_kept(keep, 6),
+            self.session_kept(keep, 7),
+            self.session_kept(keep, 8),
+            self.session_kept(keep, 9),
+            self.session_kept(keep, 10),
+            self.session_kept(keep, 11),
+            self.session_kept(keep, 12),
+            self.session_kept(keep, 13),
+            self.session_kept(keep, 14),
+            self.session_kept(keep, 15),
+        ]
+    }
+
+    /// Forgets the contexts of sessions that no longer exist and, if the device is not started, the
+    /// sequence objects. [`crate::execute`] does this after every event. A caller that executes an
+    /// event without it, such as a power cycle, has to call this function.
     #[tactic(auto, unfolding(crate::specs::Completion::forgotten))]
-    pub(crate) fn forget<K: Keep>(&mut self, keep: &K)
+    pub fn forget<K: Keep>(&mut self, keep: &K)
         ensures forgotten { self.new ≡ forgotten (K.record_of keep.now) self.old }
         ensures count { self.new.count ≡ self.old.count }
     {
-        let old = *self;
-        self.sessions = [
-            old.session_kept(keep, 0),
-            old.session_kept(keep, 1),
-            old.session_kept(keep, 2),
-            old.session_kept(keep, 3),
-            old.session_kept(keep, 4),
-            old.session_kept(keep, 5),
-            old.session_kept(keep, 6),
-            old.session_kept(keep, 7),
-            old.session_kept(keep, 8),
-            old.session_kept(keep, 9),
-            old.session_kept(keep, 10),
-            old.session_kept(keep, 11),
-            old.session_kept(keep, 12),
-            old.session_kept(keep, 13),
-            old.session_kept(keep, 14),
-            old.session_kept(keep, 15),
-        ];
+        self.sessions = self.sessions_kept(keep);
+        if !keep.fixed().started {
+            self.sequences = no_sequences();
+        }
     }
 }

@@ -1,16 +1,17 @@
 //! Executes one event, with or without the layer.
 
-ghost use Rattle.std.specs.Prelude.{◌≡◌, Ok, Some, option_map, true, false};
+ghost use Rattle.std.specs.Prelude.{◌≡◌, Ok, Some, List, ℕ, option_map, true, false};
 ghost use Rattle.tpm_types.specs.Locality.{locality_number};
 ghost use Rattle.tpm_step.specs.Events.{Given, plain_event};
 ghost use Rattle.tpm_machine.specs.State.{state_of};
 ghost use Rattle.tpm_completion.specs.Completed.{completed};
-ghost use Rattle.tpm_completion.specs.Execution.{AsksFirst, Behind, Completes, CompletesIf, Loads, Passes, asked_behind, opened_behind, seen_of};
+ghost use Rattle.tpm_completion.specs.Execution.{AsksFirst, Behind, Completes, CompletesIf, Loads, Passes, Sends, asked_behind, opened_behind, seen_of, sent_behind};
 
 use crate::answer::answer;
 use crate::codes::{MEMORY, OBJECT_MEMORY, SUCCESS};
 use crate::completion::Completion;
 use crate::loading::context_asked;
+use crate::sending::Sent;
 use tpm_containers::SlotFault;
 use tpm_machine::Machine;
 use tpm_object::Object;
@@ -110,28 +111,72 @@ fn complete<K: Keep>(
 {
     let event = Event::of_command(buffer, locality, elapsed_ms, *random);
     pass(machine, layer, &event, outcome);
-    answer_after(machine, layer, buffer, outcome);
+    answer_after(machine, layer, buffer, locality, outcome);
 }
 
-/// Loads an object if the command is to load an object's context. Otherwise, the layer may answer.
+/// Loads an object if the command is to load an object's context. Otherwise, the layer may send a
+/// command to the device, or answer.
 fn answer_after<K: Keep>(
     machine: &mut Machine<K>,
     layer: &mut Completion,
     buffer: &[u8],
+    locality: Locality,
     outcome: &mut Outcome,
 )
     ensures { Behind K.can_refuse (seen_of K.record_of machine.old layer.old outcome.old)
-        buffer.now
+        buffer.now (locality_number locality)
         (asked_behind (seen_of K.record_of machine.old layer.old outcome.old) buffer.now)
         (seen_of K.record_of machine.new layer.new outcome.new) }
 {
     match context_asked(machine.keep(), buffer, outcome.response.as_slice()) {
         Some(context) => load(machine, layer, context, outcome),
+        None => send_or_answer(machine, layer, buffer, locality, outcome),
+    }
+}
+
+/// Sends a command to the device if the client's command asks for it. Otherwise, the layer may
+/// answer.
+fn send_or_answer<K: Keep>(
+    machine: &mut Machine<K>,
+    layer: &mut Completion,
+    buffer: &[u8],
+    locality: Locality,
+    outcome: &mut Outcome,
+)
+    ensures { Sends K.can_refuse (seen_of K.record_of machine.old layer.old outcome.old)
+        buffer.now (locality_number locality)
+        (sent_behind (seen_of K.record_of machine.old layer.old outcome.old) buffer.now)
+        (seen_of K.record_of machine.new layer.new outcome.new) }
+{
+    match layer.sent_for(machine.keep(), buffer, outcome.response.as_slice()) {
+        Some(sent) => send(machine, layer, &sent, locality, outcome),
         None => {
             let was_told = outcome.row.check == 0;
             layer.reply(machine.keep(), buffer, was_told, &mut outcome.response);
         }
     }
+}
+
+/// Sends a command to the device, and answers the client's command afterwards. The outcome's row
+/// stays that of the client's command.
+fn send<K: Keep>(
+    machine: &mut Machine<K>,
+    layer: &mut Completion,
+    sent: &Sent,
+    locality: Locality,
+    outcome: &mut Outcome,
+)
+    ensures { (buffer : List ℕ)
+        → Sends K.can_refuse (seen_of K.record_of machine.old layer.old outcome.old) buffer
+        (locality_number locality) (Some sent.now)
+        (seen_of K.record_of machine.new layer.new outcome.new) }
+{
+    let row = outcome.row;
+    let event = Event::of_command(sent.command.as_slice(), locality, 0, [0; 256]);
+    pass(machine, layer, &event, outcome);
+    let accepted = outcome.row.check == 0;
+    outcome.row = row;
+    layer.answer_sent(accepted, sent.work.as_ref(), &mut outcome.response);
 }
 
 /// Loads the object of a context, or refuses the context.

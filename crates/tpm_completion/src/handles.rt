@@ -32,7 +32,8 @@ fn object<K: Keep>(keep: &K, place: u32, elements: &mut Elements)
 #[tactic(auto, using(tpm_actions_capability::proofs::Listing::one_more))]
 pub fn objects<K: Keep>(keep: &K, elements: &mut Elements)
     requires { elements.old.items ≡ [] }
-    ensures { elements.new.items ≡ object_elements (K.record_of keep.now) }
+    ensures value { elements.new.items ≡ object_elements (K.record_of keep.now) }
+    ensures few { length elements.new.items ≤ object_limit }
 {
     for place in 0..OBJECT_LIMIT as u32 {
         object(keep, place, elements);

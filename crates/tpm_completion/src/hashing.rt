@@ -3,7 +3,7 @@
 
 ghost use Rattle.std.specs.Prelude.{◌≡◌, ◌≤◌, length};
 ghost use Rattle.tpm_bytes.specs.Reading.{Gives, Reads};
-ghost use Rattle.tpm_completion.specs.Hashing.{hash_row, hash_text, hierarchy_at, is_generated, ticket_digest, ticket_hierarchy, ticket_text};
+ghost use Rattle.tpm_completion.specs.Hashing.{hash_row, hash_text, hierarchy_at, is_generated, ticket_digest, ticket_hierarchy, ticket_text, ticketed_text};
 
 use crate::testing::Body;
 use tpm_bytes::{Cursor, Sink};
@@ -23,7 +23,7 @@ const GENERATED: [u8; 4] = [0xff, 0x54, 0x43, 0x47];
 /// Parses the handle of a hierarchy: INSUFFICIENT if it is truncated, VALUE if it names no
 /// hierarchy.
 #[tactic(auto, unfolding(crate::specs::Hashing::hierarchy_at))]
-fn read_hierarchy(text: &mut Cursor) -> Result<HierarchyHandle, Rc>
+pub fn read_hierarchy(text: &mut Cursor) -> Result<HierarchyHandle, Rc>
     ensures { Reads (λ hierarchy. hierarchy) (hierarchy_at text.old) text.old result text.new }
 {
     let mut ahead = Cursor::new(text.rest());
@@ -80,8 +80,21 @@ fn ticket(hierarchy: HierarchyHandle, proof: &[u8; 32], digest: &[u8]) -> Sink<4
     text
 }
 
+/// A digest, and its ticket for this hierarchy.
+#[tactic(auto, unfolding(crate::specs::Hashing::ticketed_text))]
+pub fn ticketed(hierarchies: &Hierarchies, chosen: HierarchyHandle, digest: &[u8]) -> Body
+    requires { length digest.now ≤ 32 }
+    ensures { result ≡ ticketed_text hierarchies.now chosen digest.now }
+{
+    let proof = &hierarchies.secrets(chosen).proof;
+    let ticket = ticket(chosen, proof, digest);
+    let mut body = Sink::new();
+    body.append_sized(digest);
+    body.append(ticket.as_slice());
+    body
+}
+
 /// The digest of data, and its ticket.
-#[tactic(auto, unfolding(crate::specs::Hashing::hash_text))]
 fn hash_text(
     hierarchies: &Hierarchies,
     message: &[u8],
@@ -90,14 +103,12 @@ fn hash_text(
 ) -> Body
     ensures { result ≡ hash_text hierarchies.now message.now alg asked }
 {
-    let hierarchy = ticket_hierarchy(asked, message);
     let digest = digest_parts(alg, &[message]);
-    let proof = &hierarchies.secrets(hierarchy).proof;
-    let ticket = ticket(hierarchy, proof, digest.as_slice());
-    let mut body = Sink::new();
-    body.append_sized(digest.as_slice());
-    body.append(ticket.as_slice());
-    body
+    ticketed(
+        hierarchies,
+        ticket_hierarchy(asked, message),
+        digest.as_slice(),
+    )
 }
 
 /// TPM2_Hash.

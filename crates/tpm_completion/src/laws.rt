@@ -3,9 +3,11 @@
 ghost use Rattle.tpm_completion.specs.DeviceFirst.{DeviceFirst};
 ghost use Rattle.tpm_completion.specs.Loaded.{LoadsOnlyWhatWasMade, LoadsWhatWasSaved};
 ghost use Rattle.tpm_completion.specs.Run.{RunsFollow};
+ghost use Rattle.tpm_completion.specs.Sequenced.{CompletesAsEvent, CompletesAsHash, CompletesAsHmac};
 
-/// The client gets the device's response, and no object is loaded, with two exceptions: the
-/// response is one of three refusals, or it answers a capability for which the layer has a list.
+/// The client gets the device's response, no object is loaded, and no command is sent to the device,
+/// with two exceptions: the response is one of four refusals, or it answers a capability for which
+/// the layer has a list.
 pub fn device_first()
     ensures { DeviceFirst }
 {}
@@ -23,4 +25,14 @@ pub fn runs_follow()
 pub fn loading_laws()
     ensures again { LoadsWhatWasSaved }
     ensures only { LoadsOnlyWhatWasMade }
+{}
+
+/// The answer to the completion of a sequence depends only on all data of the sequence, however the
+/// client cut them. It contains the digest and the ticket of TPM2_Hash, the HMAC, or the digests of
+/// both hashes.
+#[tactic(auto, using(crate::proofs::Sequenced::completes_as_hash, crate::proofs::Sequenced::completes_as_hmac, crate::proofs::Sequenced::completes_as_event))]
+pub fn sequence_laws()
+    ensures hash { CompletesAsHash }
+    ensures hmac { CompletesAsHmac }
+    ensures event { CompletesAsEvent }
 {}

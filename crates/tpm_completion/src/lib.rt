@@ -16,6 +16,7 @@
 //! slot, which is an event of tpm_machine.
 
 mod answer;
+mod authorizing;
 mod capability;
 mod codes;
 mod command;
@@ -30,6 +31,10 @@ mod loading;
 mod properties;
 mod reply;
 mod saving;
+mod sending;
+mod sequence_reply;
+mod sequence_rows;
+mod sequences;
 mod testing;
 
 pub use completion::Completion;

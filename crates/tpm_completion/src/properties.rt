@@ -22,7 +22,7 @@ use tpm_types::{
 use tpm_types_nv::NvType;
 
 /// The number of commands that the layer adds to those of the device.
-const OWN_COUNT: u32 = 7;
+const OWN_COUNT: u32 = 12;
 
 /// The number of all commands.
 fn command_count() -> u32

@@ -3,7 +3,7 @@
 ghost use Rattle.std.specs.Prelude.{◌≡◌, [], length};
 ghost use Rattle.tpm_bytes.specs.Reading.{sized_at};
 ghost use Rattle.tpm_completion.specs.Command.{command_of};
-ghost use Rattle.tpm_completion.specs.Reply.{capability_asked, command_reply, is_stirred, load_asked, probed, replied, reply, row_served, save_asked, served, stirred};
+ghost use Rattle.tpm_completion.specs.Reply.{capability_asked, command_reply, is_stirred, load_asked, plain_reply, probed, replied, reply, row_served, save_asked, served, stirred};
 ghost use Rattle.tpm_completion.specs.Capability.{asked_at};
 ghost use Rattle.std.specs.Int.{w32};
 ghost use Rattle.tpm_bytes.specs.Reading.{number_at};
@@ -168,6 +168,18 @@ impl Completion {
         }
     }
 
+    /// Answers a buffer that is not a command on sequence objects, or leaves the response unchanged.
+    #[tactic(auto, unfolding(crate::specs::Reply::plain_reply))]
+    fn plain_reply<K: Keep>(&mut self, keep: &K, buffer: &[u8], was_told: bool, text: &mut Response)
+        ensures { record { response = text.new.items; after = self.new }
+            ≡ plain_reply (K.record_of keep.now) self.old buffer.now text.old.items was_told }
+    {
+        match PlainCommand::read(buffer) {
+            Ok(command) => self.reply_to(keep, &command, was_told, text),
+            Err(_) => probe(self, buffer, text),
+        }
+    }
+
     /// Replaces the device's response in `text` with the layer's answer, or leaves it unchanged.
     /// `was_told` says whether the device's response is a success.
     #[tactic(auto, unfolding(crate::specs::Reply::reply))]
@@ -181,9 +193,8 @@ impl Completion {
         ensures { record { response = text.new.items; after = self.new }
             ≡ reply (K.record_of keep.now) self.old buffer.now text.old.items was_told }
     {
-        match PlainCommand::read(buffer) {
-            Ok(command) => self.reply_to(keep, &command, was_told, text),
-            Err(_) => probe(self, buffer, text),
+        if !self.answer_sequence(keep, buffer, text) {
+            self.plain_reply(keep, buffer, was_told, text);
         }
     }
 }

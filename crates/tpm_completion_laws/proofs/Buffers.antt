@@ -29,16 +29,18 @@ use Rattle.tpm_step.specs.Events.{Given}
 use Rattle.tpm_step.specs.General.{body_of, general, in_command, in_header}
 use Rattle.tpm_step.specs.Step.{Stepped, accepted, acceptance, answer_where, step}
 use Rattle.tpm_completion.specs.Answer.{is_refusal, refusal}
-use Rattle.tpm_completion.specs.Command.{Command, plain_command}
+use Rattle.tpm_completion.specs.Command.{Command, authorized_command, plain_command}
 use Rattle.tpm_completion.specs.Loading.{context_asked, object_context_in}
-use Rattle.tpm_completion.specs.Reply.{command_reply, reply, reply_by, served}
+use Rattle.tpm_completion.specs.Reply.{command_reply, or_reply, plain_reply, reply, reply_by, served}
 use Rattle.tpm_completion.specs.Saving.{Reply}
+use Rattle.tpm_completion.specs.Sending.{sent_for, sent_in}
+use Rattle.tpm_completion.specs.SequenceReply.{asked_reply, bare_reply, sequence_reply}
 use Rattle.tpm_completion.specs.declared.completion.Completion.{Completion}
 
 -- ---- the device
 
--- If only the command code of a header is wrong, the fault of the header is that of an unknown
--- command code.
+-- If only the command code of a header is wrong, the fault of the header is an unknown command
+-- code.
 lacked_by : (outside other_size : Bool) (named : Option Tag) (known : Option CommandCode) (tag : Tag) (rest : List ℕ) → outside ≡ false → named ≡ Some tag → other_size ≡ false → known ≡ None → (refused_if outside fault.Length >>= λ length_fits. ok_or named fault.Tag >>= λ tag. refused_if other_size fault.Size >>= λ size_is_length. ok_or known fault.Code >>= λ code. Ok (record { tag = tag; code = code }, rest)) ≡ (let done : Result (Header × List ℕ) HeaderFault = Err fault.Code in done)
 lacked_by outside other_size named known tag rest e0 e1 e2 e3 = rw (e0, e1, e2, e3) refl
 
@@ -98,8 +100,8 @@ plain_again code body small few =
     ∙ ap (λ (read : Result (ℕ × List ℕ) Short). read >>= Checked 0x8001 size) (number_again w32 (2 ^ 32) wide32 code body small)
     ∙ ap (λ (same : Bool). refused_if (not same) too_short >>= (λ sized. Ok (record { code = code; parameters = body }))) fits
 
--- the context that the layer is to load, after the device refused a command that it does not
--- support
+-- if the device refused a command that it does not support, the context that the layer is to load
+-- is the context that `object_context_in` finds in the command
 pub asked_again : (t : Record) (code : ℕ) (body : List ℕ) → code < 2 ^ 32 → length body ≤ 4086 → t.fixed.started ≡ true
     → context_asked t (framed 0x8001 code body) (refusal 0x143) ≡ object_context_in (Ok (record { code = code; parameters = body }))
 unfolding context_asked
@@ -107,12 +109,47 @@ asked_again t code body small few started =
     ap (λ (b : Bool). if b && is_refusal 0x143 (refusal 0x143) then object_context_in (plain_command (framed 0x8001 code body)) else None) started
     ∙ ap object_context_in (plain_again code body small few)
 
--- the reply to a command that the device does not support
+-- the layer's answer to a command on sequence objects, if it has one, after the device refused a
+-- command without sessions
+sequence_again : (t : Record) (c : Completion) (code : ℕ) (body : List ℕ) → code < 2 ^ 32 → length body ≤ 4086 → t.fixed.started ≡ true
+    → sequence_reply t c (framed 0x8001 code body) (refusal 0x143) ≡ bare_reply c (record { code = code; parameters = body })
+unfolding sequence_reply
+sequence_again t c code body small few started =
+    let buffer = framed 0x8001 code body in
+    ap (λ (b : Bool). if not b then None else asked_reply t c (plain_command buffer) (authorized_command buffer)) started
+    ∙ ap (λ (x : Result Command Short). asked_reply t c x (authorized_command buffer)) (plain_again code body small few)
+
+-- the command that the layer sends to the device after the device refused a command without
+-- sessions: none
+pub none_sent : (t : Record) (c : Completion) (code : ℕ) (body : List ℕ) → length body ≤ 4086 → sent_for t c (framed 0x8001 code body) (refusal 0x143) ≡ None
+unfolding sent_for authorized_command
+none_sent t c code body few =
+    ap (λ (read : Result (ℕ × List ℕ) Short). if t.fixed.started && is_refusal 0x143 (refusal 0x143) then sent_in t c (read >>= (λ tag. number_at w32 tag.1 >>= (λ size. number_at w32 size.1 >>= (λ one. refused_if (not (tag.0 == 0x8002)) too_short >>= (λ tagged. refused_if (not (size.0 == length (framed 0x8001 code body))) too_short >>= (λ sized. Ok (record { code = one.0; parameters = one.1 }))))))) else None)
+    (number_again w16 (2 ^ 16) wide16 0x8001 (to_be_bytes w32 (10 + length body) ++ to_be_bytes w32 code ++ body) (omega arith))
+    ∙ none t.fixed.started
+  where
+    wrong_tag : (x : Result (ℕ × List ℕ) Short) → sent_in t c (x >>= (λ size. number_at w32 size.1 >>= (λ one. (let z : Result Command Short = Err too_short in z)))) ≡ None
+    wrong_tag (Ok size) = by (number_at w32 size.1)
+      where
+        by : (y : Result (ℕ × List ℕ) Short) → sent_in t c (y >>= (λ one. (let z : Result Command Short = Err too_short in z))) ≡ None
+        by (Ok one) = refl
+        by (Err e) = refl
+    wrong_tag (Err e) = refl
+
+    none : (b : Bool) → (if b && is_refusal 0x143 (refusal 0x143) then sent_in t c (number_at w32 (to_be_bytes w32 (10 + length body) ++ to_be_bytes w32 code ++ body) >>= (λ size. number_at w32 size.1 >>= (λ one. (let z : Result Command Short = Err too_short in z)))) else None) ≡ None
+    none true = wrong_tag (number_at w32 (to_be_bytes w32 (10 + length body) ++ to_be_bytes w32 code ++ body))
+    none false = refl
+
+-- the layer's reply to a command that the device does not support, and that is not on sequence
+-- objects, is the reply that `served` defines
 pub reply_again : (t : Record) (c : Completion) (code : ℕ) (body : List ℕ) (was_told : Bool) → code < 2 ^ 32 → length body ≤ 4086 → t.fixed.started ≡ true
+    → bare_reply c (record { code = code; parameters = body }) ≡ None
     → reply t c (framed 0x8001 code body) (refusal 0x143) was_told ≡ served t c (record { code = code; parameters = body }) (refusal 0x143)
-unfolding reply command_reply
-reply_again t c code body was_told small few started =
-    ap (reply_by t c (framed 0x8001 code body) (refusal 0x143) was_told) (plain_again code body small few)
+unfolding reply plain_reply command_reply
+reply_again t c code body was_told small few started none =
+    let buffer = framed 0x8001 code body in
+    ap (λ (x : Option Reply). or_reply x (plain_reply t c buffer (refusal 0x143) was_told)) (sequence_again t c code body small few started ∙ none)
+    ∙ ap (reply_by t c buffer (refusal 0x143) was_told) (plain_again code body small few)
     ∙ by t.fixed.started started _ _
   where
     by : (b : Bool) → b ≡ true → (stand is : Reply) → (if not b then stand else is) ≡ is

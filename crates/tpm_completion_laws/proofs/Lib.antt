@@ -5,3 +5,4 @@ pub mod Saving
 pub mod Loading
 pub mod Starts
 pub mod Validity
+pub mod SentCodes

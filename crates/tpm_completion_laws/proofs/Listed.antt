@@ -1,5 +1,5 @@
--- The lists of the layer, and the commands that it serves.
-use Rattle.std.proofs.Common.{◌≡◌, ℕ, ◌+◌, ◌≤◌, ◌==◌, ◌||◌, Bool, true, false, List, [], ◌∷◌, length, Option, Some, None, refl, sym, ◌∙◌, arith}
+-- The layer's lists are complete and in order, and the layer serves only its own commands.
+use Rattle.std.proofs.Common.{◌≡◌, ℕ, ◌+◌, ◌≤◌, ◌==◌, ◌||◌, Bool, true, false, List, [], ◌∷◌, length, Option, Some, None, refl, sym, ap, ◌∙◌, arith}
 use Rattle.std.proofs.lemmas.Bool.{false≢true}
 use Rattle.std.proofs.lemmas.List.{length-append}
 use Rattle.std.specs.List.{flat_map}
@@ -19,6 +19,8 @@ use Rattle.tpm_completion.specs.Completion.{session_context}
 use Rattle.tpm_completion.specs.Handles.{session_shown}
 use Rattle.tpm_completion.specs.Properties.{active_count, count_elements, identity_elements, limit_elements, object_count, property_elements}
 use Rattle.tpm_completion.specs.Reply.{stands}
+use Rattle.tpm_completion.specs.Sending.{sent_by}
+use Rattle.tpm_completion.specs.SequenceReply.{needs_password, unsent_reply}
 use Rattle.tpm_completion.specs.declared.completion.Completion.{Completion}
 use Rattle.tpm_completion_laws.specs.Listed.{CommandsAscend, CountsAddUp, CountsAll, ListsItsOwn, PcrPropertiesHold, PropertiesAscend, ServesItsOwn}
 
@@ -32,21 +34,43 @@ if_false : {X : Type 0} (b : Bool) (x y : X) → b ≡ false → (if b then x el
 if_false false x y e = refl
 if_false true x y e = absurd (false≢true (sym e))
 
+or_both : (a b : Bool) → a ≡ false → b ≡ false → (a || b) ≡ false
+or_both a b e f = rw (e, f) refl
+
 pub serves_its_own : ServesItsOwn
 serves_its_own r c command response none =
-    let one = or_false (command.code == 0x142) _ none in
-    let two = or_false (command.code == 0x146) _ one.1 in
-    let three = or_false (command.code == 0x161) _ two.1 in
-    let four = or_false (command.code == 0x162) _ three.1 in
-    let five = or_false (command.code == 0x17c) _ four.1 in
-    let six = or_false (command.code == 0x17d) (command.code == 0x18a) five.1 in
-    if_false (command.code == 0x146) _ _ two.0
-    ∙ if_false (command.code == 0x161) _ _ three.0
-    ∙ if_false (command.code == 0x162) _ _ four.0
-    ∙ if_false (command.code == 0x142) _ _ one.0
-    ∙ if_false (command.code == 0x17c) _ _ five.0
-    ∙ if_false (command.code == 0x17d) _ _ six.0
-    ∙ if_false (command.code == 0x18a) _ (stands c response) six.1
+    let code : ℕ = command.code in
+    let one = or_false (code == 0x142) _ none in
+    let two = or_false (code == 0x146) _ one.1 in
+    let three = or_false (code == 0x161) _ two.1 in
+    let four = or_false (code == 0x162) _ three.1 in
+    let five = or_false (code == 0x17c) _ four.1 in
+    let six = or_false (code == 0x17d) _ five.1 in
+    let seven = or_false (code == 0x18a) _ six.1 in
+    let complete = or_false (code == 0x13e) _ seven.1 in
+    let start = or_false (code == 0x15b) _ complete.1 in
+    let update = or_false (code == 0x15c) _ start.1 in
+    let event = or_false (code == 0x185) (code == 0x186) update.1 in
+    let sent : sent_by r c code command.parameters ≡ None =
+    if_false (code == 0x15b) _ _ start.0 ∙ if_false (code == 0x185) _ None event.0 in
+    let needs : needs_password code ≡ false =
+    or_both (code == 0x15b) _ start.0 (or_both (code == 0x15c) _ update.0 (or_both (code == 0x13e) (code == 0x185) complete.0 event.0)) in
+    record {
+      served =
+          if_false (code == 0x146) _ _ two.0
+          ∙ if_false (code == 0x161) _ _ three.0
+          ∙ if_false (code == 0x162) _ _ four.0
+          ∙ if_false (code == 0x142) _ _ one.0
+          ∙ if_false (code == 0x17c) _ _ five.0
+          ∙ if_false (code == 0x17d) _ _ six.0
+          ∙ if_false (code == 0x18a) _ (stands c response) seven.0;
+      bare = if_false (code == 0x186) _ _ event.1 ∙ if_false (needs_password code) _ None needs;
+      authorized =
+          if_false (code == 0x15c) _ _ update.0
+          ∙ if_false (code == 0x13e) _ _ complete.0
+          ∙ ap (unsent_reply c) sent;
+      sent = sent;
+    }
 
 pub lists_its_own : ListsItsOwn
 unfolding commands_by

@@ -16,14 +16,14 @@ use Rattle.tpm_step.specs.Step.{Stepped, step}
 use Rattle.tpm_types.specs.Handle.{is_transient}
 use Rattle.tpm_types.specs.declared.handle.Handle.{Handle}
 use Rattle.tpm_completion.specs.Answer.{refusal, success}
-use Rattle.tpm_completion.specs.Completed.{behind, done_behind, passed}
+use Rattle.tpm_completion.specs.Completed.{behind, done_behind, passed, sending_behind}
 use Rattle.tpm_completion.specs.Completion.{forgotten}
 use Rattle.tpm_completion.specs.Execution.{Seen, answered}
 use Rattle.tpm_completion.specs.Loaded.{saved_context}
 use Rattle.tpm_completion.specs.Reply.{save_asked, served}
 use Rattle.tpm_completion.specs.Saving.{Reply, counted, next_number, object_numbered, object_saved, saved}
 use Rattle.tpm_completion.specs.declared.completion.Completion.{Completion}
-use Rattle.tpm_completion_laws.proofs.Buffers.{IsLacking, asked_again, header_lacks, lacking_step, reply_again, step_lacks}
+use Rattle.tpm_completion_laws.proofs.Buffers.{IsLacking, asked_again, header_lacks, lacking_step, none_sent, reply_again, step_lacks}
 use Rattle.tpm_completion_laws.specs.Objects.{IsSaved, SavesObjects, save_buffer}
 
 -- the effect of a command that the device does not support
@@ -74,13 +74,14 @@ kept_count : (t : Record) (c : Completion) → (forgotten t c).count ≡ c.count
 unfolding forgotten
 kept_count t c = refl
 
-saved_effect : (t : Record) (c : Completion) (handle : Handle) (object : Object) (drawn : ℕ) → t.fixed.started ≡ true → handle.number < 2 ^ 32 → is_transient handle ≡ true → (forgotten t c).count < 2 ^ 64 - 1 → object_at t.objects handle ≡ Some object
-    → behind (lacking_effect t c drawn) (save_buffer handle) ≡ answered (lacking_effect t c drawn) (saved_reply t (forgotten t c) object)
-saved_effect t c handle object drawn started small transient less there =
+saved_effect : (t : Record) (c : Completion) (handle : Handle) (object : Object) (locality drawn : ℕ) → t.fixed.started ≡ true → handle.number < 2 ^ 32 → is_transient handle ≡ true → (forgotten t c).count < 2 ^ 64 - 1 → object_at t.objects handle ≡ Some object
+    → behind (lacking_effect t c drawn) (save_buffer handle) locality ≡ answered (lacking_effect t c drawn) (saved_reply t (forgotten t c) object)
+saved_effect t c handle object locality drawn started small transient less there =
     let first = lacking_effect t c drawn in
-    ap (done_behind first (save_buffer handle)) (asked_again t 0x162 (to_be_bytes w32 handle.number) (omega arith) (omega arith) started)
+    ap (done_behind first (save_buffer handle) locality) (asked_again t 0x162 (to_be_bytes w32 handle.number) (omega arith) (omega arith) started)
+    ∙ ap (sending_behind first (save_buffer handle) locality) (none_sent t (forgotten t c) 0x162 (to_be_bytes w32 handle.number) (omega arith))
     ∙ ap (answered first)
-    (reply_again t (forgotten t c) 0x162 (to_be_bytes w32 handle.number) false (omega arith) (omega arith) started
+    (reply_again t (forgotten t c) 0x162 (to_be_bytes w32 handle.number) false (omega arith) (omega arith) started refl
     ∙ served_saves t (forgotten t c) handle object small transient less there)
 
 pub saves_objects : SavesObjects
@@ -89,6 +90,6 @@ saves_objects r c handle object locality elapsed random started small transient 
     let buffer = save_buffer handle in
     let lacks = step_lacks r buffer locality elapsed random (header_lacks 0x162 (to_be_bytes w32 handle.number) lacks_save (omega arith)) in
     let drawn = drawn_by r (Given buffer locality elapsed random) (lacking_step t).row.check in
-    let effect = ap (λ (first : Seen). behind first buffer) (passed_lacks r c buffer locality elapsed random lacks)
-    ∙ saved_effect t c handle object drawn started small transient (subst (λ (n : ℕ). n < 2 ^ 64 - 1) (sym (kept_count t c)) less) there in
+    let effect = ap (λ (first : Seen). behind first buffer locality) (passed_lacks r c buffer locality elapsed random lacks)
+    ∙ saved_effect t c handle object locality drawn started small transient (subst (λ (n : ℕ). n < 2 ^ 64 - 1) (sym (kept_count t c)) less) there in
     subst (IsSaved t (forgotten t c) object) (sym effect) (record { response = refl; device = refl; layer = refl })

@@ -1,9 +1,9 @@
 -- No answer of the layer changes the layer's start number.
-use Rattle.std.proofs.Common.{◌≡◌, ℕ, Bool, true, false, List, [], Option, Some, None, Result, Ok, Err, refl}
-use Rattle.std.specs.Prelude.{◌==◌, ◌&&◌, is_some, length, not, if◌then◌else◌}
+use Rattle.std.proofs.Common.{◌≡◌, ℕ, Bool, true, false, List, [], Option, Some, None, Result, Ok, Err, IfOk, IfSome, refl}
+use Rattle.std.specs.Prelude.{◌==◌, ◌&&◌, is_some, length, not, ok_or, if◌then◌else◌}
 use Rattle.std.specs.Str.{bytes_eq}
 use Rattle.std.specs.Int.{w32}
-use Rattle.tpm_bytes.specs.Reading.{number_at, sized_at}
+use Rattle.tpm_bytes.specs.Reading.{◌>>=◌, number_at, sized_at}
 use Rattle.tpm_bytes.specs.declared.cursor.Short.{Short}
 use Rattle.tpm_object.specs.declared.object.Object.{Object}
 use Rattle.tpm_record.specs.Objects.{object_at}
@@ -15,17 +15,30 @@ use Rattle.tpm_step.specs.Answer.{framed}
 use Rattle.tpm_types.specs.Handle.{is_session, is_transient, numbered}
 use Rattle.tpm_completion.specs.Answer.{is_refusal, refusal, success}
 use Rattle.tpm_completion.specs.Capability.{asked_at, capability_told}
-use Rattle.tpm_completion.specs.Command.{Command, plain_command, tag_of}
+use Rattle.tpm_completion.specs.Command.{Command, authorized_command, plain_command, tag_of}
 use Rattle.tpm_completion.specs.Completion.{session_context}
 use Rattle.tpm_completion.specs.Context.{names_session, token_at}
-use Rattle.tpm_completion.specs.Hashing.{hash_row}
+use Rattle.tpm_completion.specs.Hashing.{hash_row, hierarchy_at}
 use Rattle.tpm_completion.specs.Loading.{placed_reply}
-use Rattle.tpm_completion.specs.Reply.{capability_asked, command_reply, is_stirred, listed, stands, load_asked, probed, replied, reply, reply_by, row_served, save_asked, served, stirred}
+use Rattle.tpm_completion.specs.Reply.{capability_asked, command_reply, is_stirred, listed, stands, load_asked, or_reply, plain_reply, probed, replied, reply, reply_by, row_served, save_asked, served, stirred}
 use Rattle.tpm_completion.specs.Saving.{Reply, handle_given, refused, with_session, loaded, loaded_by, next_number, object_numbered, object_saved, place_named, saved, session_numbered, session_saved}
+use Rattle.tpm_completion.specs.Sending.{sent_by, sent_reply}
+use Rattle.tpm_completion.specs.SequenceReply.{asked_reply, authorized_reply, bare_reply, flush_handle, flush_reply, needs_password, row_reply, sequence_reply, unsent_reply}
+use Rattle.tpm_completion.specs.SequenceRows.{complete_row, completion_text, flushed, full_refused, hash_start_row, mode_refused, sequence_in, update_row}
+use Rattle.tpm_completion.specs.Sequences.{free_slot, slot_of}
 use Rattle.tpm_completion.specs.Testing.{incremental_row, test_parms_row, test_result_row}
 use Rattle.tpm_completion.specs.declared.capability.Asked.{Asked}
 use Rattle.tpm_completion.specs.declared.completion.Completion.{Completion}
 use Rattle.tpm_completion.specs.declared.context.Token.{Token}
+use Rattle.tpm_completion.specs.declared.sending.Sent.{Sent}
+use Rattle.tpm_completion.specs.declared.sending.Work.{Work}
+use Rattle.tpm_completion.specs.declared.sending.Work.TheVariants.{Ends, Starts}
+use Rattle.tpm_record.specs.declared.hierarchy.Hierarchies.{Hierarchies}
+use Rattle.tpm_record.specs.rows.Rows.{all_read, parameter}
+use Rattle.tpm_sequence.specs.Sequence.{sequence_updated}
+use Rattle.tpm_types.specs.Algorithm.{hash_or_null_at}
+use Rattle.tpm_types.specs.Buffer.{buffer_at}
+use Rattle.tpm_types.specs.Limits.{data_limit}
 
 -- The layer has this start number after a reply.
 record StartsAt (start : ℕ) (reply : Reply) : Type 0 where
@@ -35,7 +48,15 @@ either : (b : Bool) (start : ℕ) (x y : Reply) → StartsAt start x → StartsA
 either true start x y h k = h
 either false start x y h k = k
 
+-- if every success of the second step satisfies a property, so does the success of both
+then_ok : {A B E : Type 0} (Is : B → Type 0) (x : Result A E) (f : A → Result B E) → ((a : A) → IfOk (f a) Is) → IfOk (x >>= f) Is
+then_ok Is (Ok a) f each = each a
+then_ok Is (Err e) f each = tt
+
 module _ (r : Record) (c : Completion) where
+  abbrev Starting : Reply → Type 0
+  Starting reply = StartsAt c.start reply
+
   -- ---- saving
 
   numbered_starts : (o : Object) (number : Option ℕ) → StartsAt c.start (object_numbered r c o number)
@@ -148,9 +169,99 @@ module _ (r : Record) (c : Completion) where
   by_starts buffer response was_told (Ok command) = command_starts command response was_told
   by_starts buffer response was_told (Err e) = probe_starts buffer response
 
+  plain_starts : (buffer response : List ℕ) (was_told : Bool) → StartsAt c.start (plain_reply r c buffer response was_told)
+  unfolding plain_reply
+  plain_starts buffer response was_told = by_starts buffer response was_told (plain_command buffer)
+
+  -- ---- commands on sequence objects
+
+  started_starts : (parameters : List ℕ) → IfOk (hash_start_row c parameters) Starting
+  unfolding hash_start_row
+  started_starts parameters =
+      then_ok Starting (parameter 1 (buffer_at 32 parameters)) _ (λ auth.
+      then_ok Starting (parameter 2 (hash_or_null_at auth.1)) _ (λ hash.
+      then_ok Starting (all_read hash.1) _ (λ ended.
+      then_ok Starting (ok_or (free_slot c) full_refused) _ (λ slot. record { is = refl }))))
+
+  updated_starts : (text : List ℕ) → IfOk (update_row c text) Starting
+  unfolding update_row
+  updated_starts text =
+      then_ok Starting (sequence_in c text) _ (λ named.
+      then_ok Starting (parameter 1 (buffer_at data_limit named.parameters)) _ (λ bytes.
+      then_ok Starting (all_read bytes.1) _ (λ ended. record { is = refl })))
+
+  completed_starts : (h : Hierarchies) (text : List ℕ) → IfOk (complete_row h c text) Starting
+  unfolding complete_row
+  completed_starts h text =
+      then_ok Starting (sequence_in c text) _ (λ named.
+      then_ok Starting (parameter 1 (buffer_at data_limit named.parameters)) _ (λ bytes.
+      then_ok Starting (parameter 2 (hierarchy_at bytes.1)) _ (λ asked.
+      then_ok Starting (all_read asked.1) _ (λ ended.
+      then_ok Starting (ok_or (completion_text h asked.0 (sequence_updated named.object.sequence bytes.0)) (mode_refused 1)) _ (λ answer. record { is = refl })))))
+
+  reply_by_row : (row : Result Reply Refused) → IfOk row Starting → StartsAt c.start (row_reply c row)
+  reply_by_row (Ok reply) is = is
+  reply_by_row (Err e) is = record { is = refl }
+
+  unsent_starts : (sent : Option (Result Sent Refused)) → IfSome (unsent_reply c sent) Starting
+  unsent_starts (Some (Ok sent)) = tt
+  unsent_starts (Some (Err e)) = record { is = refl }
+  unsent_starts None = tt
+
+  some_or : (b : Bool) (x y : Option Reply) → IfSome x Starting → IfSome y Starting → IfSome (if b then x else y) Starting
+  some_or true x y h k = h
+  some_or false x y h k = k
+
+  authorized_starts : (command : Command) → IfSome (authorized_reply r c command) Starting
+  authorized_starts command =
+      some_or (command.code == 0x15c) _ _ (reply_by_row (update_row c command.parameters) (updated_starts command.parameters))
+      (some_or (command.code == 0x13e) _ _ (reply_by_row (complete_row r.fixed.hierarchies c command.parameters) (completed_starts r.fixed.hierarchies command.parameters))
+      (unsent_starts (sent_by r c command.code command.parameters)))
+
+  bare_starts : (command : Command) → IfSome (bare_reply c command) Starting
+  bare_starts command =
+      some_or (command.code == 0x186) _ _ (reply_by_row (hash_start_row c command.parameters) (started_starts command.parameters))
+      (some_or (needs_password command.code) _ _ (record { is = refl }) tt)
+
+  asked_starts : (plain authorized : Result Command Short) → IfSome (asked_reply r c plain authorized) Starting
+  asked_starts (Ok command) authorized = bare_starts command
+  asked_starts (Err e) (Ok command) = authorized_starts command
+  asked_starts (Err e) (Err f) = tt
+
+  flushed_starts : (slot : Option ℕ) → IfSome (flushed c slot) Starting
+  flushed_starts (Some slot) = record { is = refl }
+  flushed_starts None = tt
+
+  handle_starts : (handle : Result (ℕ × List ℕ) Short) → IfSome (flush_handle c handle) Starting
+  handle_starts (Ok handle) = some_or (length handle.1 == 0) _ None (flushed_starts (slot_of c (numbered handle.0))) tt
+  handle_starts (Err e) = tt
+
+  flush_starts : (command : Result Command Short) → IfSome (flush_reply c command) Starting
+  flush_starts (Ok command) = some_or (command.code == 0x165) _ None (handle_starts (number_at w32 command.parameters)) tt
+  flush_starts (Err e) = tt
+
+  sequence_starts : (buffer response : List ℕ) → IfSome (sequence_reply r c buffer response) Starting
+  unfolding sequence_reply
+  sequence_starts buffer response =
+      some_or (not r.fixed.started) None _ tt
+      (some_or (is_refusal 0x143 response) _ _ (asked_starts (plain_command buffer) (authorized_command buffer))
+      (some_or (is_refusal 0x1cb response) _ None (flush_starts (plain_command buffer)) tt))
+
+  or_starts : (reply : Option Reply) (other : Reply) → IfSome reply Starting → StartsAt c.start other → StartsAt c.start (or_reply reply other)
+  or_starts (Some reply) other is also = is
+  or_starts None other is also = also
+
   pub reply_starts : (buffer response : List ℕ) (was_told : Bool) → (reply r c buffer response was_told).after.start ≡ c.start
   unfolding reply
-  reply_starts buffer response was_told = (by_starts buffer response was_told (plain_command buffer)).is
+  reply_starts buffer response was_told =
+      (or_starts (sequence_reply r c buffer response) (plain_reply r c buffer response was_told) (sequence_starts buffer response) (plain_starts buffer response was_told)).is
+
+-- the answer after the device executed a command that the layer sent leaves the start number
+pub sent_starts : (c : Completion) (accepted : Bool) (work : Option Work) (response : List ℕ) → (sent_reply c accepted work response).after.start ≡ c.start
+sent_starts c true (Some (Starts slot object)) response = refl
+sent_starts c true (Some (Ends slot digests)) response = refl
+sent_starts c true None response = refl
+sent_starts c false work response = refl
 
 pub placed_starts : (c : Completion) (handle : Option Handle) → (placed_reply c handle).after.start ≡ c.start
 placed_starts c (Some handle) = refl

@@ -1,5 +1,5 @@
--- Which commands leave contexts valid.
-use Rattle.std.proofs.Common.{◌≡◌, ◌≢◌, ℕ, ◌==◌, Bool, true, false, List, Option, Some, None, Result, Ok, Err, IfOk, refl, sym, ap, subst, ◌∙◌}
+-- Every command except TPM2_Startup and TPM2_Clear leaves each context valid.
+use Rattle.std.proofs.Common.{◌≡◌, ◌≢◌, ℕ, ◌==◌, Bool, true, false, List, Option, Some, None, Result, Ok, Err, IfOk, IfSome, replicate, refl, sym, ap, subst, ◌∙◌}
 use Rattle.std.proofs.lemmas.Bool.{false≢true}
 use Rattle.tpm_commands.specs.CommandCode.{code_number, part_of}
 use Rattle.tpm_commands.specs.Part as part
@@ -19,12 +19,13 @@ use Rattle.tpm_step.specs.Table.{row_of}
 use Rattle.tpm_step.specs.declared.refused_command.RefusedCommand.{RefusedCommand}
 use Rattle.tpm_step.specs.rows.Acceptance.{IsAcceptance, LeavesEffect}
 use Rattle.tpm_step.specs.rows.Footprint.{KeepsSecrets, Touches}
-use Rattle.tpm_completion.specs.Completed.{completed, done_behind, loaded_behind, passed}
+use Rattle.tpm_completion.specs.Completed.{completed, done_behind, loaded_behind, passed, sending_behind}
 use Rattle.tpm_completion.specs.Completion.{forgotten}
-use Rattle.tpm_completion.specs.Execution.{Seen, asked_behind, opened_behind}
+use Rattle.tpm_completion.specs.Execution.{Seen, asked_behind, opened_behind, sent_behind, sent_event}
 use Rattle.tpm_completion.specs.Loaded.{StaysValid}
 use Rattle.tpm_completion.specs.Saving.{binding_of}
 use Rattle.tpm_completion.specs.declared.completion.Completion.{Completion}
+use Rattle.tpm_completion.specs.declared.sending.Sent.{Sent}
 use Rattle.tpm_context.specs.Meaning.{restart_of}
 use Rattle.tpm_context.specs.declared.binding.Binding.{Binding}
 use Rattle.tpm_context.specs.declared.fault.ContextFault.{ContextFault}
@@ -33,7 +34,8 @@ use Rattle.tpm_record.specs.Objects.{next_handle}
 use Rattle.tpm_record.specs.Tick.{ticked}
 use Rattle.tpm_step.specs.Events.{Given, PlainEvent}
 use Rattle.tpm_step.specs.Step.{Accepted, accepted, step, stepped_of, success_step}
-use Rattle.tpm_completion_laws.proofs.Starts.{placed_starts, reply_starts}
+use Rattle.tpm_completion_laws.proofs.SentCodes.{HasCode, accepted_code, sent_code}
+use Rattle.tpm_completion_laws.proofs.Starts.{placed_starts, reply_starts, sent_starts}
 use Rattle.tpm_completion_laws.specs.Objects.{StaysValidThrough}
 
 -- The proofs of the hierarchies, and the counts of TPM Resets and TPM Restarts, are unchanged.
@@ -135,16 +137,50 @@ loaded_leaves first (Ok object) = record {
 }
 loaded_leaves first (Err fault) = record { fixed = nothing_changed first.step.after.fixed; start = refl }
 
-done_leaves : (first : Seen) (buffer : List ℕ) (asked : Option (List ℕ)) → Leaves first.step.after first.layer (done_behind first buffer asked)
-done_leaves first buffer (Some context) = loaded_leaves first (opened_behind first context)
-done_leaves first buffer None = record {
+passed_leaves : (r : Record) (c : Completion) (event : PlainEvent) → Keeps r.fixed (step r event).after.fixed → Leaves r c (passed c r event)
+unfolding passed forgotten
+passed_leaves r c event keeps = record { fixed = keeps; start = refl }
+
+-- the command that the layer sends to the device keeps the proofs and the counts
+sent_keeps : (t : Record) (locality : ℕ) (random buffer : List ℕ) → HasCode (λ c. keeps_counts (part_of c) ≡ true) buffer → Equal t (stepped_of t random (accepted t buffer locality random)).after
+sent_keeps t locality random buffer has =
+    by (accepted t buffer locality random) (accepted_is t buffer locality random) (accepted_code (λ c. keeps_counts (part_of c) ≡ true) t buffer locality random has)
+  where
+    by : (x : Result Accepted RefusedCommand) → IfOk x (IsAcceptance t locality random) → IfOk x (λ a. keeps_counts (part_of a.command.code) ≡ true) → Equal t (stepped_of t random x).after
+    by (Ok a) is keeps =
+        then_keeps t.fixed a.success.after.fixed (success_step a random).after.fixed
+        (row_keeps t a is.row keeps) (left_keeps a.success.after (success_step a random).after (success_leaves a random))
+    by (Err e) is keeps = same_keeps _ _ refl refl refl
+
+sending_leaves : (first : Seen) (buffer : List ℕ) (locality : ℕ) (sent : Option Sent) → IfSome sent (λ s. HasCode (λ c. keeps_counts (part_of c) ≡ true) s.command)
+    → Leaves first.step.after first.layer (sending_behind first buffer locality sent)
+sending_leaves first buffer locality (Some sent) has =
+    let t = ticked first.step.after 0 in
+    let keeps = sent_keeps t locality (replicate 256 0) sent.command has in
+    let second = passed_leaves first.step.after first.layer (sent_event sent locality) (record { secrets = keeps.secrets; reset_count = keeps.reset_count; restart_count = keeps.restart_count }) in
+    let effect : Seen = passed first.layer first.step.after (sent_event sent locality) in
+    record {
+      fixed = second.fixed;
+      start = sent_starts effect.layer (effect.step.row.check == 0) sent.work effect.step.response ∙ second.start;
+    }
+sending_leaves first buffer locality None has = record {
   fixed = nothing_changed first.step.after.fixed;
   start = reply_starts first.step.after first.layer buffer first.step.response (first.step.row.check == 0);
 }
 
-passed_leaves : (r : Record) (c : Completion) (event : PlainEvent) → Keeps r.fixed (step r event).after.fixed → Leaves r c (passed c r event)
-unfolding passed forgotten
-passed_leaves r c event keeps = record { fixed = keeps; start = refl }
+hmac_keeps : keeps_counts (part_of command.Hmac) ≡ true
+unfolding keeps_counts
+hmac_keeps = refl
+
+extend_keeps : keeps_counts (part_of command.PcrExtend) ≡ true
+unfolding keeps_counts
+extend_keeps = refl
+
+done_leaves : (first : Seen) (buffer : List ℕ) (locality : ℕ) (asked : Option (List ℕ)) → Leaves first.step.after first.layer (done_behind first buffer locality asked)
+done_leaves first buffer locality (Some context) = loaded_leaves first (opened_behind first context)
+done_leaves first buffer locality None =
+    sending_leaves first buffer locality (sent_behind first buffer)
+    (sent_code (λ c. keeps_counts (part_of c) ≡ true) hmac_keeps extend_keeps first.step.after first.layer buffer first.step.response)
 
 completed_leaves : (completes : Bool) (r : Record) (c : Completion) (buffer : List ℕ) (locality elapsed : ℕ) (random : List ℕ)
     → Keeps r.fixed (step r (Given buffer locality elapsed random)).after.fixed → Leaves r c (completed completes c r (Given buffer locality elapsed random))
@@ -152,7 +188,7 @@ completed_leaves false r c buffer locality elapsed random keeps = passed_leaves 
 completed_leaves true r c buffer locality elapsed random keeps =
     let first = passed c r (Given buffer locality elapsed random) in
     let one = passed_leaves r c (Given buffer locality elapsed random) keeps in
-    let two = done_leaves first buffer (asked_behind first buffer) in
+    let two = done_leaves first buffer locality (asked_behind first buffer) in
     record {
       fixed = then_keeps r.fixed first.step.after.fixed _ one.fixed two.fixed;
       start = two.start ∙ one.start;

@@ -1,5 +1,5 @@
--- The lists of the completing layer, and the commands that it serves.
-use Rattle.std.specs.Prelude.{◌≡◌, ℕ, ◌+◌, ◌-◌, ◌*◌, ◌^◌, ◌==◌, ◌&&◌, ◌||◌, nat_lt, Bool, true, false, List, [], ◌∷◌, ◌++◌, filter, length, map, if◌then◌else◌}
+-- Claims about the lists of the completing layer, and about the commands that it serves.
+use Rattle.std.specs.Prelude.{◌≡◌, ℕ, ◌+◌, ◌-◌, ◌*◌, ◌^◌, ◌==◌, ◌&&◌, ◌||◌, nat_lt, Bool, true, false, List, [], ◌∷◌, ◌++◌, filter, length, map, None, if◌then◌else◌}
 use Rattle.std.specs.List.{flat_map, sum_by}
 use Rattle.tpm_bytes.specs.Numbers.{numbers_below}
 use Rattle.tpm_pcr.specs.Changes.{may_extend, may_reset, use_of}
@@ -13,23 +13,41 @@ use Rattle.tpm_completion.specs.Listing.{element}
 use Rattle.tpm_completion.specs.PcrProperties.{pcr_property_elements}
 use Rattle.tpm_completion.specs.Properties.{active_count, command_count, object_count, property_elements, session_count}
 use Rattle.tpm_completion.specs.Reply.{served, stands}
+use Rattle.tpm_completion.specs.Sending.{sent_by}
+use Rattle.tpm_completion.specs.SequenceReply.{authorized_reply, bare_reply}
 use Rattle.tpm_completion.specs.declared.completion.Completion.{Completion}
 
 -- ---- commands
 
--- whether a code belongs to one of the layer's own commands
+-- whether a code belongs to one of the layer's own commands; below, those on sequence objects
+abbrev pub is_of_sequences : (code : ℕ) → Bool
+is_of_sequences code =
+    (code == 0x13e)
+    || ((code == 0x15b) || ((code == 0x15c) || ((code == 0x185) || (code == 0x186))))
+
 abbrev pub is_own : (code : ℕ) → Bool
 is_own code =
     (code == 0x142)
     || ((code == 0x146)
     || ((code == 0x161)
-    || ((code == 0x162) || ((code == 0x17c) || ((code == 0x17d) || (code == 0x18a))))))
+    || ((code == 0x162)
+    || ((code == 0x17c)
+    || ((code == 0x17d) || ((code == 0x18a) || is_of_sequences code))))))
+
+-- The layer does not serve a command, without sessions or with them, and sends none to the device
+-- for it.
+pub record IsNotServed (r : Record) (c : Completion) (command : Command) (response : List ℕ) : Type 0
+  where
+    pub served : served r c command response ≡ stands c response
+    pub bare : bare_reply c command ≡ None
+    pub authorized : authorized_reply r c command ≡ None
+    pub sent : sent_by r c command.code command.parameters ≡ None
 
 -- The layer serves only its own commands.
 abbrev pub ServesItsOwn : Type 0
 ServesItsOwn =
     (r : Record) (c : Completion) (command : Command) (response : List ℕ)
-    → is_own command.code ≡ false → served r c command response ≡ stands c response
+    → is_own command.code ≡ false → IsNotServed r c command response
 
 -- the numbers of elements
 abbrev pub numbers : List Element → List ℕ
@@ -39,7 +57,8 @@ numbers elements = map (λ e. e.number) elements
 abbrev pub ListsItsOwn : Type 0
 ListsItsOwn =
     filter is_own (numbers command_elements)
-    ≡ 0x142 ∷ 0x146 ∷ 0x161 ∷ 0x162 ∷ 0x17c ∷ 0x17d ∷ 0x18a ∷ []
+    ≡ 0x13e ∷ 0x142 ∷ 0x146 ∷ 0x15b ∷ 0x15c ∷ 0x161 ∷ 0x162 ∷ 0x17c ∷ 0x17d ∷ 0x185 ∷ 0x186 ∷ 0x18a
+    ∷ []
 
 -- TPM_PT_TOTAL_COMMANDS is the number of commands in the list.
 abbrev pub CountsAll : Type 0

@@ -24,11 +24,11 @@ use Rattle.tpm_completion.specs.Loaded.{StaysValid, saved_context}
 use Rattle.tpm_completion.specs.Saving.{counted}
 use Rattle.tpm_completion.specs.declared.completion.Completion.{Completion}
 
--- the buffer of a TPM2_ContextSave (162) of a handle, without sessions; below, of a
--- TPM2_ContextLoad (161) of a context
+-- the buffer of a TPM2_ContextSave (162) of a handle, without sessions
 abbrev pub save_buffer : Handle → List ℕ
 save_buffer handle = framed 0x8001 0x162 (to_be_bytes w32 handle.number)
 
+-- the buffer of a TPM2_ContextLoad (161) of a context, without sessions
 abbrev pub load_buffer : (context : List ℕ) → List ℕ
 load_buffer context = framed 0x8001 0x161 context
 

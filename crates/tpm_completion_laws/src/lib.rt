@@ -4,7 +4,7 @@
 //! lists.
 //!
 //! The laws are about the definitions of tpm_completion: each law is the contract of a function
-//! that does nothing. No crate uses this one.
+//! that does nothing. No crate uses this crate.
 
 ghost use Rattle.tpm_completion_laws.specs.Contexts.{IsLoadedOnce, RefusesAnotherStart};
 ghost use Rattle.tpm_completion_laws.specs.Listed.{CommandsAscend, CountsAddUp, CountsAll, ListsItsOwn};

@@ -1,5 +1,5 @@
--- How changes of a map affect the value found by each key: a value is changed or removed, only some
--- values are kept, or all values are changed.
+-- How a change of a map affects the value that each key finds. The change removes or replaces a
+-- value, keeps only some values, or changes all values.
 use Rattle.std.proofs.Common.{◌≡◌, ◌⊎◌, ℕ, Bool, true, false, cond, [], ◌∷◌, map, Option, Some, None, option_map, ◌==◌, refl, sym, ap, ◌∙◌, inl, inr}
 use Rattle.std.proofs.lemmas.Bool.{cases_Bool, cases_eq}
 use Rattle.tpm_containers.specs.IsSortedMap.{IsSortedMap}

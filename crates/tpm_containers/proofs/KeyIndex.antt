@@ -64,13 +64,13 @@ module _ {X : Type 0} where
 
   -- ---- changes at the index of a key
 
-  -- Index i is in the list, and the entry at this index is the first one that passes a test.
+  -- Index i is in the list, and the entry at this index is the first entry that passes a test.
   abbrev IsFirst : (ℕ × X → Bool) → Entries X → ℕ → ℕ × X → Type 0
   IsFirst test es i d =
       (i < length es) × (test (get_or es i d) ≡ true) × ((k : ℕ) → k < i → test (get_or es k d) ≡ false)
 
-  -- If the first entry that passes a test is not the first entry of a list, it is also the first
-  -- entry that passes the test in the rest of the list.
+  -- If the first entry that passes a test is not at the start of a list, it is the first such entry
+  -- in the rest of the list.
   first_rest : (test : ℕ × X → Bool) (e : ℕ × X) (es : Entries X) (i : ℕ) (d : ℕ × X) → IsFirst test (e ∷ es) (suc i) d → IsFirst test es i d
   first_rest test e es i d p =
       let inside = p.0 in

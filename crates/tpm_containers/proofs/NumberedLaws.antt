@@ -43,8 +43,8 @@ module _ {X : Type 0} (kind : X → ℕ) where
   kind_of-number_of : (k place : ℕ) → place < 2 ^ 24 → kind_of (number_of k place) ≡ k
   kind_of-number_of k place below = omega arith
 
-  -- If a number identifies another slot, or finds the same value in a slot's old and new content,
-  -- writing the slot does not change the value with that number.
+  -- Suppose that a number identifies another slot, or finds the same value in a slot's old and new
+  -- content. Then writing the slot does not change the value with that number.
   elsewhere : (places : Slots) (place other : ℕ) (cell : Option X) → (place_of other ≡ place → seen other cell ≡ seen other (at_place places place)) → place < length places → at_number kind (slice_set places place cell) other ≡ at_number kind places other
   unfolding at_number
   elsewhere places place other cell same inside =
@@ -93,8 +93,9 @@ module _ {X : Type 0} (kind : X → ℕ) where
   unfolding at_number
   found_at places number x is = seen_some number (at_place places (place_of number)) x is
 
-  -- Another number that identifies the same slot differs in its most significant byte, and
-  -- therefore finds no value.
+  -- If two different numbers identify the same slot, their most significant bytes differ.
+  -- Therefore, if one of the numbers finds a value, the other number finds none, even after a value
+  -- of the same kind replaces this value.
   hidden : (places : Slots) (number other : ℕ) (x y : X) → Found places number x → kind y ≡ kind x → other ≢ number → place_of other ≡ place_of number → seen other (Some y) ≡ None
   hidden places number other x y is same apart here =
       seen_apart other y (λ byte. apart (one_number other number here (byte ∙ same ∙ sym is.1)))

@@ -40,7 +40,7 @@ is_none_false : {X : Type 0} (cell : Option X) → is_none cell ≡ false → ce
 is_none_false None e same = absurd cc
 is_none_false (Some x) e same = absurd cc
 
--- each slot below the lowest free one is taken
+-- each slot below the lowest free slot is taken
 pub lowest_free-lowest : {X : Type 0} (places : List (Option X)) (place below : ℕ) → lowest_free places ≡ Some place → below < place → at_place places below ≢ None
 lowest_free-lowest places place below is lower =
     let p = position-Some is_none places place None is in

@@ -44,7 +44,8 @@ pub record IsSortedMap (X : Type 0) : Type 0 where
       → Ascends (changed_key entries key x)
   pub changed_length : (entries : Entries X) (key : ℕ) (x : X)
       → length (changed_key entries key x) ≡ length entries
-  -- keeping only some values leaves the kept ones unchanged, removes all others, and adds no value
+  -- keeping only some values leaves these values unchanged, removes all other values, and adds no
+  -- value
   pub kept_found : (stays : X → Bool) (entries : Entries X) (key : ℕ) (x : X)
       → at_key entries key ≡ Some x → stays x ≡ true
       → at_key (kept_entries stays entries) key ≡ Some x
@@ -58,8 +59,8 @@ pub record IsSortedMap (X : Type 0) : Type 0 where
       → Ascends (kept_entries stays entries)
   pub kept_few : (stays : X → Bool) (entries : Entries X)
       → length (kept_entries stays entries) ≤ length entries
-  -- `next`, the lowest key that is at least `key`, is in the map, and no key in between is in the
-  -- map
+  -- if `key_from` returns `next` for `key`, then `next` is in the map and is at least `key`. No
+  -- lower key that is at least `key` is in the map
   pub next_there : (entries : Entries X) (key next : ℕ) → key_from entries key ≡ Some next
       → is_some (at_key entries next) ≡ true
   pub next_from : (entries : Entries X) (key next : ℕ) → key_from entries key ≡ Some next

@@ -71,8 +71,8 @@ module _ {X : Type 0} where
     pub changed_others : (change : X → X) → ((x : X) → kind (change x) ≡ kind x)
         → (places : List (Option X)) (number other : ℕ) → other ≢ number
         → at_number kind (changed_at kind change places number) other ≡ at_number kind places other
-    -- the number of taken slots increases by one when a value is put into a free slot, decreases by
-    -- one when a value is removed, and stays the same when a value is changed
+    -- the number of taken slots increases by one when a value is put into a free slot. It decreases
+    -- by one when a value is removed, and stays the same when a value is changed
     pub put_taken : (places : List (Option X)) (place : ℕ) (x : X)
         → lowest_free places ≡ Some place
         → taken_count (slice_set places place (Some x)) ≡ taken_count places + 1

@@ -22,7 +22,8 @@ lowest_free places = position is_none places
 abbrev pub taken_count : {X : Type 0} → List (Option X) → ℕ
 taken_count places = count_by is_some places
 
--- A value was put into the lowest free slot, unless all slots were taken or an allocation failed.
+-- On success, the value was put into the lowest free slot. On failure, nothing changed: all slots
+-- were taken, or an allocation failed.
 abbrev pub Inserts : {X : Type 0} → ℕ → Bool → List (Option X) → X
     → Result ℕ SlotFault → List (Option X) → Type 0
 Inserts most can old x (Ok place) new =
@@ -31,13 +32,14 @@ Inserts most can old x (Err Full) new = (lowest_free old ≡ None) × (new ≡ o
 Inserts most can old x (Err NoMemory) new =
     (place : ℕ) × (lowest_free old ≡ Some place) × (can ≡ true) × (new ≡ old)
 
--- A value was put into a slot, unless an allocation failed.
+-- On success, the value was put into this slot. On failure, an allocation failed, and nothing
+-- changed.
 abbrev pub Puts : {X : Type 0} → Bool → List (Option X) → (place : ℕ) → X
     → Result (Unit {0}) SlotFault → List (Option X) → Type 0
 Puts can old place x (Ok done) new = new ≡ slice_set old place (Some x)
 Puts can old place x (Err Full) new = ⊥
 Puts can old place x (Err NoMemory) new = (can ≡ true) × (new ≡ old)
 
--- all slots that a list with this capacity represents. The slots past the list's end are free
+-- all `most` slots, of which the first are stored in cells. The slots without a cell are free
 abbrev pub padded_to : {X : Type 0} → ℕ → List (Option X) → List (Option X)
 padded_to most cells = cells ++ free (most - length cells)

@@ -13,7 +13,7 @@ module _ {X : Type 0} where
   at_key [] key = None
   at_key (e ∷ es) key = if e.0 == key then Some e.1 else at_key es key
 
-  -- the first key that is at least `key`, which is also the lowest one because the keys ascend
+  -- the first key that is at least `key`. Because the keys ascend, it is also the lowest such key
   abbrev pub key_from : Entries X → ℕ → Option ℕ
   key_from [] key = None
   key_from (e ∷ es) key = if nat_le key e.0 then Some e.0 else key_from es key
@@ -52,8 +52,8 @@ module _ {X : Type 0} where
   AreEach Is [] = Unit {0}
   AreEach Is (e ∷ es) = Is e.0 e.1 × AreEach Is es
 
-  -- A value was inserted under a free key. Otherwise nothing changed, and the fault is the first of
-  -- these that applies: the key is taken, the map is full, an allocation failed.
+  -- On success, the value was inserted under a free key. On failure, nothing changed, and the fault
+  -- is the first that applies: the key is taken, the map is full, or an allocation failed.
   abbrev pub PutsKey : ℕ → Bool → Entries X → ℕ → X → Result (Unit {0}) KeyFault → Entries X
       → Type 0
   PutsKey most can old key x (Ok done) new =

@@ -8,7 +8,7 @@ use arrayvec::ArrayVec;
 use std::alloc::Global;
 use std::marker::{Model, PhantomData};
 
-/// `N` slots, numbered from 0. Only the slots up to the highest one used since the last `clear`
+/// `N` slots, numbered from 0. Only the slots up to the highest slot used since the last `clear`
 /// have cells. Contracts represent the slots by a list of all `N`, each of which is free or
 /// contains a value.
 #[derive(Drop)]

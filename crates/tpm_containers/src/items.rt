@@ -1,12 +1,12 @@
 //! Defines two traits: an ordered sequence with a limited number of items, and a choice of the
-//! items to keep when others are removed.
+//! items to keep when the other items are removed.
 
 ghost use Rattle.std.specs.Prelude.{◌≡◌, ◌<◌, ◌≤◌, ℕ, [], Bool, IfNone, IfSome, List, OnErr, OnOk, filter, insert, length, remove, slice_index_or, slice_set, take, true};
 ghost use Rattle.std.specs.Borrow.{Array, Lends, LendsIf, sem};
 
 use std::alloc::{AllocError, Global};
 
-/// A choice among items, which decides which of them to keep when the others are removed.
+/// A choice of the items to keep when the other items are removed.
 pub trait Choice<T> {
     ghost stays: { T → Bool };
 

@@ -1,4 +1,4 @@
-//! Laws that show that entries with ascending keys form a map.
+//! Entries with ascending keys form a map.
 
 ghost use Rattle.std.specs.Prelude.{◌≡◌, ◌⊎◌, ℕ, Bool, None, Some, map, option_map};
 ghost use Rattle.tpm_containers.specs.IsSortedMap.{IsSortedMap};

@@ -1,5 +1,5 @@
 //! The trait of slots: a fixed number of places, each of which is free or contains a value. A new
-//! value is put into the lowest free slot, or into one that the caller chooses.
+//! value is put into the lowest free slot, or into a slot that the caller chooses.
 
 ghost use Rattle.std.specs.Prelude.{◌≡◌, ◌<◌, ℕ, Bool, IfSome, List, None, Option, Some, length, option_copied, slice_set};
 ghost use Rattle.std.specs.Borrow.{LendsIf, sem};

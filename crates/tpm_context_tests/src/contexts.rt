@@ -1,5 +1,5 @@
-//! Contexts of two HMAC keys of the owner hierarchy, of which one has stClear set. Python's
-//! `hashlib`, `hmac` and `cryptography` computed them.
+//! Tests of the contexts of two HMAC keys of the owner hierarchy; one of the keys has stClear set.
+//! Python's `hashlib`, `hmac` and `cryptography` computed the contexts.
 
 use std::process::Abort;
 use tpm_bytes::{Cursor, Sink};

@@ -1,18 +1,21 @@
 -- The effect of an event with the completing layer, on two devices that differ only in secret data.
 use Rattle.std.proofs.Common.{ap, refl, subst, sym, ◌∙◌}
-use Rattle.std.specs.Prelude.{Bool, Err, List, None, Ok, Option, Result, Some, [], false, option_map, true, ℕ, ◌&&◌, ◌==◌, ◌∷◌, ◌≡◌}
-use Rattle.tpm_completion.specs.Completed.{behind, completed, completed_with, done_behind, loaded_behind, passed}
+use Rattle.std.specs.Prelude.{Bool, Err, List, None, Ok, Option, Result, Some, [], false, option_map, true, ℕ, ◌&&◌, ◌==◌, ◌||◌, ◌∷◌, ◌≡◌}
+use Rattle.tpm_completion.specs.Completed.{behind, completed, completed_with, done_behind, loaded_behind, passed, sending_behind}
 use Rattle.tpm_completion.specs.Completion.{forgotten}
-use Rattle.tpm_completion.specs.Execution.{Seen, answered, asked_behind, opened_behind, reply_behind}
+use Rattle.tpm_completion.specs.Execution.{Seen, answered, asked_behind, opened_behind, reply_behind, sent_behind, sent_effect, sent_event}
 use Rattle.tpm_completion.specs.Loading.{context_asked, object_opened, placed_reply}
 use Rattle.tpm_completion.specs.Properties.{values_set}
 use Rattle.tpm_completion.specs.Reply.{reply}
 use Rattle.tpm_completion.specs.Saving.{Reply}
+use Rattle.tpm_completion.specs.Sending.{sent_for, sent_reply}
 use Rattle.tpm_completion.specs.declared.completion.Completion.{Completion}
+use Rattle.tpm_completion.specs.declared.sending.Sent.{Sent}
 use Rattle.tpm_context.specs.declared.fault.ContextFault.{ContextFault}
 use Rattle.tpm_edge_secrecy.proofs.Contexts.{layer_loads_alike}
 use Rattle.tpm_edge_secrecy.proofs.Layer.{forgotten_same, layer_answers_alike, layer_saves_alike}
-use Rattle.tpm_edge_secrecy.specs.Layer.{CompletedRunTellsNothing, CompletedTellsNothing, Completions, CompletionsAlike, CompletesAlike, NoneReadsWith, RepliesAlike, SetAlike, answers_with, is_saving, saves_secret}
+use Rattle.tpm_edge_secrecy.proofs.Sequences.{layer_sends_alike}
+use Rattle.tpm_edge_secrecy.specs.Layer.{CompletedRunTellsNothing, CompletedTellsNothing, Completions, CompletionsAlike, CompletesAlike, NoneReadsWith, RepliesAlike, SetAlike, answers_with, is_reading_with, is_saving, layer_reads, reads_behind, saves_secret, sent_reads, starts_secret}
 use Rattle.tpm_object.specs.declared.object.Object.{Object}
 use Rattle.tpm_record.specs.Objects.{next_handle, object_handle}
 use Rattle.tpm_record.specs.Record.{Record}
@@ -28,6 +31,14 @@ use Rattle.tpm_types_object.specs.declared.public.Public.{Public}
 unless_same : (saved : Bool) (a b : List ℕ) → (saved ≡ false → a ≡ b) → unless saved a ≡ unless saved b
 unless_same true a b same = refl
 unless_same false a b same = same refl
+
+or_left : (a b : Bool) → a || b ≡ false → a ≡ false
+or_left false b e = refl
+or_left true b e = absurd cc
+
+or_right : (a b : Bool) → a || b ≡ false → b ≡ false
+or_right false b e = e
+or_right true b e = absurd cc
 
 module _ (indices : ℕ → Bool) (objects : Public → Bool) where
   abbrev s : Secrecy
@@ -118,18 +129,54 @@ module _ (indices : ℕ → Bool) (objects : Public → Bool) where
       (layer_loads_alike s x.step.after y.step.after x.layer buffer x.step.response [] alike.after).0
       ∙ ap (context_asked y.step.after buffer) (alike.response refl)
 
+  -- ---- the layer sends a command to the device
+
+  sent_behind_alike : (x y : Seen) → CompletesAlike s false x y → (buffer : List ℕ) → starts_secret s x.step.after x.layer buffer x.step.response ≡ false → sent_behind x buffer ≡ sent_behind y buffer
+  sent_behind_alike x y alike buffer free =
+      layer_sends_alike s x.step.after y.step.after x.layer buffer x.step.response alike.after free
+      ∙ ap (λ (c : Completion). sent_for y.step.after c buffer x.step.response) alike.layer
+      ∙ ap (sent_for y.step.after y.layer buffer) (alike.response refl)
+
+  second_alike : (x y : Seen) → CompletesAlike s false x y → (event : PlainEvent) → is_reading s x.step.after event ≡ false → CompletesAlike s false (passed x.layer x.step.after event) (passed y.layer y.step.after event)
+  second_alike x y alike event free =
+      subst (λ (c : Completion). CompletesAlike s false (passed x.layer x.step.after event) (passed c y.step.after event)) alike.layer
+      (passed_alike x.layer x.step.after y.step.after alike.after event event refl free false)
+
+  effect_alike : (saved : Bool) (x y z w : Seen) → CompletesAlike s false x y → CompletesAlike s false z w → (sent : Sent) → CompletesAlike s saved (sent_effect x z sent) (sent_effect y w sent)
+  effect_alike saved x y z w first second sent =
+      let same : sent_reply z.layer (z.step.row.check == 0) sent.work z.step.response ≡ sent_reply w.layer (w.step.row.check == 0) sent.work w.step.response =
+      ap (λ (c : Completion). sent_reply c (z.step.row.check == 0) sent.work z.step.response) second.layer
+      ∙ ap (λ (row : Row). sent_reply w.layer (row.check == 0) sent.work z.step.response) second.row
+      ∙ ap (sent_reply w.layer (w.step.row.check == 0) sent.work) (second.response refl) in
+      record {
+        response = λ free. ap (λ (r : Reply). r.response) same;
+        row = first.row;
+        after = second.after;
+        layer = ap (λ (r : Reply). r.after) same;
+      }
+
+  sending_alike : (x y : Seen) → CompletesAlike s false x y → (buffer : List ℕ) (locality : ℕ) (sent : Option Sent) → sent_reads s x locality sent ≡ false → CompletesAlike s (is_saved x buffer) (sending_behind x buffer locality sent) (sending_behind y buffer locality sent)
+  sending_alike x y alike buffer locality (Some sent) free =
+      effect_alike (is_saved x buffer) x y (passed x.layer x.step.after (sent_event sent locality)) (passed y.layer y.step.after (sent_event sent locality)) alike
+      (second_alike x y alike (sent_event sent locality) free) sent
+  sending_alike x y alike buffer locality None free = answered_alike (is_saved x buffer) x y (reply_behind x buffer) (reply_behind y buffer) alike (reply_alike x y alike buffer)
+
   -- ---- what comes after a command
 
-  done_alike : (x y : Seen) → CompletesAlike s false x y → (buffer : List ℕ) (asked : Option (List ℕ)) → CompletesAlike s (is_saved x buffer) (done_behind x buffer asked) (done_behind y buffer asked)
-  done_alike x y alike buffer (Some context) =
+  done_alike : (x y : Seen) → CompletesAlike s false x y → (buffer : List ℕ) (locality : ℕ) (asked : Option (List ℕ)) → reads_behind s x buffer locality ≡ false → CompletesAlike s (is_saved x buffer) (done_behind x buffer locality asked) (done_behind y buffer locality asked)
+  done_alike x y alike buffer locality (Some context) free =
       subst (λ (opened : Result Object ContextFault). CompletesAlike s (is_saved x buffer) (loaded_behind x (opened_behind x context)) (loaded_behind y opened)) (opened_alike x y alike context)
       (loaded_alike (is_saved x buffer) x y alike (opened_behind x context))
-  done_alike x y alike buffer None = answered_alike (is_saved x buffer) x y (reply_behind x buffer) (reply_behind y buffer) alike (reply_alike x y alike buffer)
+  done_alike x y alike buffer locality None free =
+      let starts : Bool = starts_secret s x.step.after x.layer buffer x.step.response in
+      subst (λ (sent : Option Sent). CompletesAlike s (is_saved x buffer) (sending_behind x buffer locality (sent_behind x buffer)) (sending_behind y buffer locality sent))
+      (sent_behind_alike x y alike buffer (or_left starts (sent_reads s x locality (sent_behind x buffer)) free))
+      (sending_alike x y alike buffer locality (sent_behind x buffer) (or_right starts (sent_reads s x locality (sent_behind x buffer)) free))
 
-  behind_alike : (x y : Seen) → CompletesAlike s false x y → (buffer : List ℕ) → CompletesAlike s (is_saved x buffer) (behind x buffer) (behind y buffer)
-  behind_alike x y alike buffer =
-      subst (λ (asked : Option (List ℕ)). CompletesAlike s (is_saved x buffer) (done_behind x buffer (asked_behind x buffer)) (done_behind y buffer asked)) (asked_alike x y alike buffer)
-      (done_alike x y alike buffer (asked_behind x buffer))
+  behind_alike : (x y : Seen) → CompletesAlike s false x y → (buffer : List ℕ) (locality : ℕ) → reads_behind s x buffer locality ≡ false → CompletesAlike s (is_saved x buffer) (behind x buffer locality) (behind y buffer locality)
+  behind_alike x y alike buffer locality free =
+      subst (λ (asked : Option (List ℕ)). CompletesAlike s (is_saved x buffer) (done_behind x buffer locality (asked_behind x buffer)) (done_behind y buffer locality asked)) (asked_alike x y alike buffer)
+      (done_alike x y alike buffer locality (asked_behind x buffer) free)
 
   -- ---- an event
 
@@ -139,21 +186,22 @@ module _ (indices : ℕ → Bool) (objects : Public → Bool) where
   same_command buffer locality elapsed random Cycled same = absurd cc
   same_command buffer locality elapsed random (Placed object) same = absurd cc
 
-  with_alike : (c : Completion) (r t : Record) → DifferInSecrets s r t → (event also : PlainEvent) → EventsAlike s event also → is_reading s r event ≡ false → CompletesAlike s (is_saving s c r event) (completed_with c r event) (completed_with c t also)
-  with_alike c r t differ (Given buffer locality elapsed random) also same free =
+  with_alike : (c : Completion) (r t : Record) → DifferInSecrets s r t → (event also : PlainEvent) → EventsAlike s event also → is_reading s r event ≡ false → layer_reads s c r event ≡ false → CompletesAlike s (is_saving s c r event) (completed_with c r event) (completed_with c t also)
+  with_alike c r t differ (Given buffer locality elapsed random) also same free none =
       subst (λ (e : PlainEvent). CompletesAlike s (is_saving s c r (Given buffer locality elapsed random)) (completed_with c r (Given buffer locality elapsed random)) (completed_with c t e)) (same_command buffer locality elapsed random also same)
       (behind_alike (passed c r (Given buffer locality elapsed random)) (passed c t (Given buffer locality elapsed random))
-      (passed_alike c r t differ (Given buffer locality elapsed random) (Given buffer locality elapsed random) refl free false) buffer)
-  with_alike c r t differ Cycled (Given buffer locality elapsed random) same free = absurd cc
-  with_alike c r t differ Cycled Cycled same free = passed_alike c r t differ Cycled Cycled same free false
-  with_alike c r t differ Cycled (Placed object) same free = absurd cc
-  with_alike c r t differ (Placed object) (Given buffer locality elapsed random) same free = absurd cc
-  with_alike c r t differ (Placed object) Cycled same free = absurd cc
-  with_alike c r t differ (Placed object) (Placed also) same free = passed_alike c r t differ (Placed object) (Placed also) same free false
+      (passed_alike c r t differ (Given buffer locality elapsed random) (Given buffer locality elapsed random) refl free false) buffer locality none)
+  with_alike c r t differ Cycled (Given buffer locality elapsed random) same free none = absurd cc
+  with_alike c r t differ Cycled Cycled same free none = passed_alike c r t differ Cycled Cycled same free false
+  with_alike c r t differ Cycled (Placed object) same free none = absurd cc
+  with_alike c r t differ (Placed object) (Given buffer locality elapsed random) same free none = absurd cc
+  with_alike c r t differ (Placed object) Cycled same free none = absurd cc
+  with_alike c r t differ (Placed object) (Placed also) same free none = passed_alike c r t differ (Placed object) (Placed also) same free false
 
-  pub completed_alike : (completes : Bool) (c : Completion) (r t : Record) → DifferInSecrets s r t → (event also : PlainEvent) → EventsAlike s event also → is_reading s r event ≡ false → CompletesAlike s (completes && is_saving s c r event) (completed completes c r event) (completed completes c t also)
-  completed_alike false c r t differ event also same free = passed_alike c r t differ event also same free false
-  completed_alike true c r t differ event also same free = with_alike c r t differ event also same free
+  pub completed_alike : (completes : Bool) (c : Completion) (r t : Record) → DifferInSecrets s r t → (event also : PlainEvent) → EventsAlike s event also → is_reading_with s completes c r event ≡ false → CompletesAlike s (completes && is_saving s c r event) (completed completes c r event) (completed completes c t also)
+  completed_alike false c r t differ event also same free = passed_alike c r t differ event also same (or_left (is_reading s r event) false free) false
+  completed_alike true c r t differ event also same free =
+      with_alike c r t differ event also same (or_left (is_reading s r event) (layer_reads s c r event) free) (or_right (is_reading s r event) (layer_reads s c r event) free)
 
   saving_both : (c : Completion) (r t : Record) → DifferInSecrets s r t → (event also : PlainEvent) → EventsAlike s event also → is_reading s r event ≡ false → is_saving s c r event ≡ is_saving s c t also
   saving_both c r t differ (Given buffer locality elapsed random) also same free =
@@ -169,12 +217,12 @@ module _ (indices : ℕ → Bool) (objects : Public → Bool) where
 
   -- ---- events
 
-  shown_alike : (completes : Bool) (c : Completion) (one other : Record) → DifferInSecrets s one other → (event also : PlainEvent) → EventsAlike s event also → is_reading s one event ≡ false
+  shown_alike : (completes : Bool) (c : Completion) (one other : Record) → DifferInSecrets s one other → (event also : PlainEvent) → EventsAlike s event also → is_reading_with s completes c one event ≡ false
       → unless (completes && is_saving s c one event) (completed completes c one event).step.response ≡ unless (completes && is_saving s c other also) (completed completes c other also).step.response
   shown_alike completes c one other differ event also same free =
       unless_same (completes && is_saving s c one event) (completed completes c one event).step.response (completed completes c other also).step.response
       (completed_alike completes c one other differ event also same free).response
-      ∙ ap (λ (saved : Bool). unless (completes && saved) (completed completes c other also).step.response) (saving_both c one other differ event also same free)
+      ∙ ap (λ (saved : Bool). unless (completes && saved) (completed completes c other also).step.response) (saving_both c one other differ event also same (or_left (is_reading s one event) (completes && layer_reads s c one event) free))
 
   run_alike : (one other : Record) (c d : Completion) → c ≡ d → (events others : Completions) → DifferInSecrets s one other → CompletionsAlike s events others → NoneReadsWith s c one events → answers_with s c one events ≡ answers_with s d other others
   run_alike one other c d same [] [] differ alike none = refl

@@ -15,14 +15,15 @@ use Rattle.tpm_bytes.specs.declared.cursor.Short.{Short}
 use Rattle.tpm_completion.specs.Answer.{is_refusal, success}
 use Rattle.tpm_completion.specs.Capability.{asked_at, capability_told, command_elements, handles_told, told_of}
 use Rattle.tpm_completion.specs.Command.{Command, plain_command}
-use Rattle.tpm_completion.specs.Completion.{forgotten, session_context, session_kept}
+use Rattle.tpm_completion.specs.Completion.{forgotten, sequences_kept, session_context, session_kept}
 use Rattle.tpm_completion.specs.Context.{names_session, token_at}
 use Rattle.tpm_completion.specs.Handles.{is_in_state, session_shown, sessions_shown}
 use Rattle.tpm_completion.specs.Hashing.{hash_row, hash_text, hierarchy_at, ticket_hierarchy, ticket_text}
 use Rattle.tpm_completion.specs.Listing.{element, listing}
 use Rattle.tpm_completion.specs.Properties.{active_count, attribute_if, count_elements, counter_count, identity_elements, index_count, is_counter, limit_elements, lockout_elements, object_count, permanent_attributes, property_elements, session_count, startup_attributes, values_set}
-use Rattle.tpm_completion.specs.Reply.{capability_asked, command_reply, listed, load_asked, probed, replied, reply, reply_by, row_served, save_asked, served, stands}
+use Rattle.tpm_completion.specs.Reply.{capability_asked, command_reply, listed, load_asked, or_reply, plain_reply, probed, replied, reply, reply_by, row_served, save_asked, served, stands}
 use Rattle.tpm_completion.specs.Saving.{Reply, binding_of, handle_given, loaded, loaded_by, next_number, object_numbered, object_saved, place_named, refused, saved, session_loaded, session_numbered, session_saved, with_session}
+use Rattle.tpm_completion.specs.SequenceReply.{sequence_reply}
 use Rattle.tpm_completion.specs.Testing.{incremental_row, test_parms_row, test_result_row}
 use Rattle.tpm_completion.specs.declared.capability.Asked.{Asked}
 use Rattle.tpm_completion.specs.declared.completion.Completion.{Completion}
@@ -30,6 +31,7 @@ use Rattle.tpm_completion.specs.declared.context.Token.{Token}
 use Rattle.tpm_containers.specs.Slots.{at_place}
 use Rattle.tpm_context.specs.Context.{context_text}
 use Rattle.tpm_edge_secrecy.proofs.Contexts.{context_alike, same_bind, same_object, secrets_alike}
+use Rattle.tpm_edge_secrecy.proofs.Sequences.{sequence_alike, ticketed_alike}
 use Rattle.tpm_edge_secrecy.specs.Layer.{LayerAnswersAlike, LayerForgetsAlike, LayerSavesAlike, RepliesAlike, SetAlike, command_saves, handle_saves, has_secret, saves_object, saves_secret}
 use Rattle.tpm_lockout.specs.Tries.{is_locked}
 use Rattle.tpm_mac.specs.Digest.{hash_of}
@@ -83,7 +85,7 @@ module _ (s : Secrecy) (r : Record) where
   pub forgotten_same : (c : Completion) → forgotten (without_secrets s r) c ≡ forgotten r c
   unfolding forgotten
   forgotten_same c =
-      ap (λ (sessions : List ℕ). record c { sessions = sessions })
+      ap (λ (sessions : List ℕ). record c { sessions = sessions; sequences = sequences_kept r c })
       (map_same (session_kept (without_secrets s r) c) (session_kept r c) (session_kept_same c) (numbers_below session_limit))
 
   -- ---- what is saved
@@ -152,6 +154,14 @@ same_reply saved a b same = record {
 then_alike : (b saved : Bool) (x y z w : Reply) → RepliesAlike saved x y → z ≡ w → RepliesAlike (b && saved) (if b then x else z) (if b then y else w)
 then_alike true saved x y z w chosen left = chosen
 then_alike false saved x y z w chosen left = same_reply false z w left
+
+-- if the answers on sequence objects are equal, and the other answers are alike, so are the replies
+or_alike : (saved : Bool) (x y : Option Reply) (a b : Reply) → x ≡ y → RepliesAlike saved a b → RepliesAlike saved (or_reply x a) (or_reply y b)
+or_alike saved x y a b same alike = subst (λ (z : Option Reply). RepliesAlike saved (or_reply x a) (or_reply z b)) same (by x)
+  where
+    by : (z : Option Reply) → RepliesAlike saved (or_reply z a) (or_reply z b)
+    by (Some reply) = same_reply saved reply reply refl
+    by None = alike
 
 unless_alike : (b saved : Bool) (x y z : Reply) → RepliesAlike saved x y → RepliesAlike (b && saved) (if not b then z else x) (if not b then z else y)
 unless_alike true saved x y z chosen = chosen
@@ -274,7 +284,7 @@ module _ (s : Secrecy) (one other : Record) (differ : DifferInSecrets s one othe
   -- ---- lists
 
   handles_alike : (c : Completion) (asked : Asked) (kind : ℕ) → handles_told one c asked kind ≡ handles_told other c asked kind
-  handles_alike c asked kind = rw (sessions_alike c false, sessions_alike c true) refl
+  handles_alike c asked kind = rw (sessions_alike c false, sessions_alike c true, objects_alike) refl
 
   told_alike : (c : Completion) (asked : Asked) → told_of one c asked ≡ told_of other c asked
   told_alike c asked =
@@ -289,13 +299,13 @@ module _ (s : Secrecy) (one other : Record) (differ : DifferInSecrets s one othe
   -- ---- the answer
 
   hash_alike : (parameters : List ℕ) → hash_row one.fixed.hierarchies parameters ≡ hash_row other.fixed.hierarchies parameters
-  unfolding hash_row hash_text
+  unfolding hash_row
   hash_alike parameters =
       same_bind (parameter 1 (buffer_at data_limit parameters)) _ _ (λ message.
       same_bind (parameter 2 (hash_at message.1)) _ _ (λ hash.
       same_bind (parameter 3 (hierarchy_at hash.1)) _ _ (λ asked.
       same_bind (all_read asked.1) _ _ (λ ended.
-      ap (λ (x : Secrets). let z : Result (List ℕ) Refused = Ok (sized_text (hash_of hash.0 message.0) ++ ticket_text (ticket_hierarchy asked.0 message.0) x.proof (hash_of hash.0 message.0)) in z) (secrets_alike s one other differ (ticket_hierarchy asked.0 message.0))))))
+      ap (λ (x : List ℕ). let z : Result (List ℕ) Refused = Ok x in z) (ticketed_alike s one other differ (ticket_hierarchy asked.0 message.0) (hash_of hash.0 message.0))))))
 
   row_alike : (c : Completion) (command : Command) (response : List ℕ) → row_served one c command response ≡ row_served other c command response
   row_alike c command response =
@@ -326,13 +336,19 @@ module _ (s : Secrecy) (one other : Record) (differ : DifferInSecrets s one othe
       (then_alike (is_refusal 0x143 response) (command_saves s one c (Ok command)) _ _ _ _ (served_alike c command response)
       (ap (λ (x : Reply). if command.code == 0x17a then x else stands c response) (asked_alike c response was_told (asked_at command.parameters)))))
 
-  pub reply_alike : (c : Completion) (buffer response : List ℕ) (was_told : Bool) → RepliesAlike (saves_secret s one c buffer response) (reply one c buffer response was_told) (reply other c buffer response was_told)
-  unfolding reply
-  reply_alike c buffer response was_told = by (plain_command buffer)
+  plain_alike : (c : Completion) (buffer response : List ℕ) (was_told : Bool) → RepliesAlike (saves_secret s one c buffer response) (plain_reply one c buffer response was_told) (plain_reply other c buffer response was_told)
+  unfolding plain_reply
+  plain_alike c buffer response was_told = by (plain_command buffer)
     where
       by : (x : Result Command Short) → RepliesAlike (one.fixed.started && (is_refusal 0x143 response && command_saves s one c x)) (reply_by one c buffer response was_told x) (reply_by other c buffer response was_told x)
       by (Ok command) = command_alike c command response was_told
       by (Err e) = same_reply (one.fixed.started && (is_refusal 0x143 response && false)) (probed c buffer response) (probed c buffer response) refl
+
+  pub reply_alike : (c : Completion) (buffer response : List ℕ) (was_told : Bool) → RepliesAlike (saves_secret s one c buffer response) (reply one c buffer response was_told) (reply other c buffer response was_told)
+  unfolding reply
+  reply_alike c buffer response was_told =
+      or_alike (saves_secret s one c buffer response) (sequence_reply one c buffer response) (sequence_reply other c buffer response) _ _
+      (sequence_alike s one other differ c buffer response) (plain_alike c buffer response was_told)
 
 pub layer_answers_alike : LayerAnswersAlike
 layer_answers_alike s one other c buffer response was_told differ alike = reply_alike s one other differ alike c buffer response was_told

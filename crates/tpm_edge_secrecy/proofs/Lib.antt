@@ -2,3 +2,4 @@ pub mod Contexts
 pub mod Layer
 pub mod Completed
 pub mod Opened
+pub mod Sequences

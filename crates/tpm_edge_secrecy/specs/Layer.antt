@@ -4,19 +4,21 @@
 -- (TPMA_PERMANENT).
 use Rattle.std.specs.Int.{w32}
 use Rattle.std.specs.Option.{option_map_or}
-use Rattle.std.specs.Prelude.{Bool, Err, List, Ok, Result, [], false, is_some, length, ℕ, ◌&&◌, ◌==◌, ◌||◌, ◌∷◌, ◌≡◌}
+use Rattle.std.specs.Prelude.{Bool, Err, List, None, Ok, Option, Result, Some, [], false, is_some, length, ℕ, ◌&&◌, ◌==◌, ◌||◌, ◌∷◌, ◌≡◌}
 use Rattle.tpm_bytes.specs.Reading.{number_at}
 use Rattle.tpm_bytes.specs.declared.cursor.Short.{Short}
 use Rattle.tpm_completion.specs.Answer.{is_refusal}
-use Rattle.tpm_completion.specs.Command.{Command, plain_command}
+use Rattle.tpm_completion.specs.Command.{Command, authorized_command, plain_command}
 use Rattle.tpm_completion.specs.Completed.{completed, passed}
 use Rattle.tpm_completion.specs.Completion.{forgotten}
-use Rattle.tpm_completion.specs.Execution.{Seen}
+use Rattle.tpm_completion.specs.Execution.{Seen, sent_behind, sent_event}
 use Rattle.tpm_completion.specs.Loading.{context_asked, object_opened}
 use Rattle.tpm_completion.specs.Properties.{values_set}
 use Rattle.tpm_completion.specs.Reply.{reply}
 use Rattle.tpm_completion.specs.Saving.{Reply, next_number}
+use Rattle.tpm_completion.specs.Sending.{HmacStart, hmac_start_in, sent_for}
 use Rattle.tpm_completion.specs.declared.completion.Completion.{Completion}
+use Rattle.tpm_completion.specs.declared.sending.Sent.{Sent}
 use Rattle.tpm_object.specs.declared.object.Object.{Object}
 use Rattle.tpm_record.specs.Objects.{object_at}
 use Rattle.tpm_record.specs.Record.{Record}
@@ -24,8 +26,10 @@ use Rattle.tpm_row_secrecy.specs.Secrecy.{DifferInSecrets, Secrecy, has_secret_d
 use Rattle.tpm_secrecy.specs.Tells.{EventsAlike, is_reading}
 use Rattle.tpm_step.specs.Events.{Cycled, Given, Placed, PlainEvent}
 use Rattle.tpm_step.specs.declared.event.Row.{Row}
+use Rattle.tpm_row_secrecy.specs.Reads.{names_secret_object}
 use Rattle.tpm_types.specs.Handle.{is_transient, numbered}
 use Rattle.tpm_types.specs.declared.handle.Handle.{Handle}
+use Rattle.tpm_types.specs.declared.refused.Refused.{Refused}
 use Rattle.tpm_types_object.specs.declared.public.Public.{Public}
 
 -- ---- which contexts hold secrets
@@ -59,6 +63,49 @@ abbrev pub saves_secret : Secrecy → Record → Completion → (buffer response
 saves_secret s r c buffer response =
     r.fixed.started
     && (is_refusal 0x143 response && command_saves s r c (plain_command buffer))
+
+-- ---- what the layer reads of a device's secrets
+
+-- whether TPM2_HMAC_Start starts a sequence with a secret key, even if the device refuses the key
+abbrev pub start_reads : Secrecy → Record → Result HmacStart Refused → Bool
+start_reads s r (Ok start) = names_secret_object s r start.handle
+start_reads s r (Err e) = false
+
+-- whether a command with sessions is TPM2_HMAC_Start (15B) with a secret key
+abbrev pub command_starts : Secrecy → Record → Completion → Result Command Short → Bool
+command_starts s r c (Ok command) =
+    (command.code == 0x15b) && start_reads s r (hmac_start_in c command.parameters)
+command_starts s r c (Err e) = false
+
+-- whether a buffer that the device refused with COMMAND_CODE (143) starts a sequence with a secret
+-- key
+abbrev pub starts_secret : Secrecy → Record → Completion → (buffer response : List ℕ) → Bool
+starts_secret s r c buffer response =
+    r.fixed.started
+    && (is_refusal 0x143 response && command_starts s r c (authorized_command buffer))
+
+-- whether the command that the layer sends to the device reads secret data
+abbrev pub sent_reads : Secrecy → (first : Seen) → (locality : ℕ) → Option Sent → Bool
+sent_reads s first locality (Some sent) =
+    is_reading s first.step.after (sent_event sent locality)
+sent_reads s first locality None = false
+
+-- whether the layer reads secret data after the device executed a command
+abbrev pub reads_behind : Secrecy → (first : Seen) → (buffer : List ℕ) → (locality : ℕ) → Bool
+reads_behind s first buffer locality =
+    starts_secret s first.step.after first.layer buffer first.step.response
+    || sent_reads s first locality (sent_behind first buffer)
+
+abbrev pub layer_reads : Secrecy → Completion → Record → PlainEvent → Bool
+layer_reads s c r (Given buffer locality elapsed random) =
+    reads_behind s (passed c r (Given buffer locality elapsed random)) buffer locality
+layer_reads s c r Cycled = false
+layer_reads s c r (Placed object) = false
+
+-- whether the device or, if it completes the event, the layer reads secret data
+abbrev pub is_reading_with : Secrecy → (completes : Bool) → Completion → Record → PlainEvent → Bool
+is_reading_with s completes c r event =
+    is_reading s r event || (completes && layer_reads s c r event)
 
 -- ---- what the layer reads of a device
 
@@ -103,6 +150,14 @@ LayerLoadsAlike =
     → (context_asked one buffer response ≡ context_asked other buffer response)
     × (object_opened one c context ≡ object_opened other c context)
 
+-- If two devices differ only in secrets, the layer sends the same command to both, unless it starts
+-- a sequence with a secret key.
+abbrev pub LayerSendsAlike : Type 0
+LayerSendsAlike =
+    (s : Secrecy) (one other : Record) (c : Completion) (buffer response : List ℕ)
+    → DifferInSecrets s one other → starts_secret s one c buffer response ≡ false
+    → sent_for one c buffer response ≡ sent_for other c buffer response
+
 -- After an event, the layer forgets the same contexts for a device and for the device without its
 -- secrets.
 abbrev pub LayerForgetsAlike : Type 0
@@ -132,14 +187,15 @@ pub record CompletesAlike (s : Secrecy) (saved : Bool) (x y : Seen) : Type 0 whe
 -- If two devices differ only in secret data, and no allocation fails, an event that does not read
 -- these data reveals nothing about them, with or without the layer, even if it loads an object from
 -- its context. The only exception is the response to TPM2_ContextSave of an object that has secret
--- data. If the event places an object, the other device may place an object that differs in secret
--- data.
+-- data. A TPM2_HMAC_Start with a secret key counts as reading. If the event places an object, the
+-- other device may place an object that differs in secret data.
 abbrev pub CompletedTellsNothing : Type 0
 CompletedTellsNothing =
     (indices : ℕ → Bool) (objects : Public → Bool) (one other : Record) (completes : Bool)
     (c : Completion) (event also : PlainEvent)
     → let s : Secrecy = of_data indices objects in
-    DifferInSecrets s one other → EventsAlike s event also → is_reading s one event ≡ false
+    DifferInSecrets s one other → EventsAlike s event also
+    → is_reading_with s completes c one event ≡ false
     → CompletesAlike s (completes && is_saving s c one event)
     (completed completes c one event) (completed completes c other also)
 
@@ -163,7 +219,7 @@ abbrev pub NoneReadsWith : Secrecy → Completion → Record → Completions →
 NoneReadsWith s c r [] = Unit {0}
 NoneReadsWith s c r (e ∷ es) =
     let x : Seen = completed e.0 c r e.1 in
-    (is_reading s r e.1 ≡ false) × NoneReadsWith s x.layer x.step.after es
+    (is_reading_with s e.0 c r e.1 ≡ false) × NoneReadsWith s x.layer x.step.after es
 
 -- Two lists contain the same events, except that the objects that they place may differ in secrets.
 -- The layer completes the same events of both.

@@ -10,7 +10,7 @@
 ghost use Rattle.tpm_edge_secrecy.specs.Layer.{CompletedRunTellsNothing};
 ghost use Rattle.tpm_edge_secrecy.specs.Layer.{CompletedTellsNothing};
 ghost use Rattle.tpm_edge_secrecy.specs.Layer.{LayerAnswersAlike, LayerForgetsAlike};
-ghost use Rattle.tpm_edge_secrecy.specs.Layer.{LayerLoadsAlike, LayerSavesAlike};
+ghost use Rattle.tpm_edge_secrecy.specs.Layer.{LayerLoadsAlike, LayerSavesAlike, LayerSendsAlike};
 ghost use Rattle.tpm_edge_secrecy.specs.Opened.{OpenedDataNeedPolicy};
 
 /// The completing layer reveals which of ownerAuth, endorsementAuth and lockoutAuth are empty, and
@@ -18,15 +18,17 @@ ghost use Rattle.tpm_edge_secrecy.specs.Opened.{OpenedDataNeedPolicy};
 /// secret of the device. If two devices differ only in secrets, such as authorization values, and
 /// agree on which of these three authorization values are empty, the layer has the same answers and
 /// the same state on both; only contexts of objects that have secrets may differ. A loaded context
-/// contains the same object on both devices. Therefore, if two devices differ only in secret data,
-/// an event that does not read these data reveals nothing about them with the layer either, except
-/// the context of an object that has secrets. The same holds for a list of events, even after such
-/// a context.
+/// contains the same object on both devices, and the layer sends the same commands to both, unless
+/// it starts a sequence with a secret key. Therefore, if two devices differ only in secret data, an
+/// event that does not read these data reveals nothing about them with the layer either, except the
+/// context of an object that has secrets. A TPM2_HMAC_Start with a secret key counts as reading. The
+/// same holds for a list of events, even after such a context.
 #[inline(always)]
 pub fn layer_laws()
     ensures answers { LayerAnswersAlike }
     ensures saves { LayerSavesAlike }
     ensures loads { LayerLoadsAlike }
+    ensures sends { LayerSendsAlike }
     ensures forgets { LayerForgetsAlike }
     ensures event { CompletedTellsNothing }
     ensures run { CompletedRunTellsNothing }

@@ -84,7 +84,7 @@ warnings = (0x901, codes "CONTEXT_GAP")
     ∷ []
 
 -- the names of the codes that can identify a handle, a parameter or a session (RC_FMT1); each code
--- is listed without the bits that identify one
+-- is listed with bits 6 and 8 to 11 clear
 unfoldable pub located : List (ℕ × List ℕ)
 located = (0x081, codes "ASYMMETRIC")
     ∷ (0x082, codes "ATTRIBUTES")
@@ -137,8 +137,8 @@ place_in code =
     else (if number / 8 == 1 then place.Session (number % 8) else place.Handle (number % 8)))
 
 -- the name of a response code of twelve bits, and the handle, parameter or session that the code
--- identifies. Bit 7 is set in the codes of RC_FMT1, which can identify one. None if the standard
--- does not define the code
+-- identifies. Bit 7 is set in the codes of RC_FMT1; only these codes can identify something. None
+-- if the standard does not define the code
 unfoldable pub told_by : ℕ → Option (List ℕ × Place)
 told_by code =
     if code / 0x80 % 2 == 1

@@ -1,8 +1,8 @@
 #![tactic(auto)]
 
 //! Help for the author of a script: the form of a command in words ([`form`]), an example of each
-//! ([`example`]), what is expected at the fault of a line ([`wanted`]), and the meaning of a
-//! response code ([`response_code`]).
+//! command ([`example`]), what is expected at the fault of a line ([`wanted`]), and the meaning of
+//! a response code ([`response_code`]).
 //!
 //! The crate uses `tpm_commands` for the shapes of commands, and `tpm_text` for faults. Each call
 //! returns what `specs/` defines. No definition covers the examples; a test assembles each of them.

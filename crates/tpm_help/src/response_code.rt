@@ -118,7 +118,7 @@ fn warning_name(number: u32) -> Option<&'static str>
 }
 
 /// The name of a code that can identify a handle, a parameter or a session. The number is the code
-/// without the bits that identify one.
+/// with bits 6 and 8 to 11 clear.
 #[tactic(auto, unfolding(crate::specs::ResponseCode::located))]
 fn located_name(number: u32) -> Option<&'static str>
     ensures { option_map (λ name. name.now) result ≡ name_in located number }

@@ -26,14 +26,15 @@ impl Model for KeptText {
 }
 
 impl KeptText {
-    /// The empty encoding, which differs from that of every device.
+    /// The empty encoding, which differs from the encoding of every device.
     pub fn none() -> KeptText
         ensures { result ≡ [] }
     {
         KeptText { text: Text::new() }
     }
 
-    /// Replaces the stored encoding with that of this device, and returns whether the two differ.
+    /// Replaces the stored encoding with the encoding of this device, and returns whether the two
+    /// encodings differ.
     pub fn renew<K: Keep>(&mut self, machine: &Machine<K>) -> bool
         ensures text { self.new ≡ kept_text (state_of K.record_of machine.now) }
         ensures told { result ≡ not (bytes_eq self.old

@@ -20,8 +20,8 @@ one_more_read {A} {E} at front m n x text rest e is =
     ∙ ap (λ (r : Result (A × List ℕ) E). behind front (r >>= λ first. many_at at n first.1 >>= λ others. Ok (first.0 ∷ others.0, others.1))) (sym is)
     ∙ ap (λ k. behind front (many_at at k text)) (sym e)
 
--- the result of the whole loop: the values before a position, followed by those that remain to be
--- read
+-- the result of the whole loop: the values before a position, followed by the values that remain to
+-- be read
 pub values_left : (size place : ℕ) (values : List (List ℕ)) (text : List ℕ) → Result (List (List ℕ) × List ℕ) Malformed
 values_left size place values text = behind (take place values) (many_at (bytes_in size) (16 - place) text)
 

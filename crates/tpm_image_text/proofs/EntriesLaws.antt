@@ -14,11 +14,12 @@ use Rattle.tpm_image_text.specs.declared.fault.FillFault.{FillFault}
 use Rattle.tpm_image_text.specs.declared.fault.FillFault.TheVariants as unfilled
 use Rattle.tpm_image_text.specs.declared.fault.Malformed.{Malformed}
 
--- prepends an entry to the entries that were read; below, checks that their keys ascend from `low`
--- on
+-- prepends an entry to the entries that were read
 abbrev pub before : {X : Type 0} → ℕ × X → Entries X × List ℕ → Result (Entries X × List ℕ) Malformed
 before e o = Ok (e ∷ o.0, o.1)
 
+-- checks that the keys of the entries that were read ascend, and that the first key is at least
+-- `low`
 abbrev pub passed_from : {X : Type 0} → ℕ → Entries X × List ℕ → Result (Entries X × List ℕ) Malformed
 passed_from low o = refused_if (not (ascend_from low o.0)) malformed >>= λ passed. Ok o
 
@@ -54,11 +55,13 @@ module _ {X : Type 0} (at : List ℕ → Result ((ℕ × X) × List ℕ) Malform
           one_passes (nat_le low first.0.0) first.0 (many_at at count first.1) low refl
           ∙ ap (λ (r : Result (Entries X × List ℕ) Malformed). refused_if (not (nat_le low first.0.0)) malformed >>= λ in_order. r >>= before first.0) (are (first.0.0 + 1) first.1)
 
-  -- the result of the whole loop: the entries so far, followed by those that remain to be read
+  -- the result of the whole loop: the entries so far, followed by the entries that remain to be
+  -- read
   unfoldable pub entries_left : (count place low : ℕ) (so_far : Entries X) (text : List ℕ) → Result (Entries X × List ℕ) Malformed
   entries_left count place low so_far text = behind so_far (entries_from (count - place) low text)
 
-  -- before the first entry is read, the result of the whole loop is that of reading all entries
+  -- before the first entry is read, the result of the whole loop is the result of reading all
+  -- entries
   pub entries_begun : (count : ℕ) (so_far : Entries X) (text : List ℕ) → so_far ≡ [] → entries_left count 0 0 so_far text ≡ passing (ascend_from 0) (many_at at count) text
   unfolding entries_left
   entries_begun count so_far text none =

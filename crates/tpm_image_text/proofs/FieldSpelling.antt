@@ -32,7 +32,7 @@ in_body_spelled {A} {E} {text} {Is} {at} law = record {
   again = λ x rest is. ap (λ (r : Result (A × List ℕ) E). or_fault r malformed) (law.again x rest is);
 }
 
--- a decoder with the same results as an exact one is exact
+-- a decoder with the same results as an exact decoder is exact
 pub same_reading : {A E : Type 0} {text : A → List ℕ} {Is : A → Type 0} {at other : List ℕ → Result (A × List ℕ) E} → ((bytes : List ℕ) → other bytes ≡ at bytes) → Spelled text Is at → Spelled text Is other
 same_reading same law = record {
   taken = λ bytes x fits e. law.taken bytes x fits (sym (same bytes) ∙ e);
@@ -71,7 +71,7 @@ tested {A} {B} {E} {text} {Is} {at} test refusal made given same whole law = rec
 pub passing_spelled : {A : Type 0} {text : A → List ℕ} {Is : A → Type 0} {at : List ℕ → Result (A × List ℕ) Malformed} (test : A → Bool) → Spelled text Is at → Spelled text (λ x. Is x × (test x ≡ true)) (passing test at)
 passing_spelled test law = tested test malformed (λ x. x) (λ x. x) (λ _. refl) (λ _. refl) law
 
--- an exact decoder is still exact if it returns a value made from the decoded one, provided that
+-- an exact decoder is still exact if it returns a value made from the decoded value, provided that
 -- each of the two values determines the other
 pub made_of : {A B E : Type 0} {text : A → List ℕ} {Is : A → Type 0} {at : List ℕ → Result (A × List ℕ) E} (made : A → B) (given : B → A) {Are : B → Type 0} → ((x : A) → Is x → (given (made x) ≡ x) × Are (made x)) → ((y : B) → Are y → (made (given y) ≡ y) × Is (given y)) → Spelled text Is at → Spelled (λ y. text (given y)) Are (λ bytes. at bytes >>= λ x. Ok (made x.0, x.1))
 made_of {A} {B} {E} {text} {Is} {at} made given {Are} to from law = record {

@@ -1,5 +1,5 @@
--- The versions of an image: their numbers; their limits, which do not exceed the device's; and how
--- an image encodes the limits.
+-- The number of a version identifies the version. The limits of a version do not exceed the limits
+-- of the device, and their encoding can be read back.
 use Rattle.tpm_types.specs.Limits.{nv_index_limit, nv_space_limit}
 use Rattle.std.proofs.Common.{◌≡◌, ℕ, ◌^◌, ◌<◌, ◌≤◌, List, ◌++◌, length, Some, Result, Ok, refl, ap, subst, ◌∙◌, append_assoc, arith}
 use Rattle.std.specs.Prelude.{◌==◌, not}

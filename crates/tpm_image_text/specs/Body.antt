@@ -139,7 +139,8 @@ lockout_in text = do
 
 -- ---- the state that a TPM2_Shutdown saved
 
--- the encoding of PCRs 0 to 15: their values in the SHA-1 bank, then those in the SHA-256 bank
+-- the encoding of PCRs 0 to 15: their values in the SHA-1 bank, then their values in the SHA-256
+-- bank
 abbrev pub values_text : SavedValues → List ℕ
 values_text values =
     flat_map (λ value. value) values.sha1 ++ flat_map (λ value. value) values.sha256
@@ -300,11 +301,11 @@ index_in text = do
   index ← passing is_index fields_of_index_in text
   Ok ((index.0.public.nv_index.number, index.0), index.1)
 
--- the total data size of these NV indices, with or without WRITTEN; below, whether it is within a
--- limit
+-- the total data size of these NV indices, with or without WRITTEN
 abbrev pub bytes_of : Entries NvIndex → ℕ
 bytes_of indices = sum_by (λ e. e.1.public.data_size) indices
 
+-- whether the total data size of these NV indices is within a limit
 abbrev pub have_space : (limit : ℕ) → Entries NvIndex → Bool
 have_space limit indices = nat_le (bytes_of indices) limit
 

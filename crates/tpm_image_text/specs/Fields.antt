@@ -63,11 +63,12 @@ bytes_in count text = in_body (bytes_at count) text
 abbrev pub buffer_in : ℕ → List ℕ → Result (List ℕ × List ℕ) Malformed
 buffer_in limit text = in_body (buffer_at limit) text
 
--- whether a value does not end with a zero byte; `auth_value_in` decodes an authorization value: a
--- sized buffer of at most 32 bytes, without a zero byte at its end
+-- whether a value does not end with a zero byte
 abbrev pub is_trimmed : List ℕ → Bool
 is_trimmed value = bytes_eq (trimmed value) value
 
+-- decodes an authorization value: a sized buffer of at most 32 bytes, without a zero byte at its
+-- end
 unfoldable pub auth_value_in : List ℕ → Result (List ℕ × List ℕ) Malformed
 auth_value_in text = passing is_trimmed (buffer_in 32) text
 

@@ -58,7 +58,7 @@ Restores read old (Ok max_count) new rest =
     × (max_count ≡ state.max_count)
 Restores read old (Err fault) new rest = read ≡ Err fault
 
--- On success, the record is that of a device that was powered on with the encoded non-volatile
+-- On success, the record describes a device that was powered on with the encoded non-volatile
 -- state. On error, the bytes are malformed, or an allocation failed (NoMemory), whatever the bytes
 -- are.
 abbrev pub PowersOn : Bool → Result NonVolatile Malformed → Result (Unit {0}) FillFault
@@ -67,7 +67,7 @@ PowersOn can read (Ok done) new = (kept : NonVolatile) × (read ≡ Ok kept) × 
 PowersOn can read (Err unfilled.Malformed) new = read ≡ Err malformed
 PowersOn can read (Err unfilled.NoMemory) new = can ≡ true
 
--- On success, the record is that of a device that was powered on with the non-volatile state at the
+-- On success, the record describes a device that was powered on with the non-volatile state at the
 -- beginning of the bytes, and `rest` remains to be read. On error, the bytes are malformed, or an
 -- allocation failed (NoMemory), whatever the bytes are.
 abbrev pub PowersOnFrom : Bool → Result (NonVolatile × List ℕ) Malformed

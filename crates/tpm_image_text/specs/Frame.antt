@@ -58,10 +58,11 @@ number_of text = from_be_bytes w16 (take 2 (drop 4 text))
 abbrev pub length_of : List ℕ → ℕ
 length_of text = from_be_bytes w32 (take 4 (drop 6 text))
 
--- the part of a frame before the digest; below, the digest
+-- the part of a frame before the digest
 abbrev pub before_digest : List ℕ → List ℕ
 before_digest text = take (length text - digest_bytes) text
 
+-- the digest at the end of a frame
 abbrev pub digest_of : List ℕ → List ℕ
 digest_of text = drop (length text - digest_bytes) text
 

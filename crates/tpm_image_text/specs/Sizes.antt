@@ -11,28 +11,31 @@ limits_size = 6
 abbrev pub state_size : ℕ
 state_size = 1269
 
--- the largest sizes of an object, of a persistent object with its handle, and of all persistent
--- objects preceded by their count
+-- the largest size of an object
 abbrev pub object_fields_size : ℕ
 object_fields_size = 326
 
+-- the largest size of a persistent object with its handle
 abbrev pub object_size : ℕ
 object_size = 4 + object_fields_size
 
+-- the largest size of all persistent objects, preceded by their count
 abbrev pub objects_size : ℕ
 objects_size = 2 + persistent_limit * object_size
 
--- the largest sizes of an NV index without its data, of all indices with their data, and of all
--- indices preceded by their count
+-- the largest size of an NV index without its data
 abbrev pub index_size : ℕ
 index_size = 84
 
+-- the largest size of all NV indices with their data
 abbrev pub entries_size : ℕ
 entries_size = nv_index_limit * index_size + nv_space_limit
 
+-- the largest size of all NV indices with their data, preceded by their count
 abbrev pub indices_size : ℕ
 indices_size = 2 + entries_size
 
+-- the largest size of the body of an image
 abbrev pub body_size : ℕ
 body_size = limits_size + (state_size + (objects_size + indices_size))
 
@@ -42,9 +45,9 @@ image_size = 10 + (body_size + 32)
 
 -- the largest size of the part of a state text that is not in the body of an image
 abbrev pub more_size : ℕ
-more_size = 7962
+more_size = 8569
 
 -- the largest size of a body that is written, including the digest after it; the longest body is
--- that of a state text
+-- the body of a state text
 abbrev pub text_size : ℕ
 text_size = body_size + more_size + 32

@@ -1,4 +1,4 @@
-//! Decodes the state of a device, and finds the fault of bytes that do not encode one.
+//! Decodes the state of a device, and finds the fault of bytes that do not encode a state.
 
 ghost use Rattle.std.specs.Prelude.{◌≡◌, ◌||◌, Err, is_ok, true};
 ghost use Rattle.tpm_image_text.specs.Body.{body_of};

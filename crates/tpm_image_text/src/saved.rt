@@ -12,7 +12,7 @@ use tpm_bytes::Cursor;
 use tpm_pcr::SavedPcrs;
 use tpm_record::{Saved, SavedKind};
 
-/// Reads the values of the SHA-1 bank and overwrites those in `values`.
+/// Reads the values of the SHA-1 bank, and stores them in `values`.
 #[tactic(auto, using(crate::proofs::BankLaws::bank_laws))]
 fn read_sha1(values: &mut SavedPcrs, text: &mut Cursor) -> Result<(), Malformed>
     ensures values { Reads (λ done. values.new.sha1) (bank_in 20 text.old)
@@ -28,7 +28,7 @@ fn read_sha1(values: &mut SavedPcrs, text: &mut Cursor) -> Result<(), Malformed>
     Ok(())
 }
 
-/// Reads the values of the SHA-256 bank and overwrites those in `values`.
+/// Reads the values of the SHA-256 bank, and stores them in `values`.
 #[tactic(auto, using(crate::proofs::BankLaws::bank_laws))]
 fn read_sha256(values: &mut SavedPcrs, text: &mut Cursor) -> Result<(), Malformed>
     ensures values { Reads (λ done. values.new.sha256) (bank_in 32 text.old) text.old

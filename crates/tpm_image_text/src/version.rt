@@ -35,7 +35,7 @@ impl Version {
         }
     }
 
-    /// The version with this number, if there is one.
+    /// The version with this number, if there is such a version.
     #[tactic(auto, unfolding(crate::specs::Version::version_numbered))]
     pub fn numbered(number: u16) -> Option<Version>
         ensures { result ≡ version_numbered number }

@@ -1,6 +1,9 @@
--- A limit on the number of random bytes that a command draws, with or without the layer.
-use Rattle.std.proofs.Common.{◌≡◌, ◌≤◌, ◌&&◌, ℕ, zero, suc, Bool, true, false, List, [], ◌∷◌, ◌++◌, length, Option, Some, None, Result, Ok, Err, refl, subst, ap, get_or, if◌then◌else◌}
+-- A command draws at most as many random bytes as it was given, with or without the completing
+-- layer. A command that loads the context of an object, or for which the layer sends a command to
+-- the device, draws none.
+use Rattle.std.proofs.Common.{◌≡◌, ◌≤◌, ◌&&◌, ℕ, zero, suc, Bool, true, false, List, [], ◌∷◌, ◌++◌, length, Option, Some, None, Result, Ok, Err, refl, subst, ap, get_or, replicate, if◌then◌else◌}
 use native.Mathlib.Omega.{arith}
+use Rattle.std.proofs.lemmas.List.{length-replicate}
 use Rattle.std.specs.Int.{w32, to_be_bytes}
 use Rattle.std.proofs.lemmas.Bool.{false≢true}
 use Rattle.std.proofs.lemmas.Slice.Eq.{bytes_eq-Decides}
@@ -16,10 +19,12 @@ use Rattle.tpm_step.specs.Step.{Accepted, Stepped, accepted, step, stepped_of}
 use Rattle.tpm_step.specs.declared.refused_command.RefusedCommand.{RefusedCommand}
 use Rattle.tpm_machine.specs.Drawn.{drawn_by, drawn_by_command}
 use Rattle.tpm_completion.specs.Answer.{is_refusal, refusal}
-use Rattle.tpm_completion.specs.Command.{plain_command}
-use Rattle.tpm_completion.specs.Execution.{AsksFirst, Behind, CompletesIf, Loads, Passes, PlacesIf, Seen, asked_behind, opened_behind}
+use Rattle.tpm_completion.specs.Command.{authorized_command, plain_command}
+use Rattle.tpm_completion.specs.Execution.{AsksFirst, Behind, CompletesIf, Loads, Passes, PlacesIf, Seen, Sends, asked_behind, opened_behind, sent_behind}
 use Rattle.tpm_completion.specs.Loading.{context_asked, object_context_in}
+use Rattle.tpm_completion.specs.Sending.{sent_for, sent_in}
 use Rattle.tpm_completion.specs.declared.completion.Completion.{Completion}
+use Rattle.tpm_completion.specs.declared.sending.Sent.{Sent}
 use Rattle.tpm_journal.specs.Command.{Command, Executed}
 
 -- ---- no more than there are
@@ -50,17 +55,25 @@ loads_within can first (Err fault) seen random few is =
     let same : seen.drawn ≡ first.drawn = ap (λ (s : Seen). s.drawn) is in
     omega (arith, few, same)
 
-pub behind_within : (can : Bool) (first : Seen) (buffer random : List ℕ) (asked : Option (List ℕ)) (seen : Seen)
-    → first.drawn ≤ length random → Behind can first buffer asked seen → seen.drawn ≤ length random
-behind_within can first buffer random (Some context) seen few loads = loads_within can first (opened_behind first context) seen random few loads
-behind_within can first buffer random None seen few is =
+pub sends_within : (can : Bool) (first : Seen) (buffer random : List ℕ) (locality : ℕ) (sent : Option Sent) (seen : Seen)
+    → length random ≡ 256 → first.drawn ≤ length random → Sends can first buffer locality sent seen → seen.drawn ≤ length random
+sends_within can first buffer random locality (Some sent) seen all few (second, passes, is) =
+    let same : seen.drawn ≡ second.drawn = ap (λ (s : Seen). s.drawn) is in
+    let most = no_more_drawn can first.layer first.step.after sent.command locality 0 (replicate 256 0) second passes in
+    omega (arith, same, most, all, length-replicate {A = ℕ} 256 0)
+sends_within can first buffer random locality None seen all few is =
     let same : seen.drawn ≡ first.drawn = ap (λ (s : Seen). s.drawn) is in
     omega (arith, few, same)
+
+pub behind_within : (can : Bool) (first : Seen) (buffer random : List ℕ) (locality : ℕ) (asked : Option (List ℕ)) (seen : Seen)
+    → length random ≡ 256 → first.drawn ≤ length random → Behind can first buffer locality asked seen → seen.drawn ≤ length random
+behind_within can first buffer random locality (Some context) seen all few loads = loads_within can first (opened_behind first context) seen random few loads
+behind_within can first buffer random locality None seen all few sends = sends_within can first buffer random locality (sent_behind first buffer) seen all few sends
 
 asks_within : (can : Bool) (layer : Completion) (old : Record) (buffer : List ℕ) (locality elapsed : ℕ) (random : List ℕ) (seen : Seen)
     → AsksFirst can layer old buffer locality elapsed random seen → seen.drawn ≤ length random
 asks_within can layer old buffer locality elapsed random seen (first, passes, behind) =
-    behind_within can first buffer random (asked_behind first buffer) seen (no_more_drawn can layer old buffer locality elapsed random first passes) behind
+    behind_within can first buffer random locality (asked_behind first buffer) seen passes.executes.happens.2 (no_more_drawn can layer old buffer locality elapsed random first passes) behind
 
 pub if_within : (can completes : Bool) (layer : Completion) (old : Record) (buffer : List ℕ) (locality elapsed : ℕ) (random : List ℕ) (seen : Seen)
     → CompletesIf can completes layer old (Given buffer locality elapsed random) seen → seen.drawn ≤ length random
@@ -71,7 +84,8 @@ if_within can true layer old buffer locality elapsed random seen completes =
 pub draws_within : (can : Bool) (layer : Completion) (old : Record) (c : Command) (seen : Seen) → Executed can layer old c seen → seen.drawn ≤ length c.random
 draws_within can layer old c seen executed = if_within can c.completes layer old c.buffer c.locality c.elapsed c.random seen executed
 
--- ---- a command that loads the context of an object draws none
+-- ---- a command that loads the context of an object, or for which the layer sends a command, draws
+-- none
 
 -- a response that reports success is no refusal: the third byte of its response code is 0, not 1
 framed_success : (tag : ℕ) (body : List ℕ) → is_refusal 0x143 (framed tag 0 body) ≡ true → ⊥
@@ -105,11 +119,28 @@ unfolding context_asked
 asked_refused r buffer response context is =
     and_right r.fixed.started (is_refusal 0x143 response) (if_some _ (object_context_in (plain_command buffer)) context is)
 
+sent_refused : (r : Record) (c : Completion) (buffer response : List ℕ) (sent : Sent) → sent_for r c buffer response ≡ Some sent → is_refusal 0x143 response ≡ true
+unfolding sent_for
+sent_refused r c buffer response sent is =
+    and_right r.fixed.started (is_refusal 0x143 response) (if_some _ (sent_in r c (authorized_command buffer)) sent is)
+
+-- a command that the device refused with COMMAND_CODE draws no random bytes
+draws_none : (layer : Completion) (old : Record) (buffer : List ℕ) (locality elapsed : ℕ) (random : List ℕ) (first : Seen)
+    → Passes false layer old (Given buffer locality elapsed random) first → is_refusal 0x143 first.step.response ≡ true
+    → drawn_by old (Given buffer locality elapsed random) 0 ≡ 0
+draws_none layer old buffer locality elapsed random first passes refused =
+    let step_is : first.step ≡ step old (Given buffer locality elapsed random) = passes.executes.exactly refl in
+    refused_draws_none (ticked old elapsed) random (accepted (ticked old elapsed) buffer locality random)
+    (subst (λ (x : Stepped). is_refusal 0x143 x.response ≡ true) step_is refused)
+
 pub asked_draws_none : (layer : Completion) (old : Record) (buffer : List ℕ) (locality elapsed : ℕ) (random : List ℕ) (first : Seen) (context : List ℕ)
     → Passes false layer old (Given buffer locality elapsed random) first → asked_behind first buffer ≡ Some context
     → drawn_by old (Given buffer locality elapsed random) 0 ≡ 0
 asked_draws_none layer old buffer locality elapsed random first context passes asked =
-    let refused : is_refusal 0x143 first.step.response ≡ true = asked_refused first.step.after buffer first.step.response context asked in
-    let step_is : first.step ≡ step old (Given buffer locality elapsed random) = passes.executes.exactly refl in
-    refused_draws_none (ticked old elapsed) random (accepted (ticked old elapsed) buffer locality random)
-    (subst (λ (x : Stepped). is_refusal 0x143 x.response ≡ true) step_is refused)
+    draws_none layer old buffer locality elapsed random first passes (asked_refused first.step.after buffer first.step.response context asked)
+
+pub sent_draws_none : (layer : Completion) (old : Record) (buffer : List ℕ) (locality elapsed : ℕ) (random : List ℕ) (first : Seen) (sent : Sent)
+    → Passes false layer old (Given buffer locality elapsed random) first → sent_behind first buffer ≡ Some sent
+    → drawn_by old (Given buffer locality elapsed random) 0 ≡ 0
+sent_draws_none layer old buffer locality elapsed random first sent passes is =
+    draws_none layer old buffer locality elapsed random first passes (sent_refused first.step.after first.layer buffer first.step.response sent is)

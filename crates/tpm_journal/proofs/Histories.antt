@@ -1,4 +1,5 @@
--- The history of a device that executes entries again.
+-- If a device follows a history and executes entries again, it afterwards follows the history
+-- extended by these executions.
 use Rattle.std.proofs.Common.{ℕ, Bool, List, [], ◌∷◌, Option}
 use Rattle.tpm_record.specs.Record.{Record}
 use Rattle.tpm_machine.specs.Executions.{Leads}

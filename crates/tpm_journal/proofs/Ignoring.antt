@@ -9,13 +9,14 @@ use Rattle.tpm_machine.specs.Drawn.{drawn_by}
 use Rattle.tpm_machine.proofs.Following.{execution_follows}
 use Rattle.tpm_journal.specs.draw_laws.Bytes.{AgreeOnDrawn, zeros_behind}
 use Rattle.tpm_journal.proofs.draw_laws.Executions.{draws_alike, executes_alike, replays, replay_draws}
-use Rattle.tpm_completion.specs.Execution.{AsksFirst, Behind, CompletesIf, Passes, Seen, asked_behind}
+use Rattle.tpm_completion.specs.Execution.{AsksFirst, Behind, CompletesIf, Passes, Seen, Sends, asked_behind, sent_behind}
 use Rattle.tpm_completion.specs.declared.completion.Completion.{Completion}
+use Rattle.tpm_completion.specs.declared.sending.Sent.{Sent}
 use Rattle.tpm_journal_text.specs.Entry.{PlainEntry}
 use Rattle.tpm_journal.specs.Command.{given}
 use Rattle.tpm_journal.specs.Living.{Answers, IgnoresUndrawn, Lives}
 use Rattle.tpm_journal.proofs.Again.{lives_again}
-use Rattle.tpm_journal.proofs.Drawing.{asked_draws_none, behind_within, draws_within, no_more_drawn}
+use Rattle.tpm_journal.proofs.Drawing.{asked_draws_none, behind_within, draws_within, no_more_drawn, sends_within, sent_draws_none}
 
 -- passing an event to the device has the same effect with other random bytes, if the device then
 -- executes it in the same way and draws the same number of bytes
@@ -62,19 +63,31 @@ kept seen random = zeros_behind seen.drawn random
 
 -- the device's first execution of a command stays the same if zeros replace the random bytes that
 -- the command did not draw
+sends_first : (layer : Completion) (old : Record) (first : Seen) (buffer : List ℕ) (locality elapsed : ℕ) (random : List ℕ) (sent : Option Sent) (seen : Seen)
+    → sent ≡ sent_behind first buffer → Passes false layer old (Given buffer locality elapsed random) first → Sends false first buffer locality sent seen
+    → Passes false layer old (Given buffer locality elapsed (kept seen random)) first
+sends_first layer old first buffer locality elapsed random (Some sent) seen given passes sends =
+    let all : length random ≡ 256 = passes.executes.happens.2 in
+    let few : seen.drawn ≤ length random =
+    sends_within false first buffer random locality (Some sent) seen all (no_more_drawn false layer old buffer locality elapsed random first passes) sends in
+    passes_anyhow layer old buffer locality elapsed random (kept seen random) first passes
+    (sent_draws_none layer old buffer locality elapsed random first sent passes (sym given)) (zeros_many seen.drawn random few all)
+sends_first layer old first buffer locality elapsed random None seen given passes is =
+    let same : seen.drawn ≡ first.drawn = ap (λ (s : Seen). s.drawn) is in
+    subst (λ (n : ℕ). Passes false layer old (Given buffer locality elapsed (zeros_behind n random)) first) (sym same)
+    (passes_again layer old buffer locality elapsed random first passes)
+
 first_again : (layer : Completion) (old : Record) (first : Seen) (buffer : List ℕ) (locality elapsed : ℕ) (random : List ℕ) (asked : Option (List ℕ)) (seen : Seen)
-    → asked ≡ asked_behind first buffer → Passes false layer old (Given buffer locality elapsed random) first → Behind false first buffer asked seen
+    → asked ≡ asked_behind first buffer → Passes false layer old (Given buffer locality elapsed random) first → Behind false first buffer locality asked seen
     → Passes false layer old (Given buffer locality elapsed (kept seen random)) first
 first_again layer old first buffer locality elapsed random (Some context) seen given passes loads =
     let all : length random ≡ 256 = passes.executes.happens.2 in
     let few : seen.drawn ≤ length random =
-    behind_within false first buffer random (Some context) seen (no_more_drawn false layer old buffer locality elapsed random first passes) loads in
+    behind_within false first buffer random locality (Some context) seen all (no_more_drawn false layer old buffer locality elapsed random first passes) loads in
     passes_anyhow layer old buffer locality elapsed random (kept seen random) first passes
     (asked_draws_none layer old buffer locality elapsed random first context passes (sym given)) (zeros_many seen.drawn random few all)
-first_again layer old first buffer locality elapsed random None seen given passes is =
-    let same : seen.drawn ≡ first.drawn = ap (λ (s : Seen). s.drawn) is in
-    subst (λ (n : ℕ). Passes false layer old (Given buffer locality elapsed (zeros_behind n random)) first) (sym same)
-    (passes_again layer old buffer locality elapsed random first passes)
+first_again layer old first buffer locality elapsed random None seen given passes sends =
+    sends_first layer old first buffer locality elapsed random (sent_behind first buffer) seen refl passes sends
 
 asks_again : (layer : Completion) (old : Record) (buffer : List ℕ) (locality elapsed : ℕ) (random : List ℕ) (seen : Seen)
     → AsksFirst false layer old buffer locality elapsed random seen → AsksFirst false layer old buffer locality elapsed (kept seen random) seen

@@ -1,4 +1,4 @@
--- Entries that are executed one after another.
+-- Lemmas about entries that are executed one after another.
 use Rattle.std.proofs.Common.{◌≡◌, ◌≢◌, ℕ, ◌+◌, ◌≤◌, ◌<◌, Bool, List, [], ◌∷◌, ◌++◌, length, map, take, drop, Option, Some, None, refl, ap, sym, subst, ◌∙◌, append_assoc, arith, length-drop}
 use Rattle.std.specs.List.{AllByRecursion}
 use Rattle.std.proofs.lemmas.List.{drop-take, length-take-le, map-append, take-append-drop, take-append-le}
@@ -45,14 +45,16 @@ pub performs_at : (can : Bool) (before : Journal) (old : Record) (left text : Li
     (Holds : ℕ → ℕ → Type 0) → left ≡ text → Performs can before old left size one after Holds → Performs can before old text size one after Holds
 performs_at can before old left text size one after Holds is p = rw (← is) p
 
--- the checksum of a journal after its entries were executed again
+-- after entries were executed again, the checksum of the journal is its earlier checksum with the
+-- marks of these entries added
 pub journal_sum : (can : Bool) (before : Journal) (old : Record) (performances : List Performance) (after : Journal) (new : Record)
     → LeadsBy can before old performances after new → after.sum ≡ sum_after_all before.sum (map entry_in performances)
 journal_sum can before old [] after new leads = ap (λ (j : Journal). j.sum) leads.0
 journal_sum can before old (one ∷ performances) after new leads =
     journal_sum can (journal_after before one.entry one.seen.layer) one.seen.step.after performances after new leads.1
 
--- one more entry can be executed after those already executed
+-- if entries were executed one after another, and then one more entry, all of them were executed
+-- one after another
 pub leads_more : (can : Bool) (before : Journal) (old : Record) (performances : List Performance) (mid : Journal) (here : Record)
     (one : Performance) (after : Journal) (new : Record) → LeadsBy can before old performances mid here
     → IsPerformed can mid.layer here one.entry one.seen → after ≡ journal_after mid one.entry one.seen.layer → new ≡ one.seen.step.after

@@ -1,4 +1,4 @@
--- For each kind of head, the journal that it starts.
+-- Says which journal each kind of head starts.
 use Rattle.std.proofs.Common.{◌≡◌, ℕ, List, ◌++◌, Result, Ok, ap, ◌∙◌}
 use Rattle.std.specs.List.{AllByRecursion}
 use Rattle.tpm_completion.specs.declared.completion.Completion.{Completion}

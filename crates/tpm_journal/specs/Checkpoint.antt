@@ -12,8 +12,8 @@ use Rattle.tpm_journal.specs.declared.journal.Journal.{Journal}
 abbrev pub state_beside : Journal → Record → WholeState
 state_beside journal device = record { device = device; layer = Some (layer_of journal.layer) }
 
--- the journal after a checkpoint: its checksum is that of the new head, its time is the clock in
--- this head, and its layer is unchanged
+-- the journal after a checkpoint: its checksum is the checksum of the new head, its time is the
+-- clock in this head, and its layer is unchanged
 abbrev pub checkpointed : Journal → (clock : ℕ) → Record → Journal
 checkpointed journal clock device = record journal {
   sum = head_sum clock (state_text (state_beside journal device));

@@ -42,7 +42,7 @@ command_at buffer locality elapsed completes random = record {
 abbrev pub Executed : (can : Bool) → Completion → Record → Command → Seen → Type 0
 Executed can layer old c seen = CompletesIf can c.completes layer old (given c) seen
 
--- the entry that records a command and its effect; of the random bytes, it contains only those that
+-- the entry that records a command and its effect; the entry contains only the random bytes that
 -- the command drew
 abbrev pub entry_of : Command → Seen → PlainEntry
 entry_of c seen = record {
@@ -54,7 +54,7 @@ entry_of c seen = record {
   answered = sum_of seen.step.response;
 }
 
--- 256 random bytes: those that a command drew, followed by zeros
+-- 256 random bytes: the bytes that a command drew, followed by zeros
 abbrev pub padded : List ℕ → List ℕ
 padded drawn = drawn ++ replicate (256 - length drawn) 0
 

@@ -26,10 +26,11 @@ pub record Performance : Type 0 where
 abbrev pub entry_in : Performance → PlainEntry
 entry_in one = one.entry
 
--- the checksum of the response to an entry's command; below, the checksum that the entry records
+-- the checksum of the response to an entry's command
 abbrev pub response_sum : Performance → ℕ
 response_sum one = sum_of one.seen.step.response
 
+-- the checksum that an entry records for its command's response
 abbrev pub answer_said : Performance → ℕ
 answer_said one = one.entry.answered
 
@@ -53,8 +54,8 @@ run_of_all can before old (one ∷ performances) after new leads =
     ++ run_of_all can (journal_after before one.entry one.seen.layer) one.seen.step.after
     performances after new leads.1
 
--- The checksums of the responses are those in the entries. If the device answered differently, only
--- the last sum differs.
+-- The checksums of the responses are the checksums in the entries. If the device answered
+-- differently, only the last checksum differs.
 abbrev pub AnswersAre : Option FollowFault → (sums said : List ℕ) → Type 0
 AnswersAre None sums said = sums ≡ said
 AnswersAre (Some Damaged) sums said = sums ≡ said
@@ -71,6 +72,7 @@ EndsIn (Some Otherwise) sum left = Unit {0}
 
 -- A device, with its layer, executed exactly the entries at the beginning of the input, one after
 -- another. This changed the journal from `before` to `after`, and the record from `old` to `new`.
+-- The checksums of the responses are as `AnswersAre` says.
 pub record Repeats (can : Bool) (before : Journal) (old : Record) (text : List ℕ) (taken : ℕ)
     (fault : Option FollowFault) (after : Journal) (new : Record) : Type 0
   where

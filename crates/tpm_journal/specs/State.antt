@@ -37,12 +37,12 @@ abbrev pub time_after_all : (time : ℕ) → List PlainEntry → ℕ
 time_after_all time [] = time
 time_after_all time (e ∷ entries) = time_after_all (time_after time e.elapsed) entries
 
--- the journal after one entry; below, after several entries. `layer` is the layer's state after
--- them
+-- the journal after one entry; `layer` is the layer's state after the entry
 abbrev pub journal_after : Journal → PlainEntry → (layer : Completion) → Journal
 journal_after j e layer =
     record { sum = sum_after j.sum e; time = time_after j.time e.elapsed; layer = layer }
 
+-- the journal after several entries; `layer` is the layer's state after the entries
 abbrev pub journal_after_all : Journal → List PlainEntry → (layer : Completion) → Journal
 journal_after_all j entries layer = record {
   sum = sum_after_all j.sum entries;

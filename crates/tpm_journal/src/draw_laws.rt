@@ -26,8 +26,8 @@ pub fn row_laws()
         → ActsAlike q.random other (row_of r c q) (row_of r c (with_random q other)) }
 {}
 
-/// TPM2_GetRandom depends on each byte that it draws: if its row has the same result with other
-/// random bytes, these agree with the original ones on all bytes that it draws.
+/// TPM2_GetRandom depends on each byte that it draws. If its row succeeds with the same result on
+/// other random bytes, the two lists of random bytes agree on all bytes that the row draws.
 #[inline(always)]
 #[tactic(auto, using(crate::proofs::draw_laws::Needed::bytes_needed))]
 pub fn needed_byte_laws()

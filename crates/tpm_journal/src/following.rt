@@ -21,7 +21,7 @@ pub enum FollowFault {
     /// The input continues neither with an entry nor with a part of an entry that a crash could
     /// leave.
     Damaged,
-    /// The device's answer to the last entry differs from the one recorded in the entry.
+    /// The device's answer to the last entry differs from the answer that the entry records.
     Otherwise,
 }
 
@@ -36,9 +36,9 @@ pub struct Followed {
 /// The result of processing the beginning of the input.
 #[derive(Clone, Copy)]
 pub(crate) enum Deed<'a> {
-    /// An entry of `size` bytes was executed, and the answer matches the recorded one.
+    /// An entry of `size` bytes was executed, and the answer matches the recorded answer.
     Executed { entry: Entry<'a>, size: usize },
-    /// An entry of `size` bytes was executed, but the answer differs from the recorded one.
+    /// An entry of `size` bytes was executed, but the answer differs from the recorded answer.
     Otherwise { entry: Entry<'a>, size: usize },
     /// The input is torn: it is shorter than an entry, not counting zeros at its end.
     Torn,
@@ -66,7 +66,7 @@ pub fn perform<K: Keep>(
     execute(machine, layer, entry.completes, &event, outcome);
 }
 
-/// 256 random bytes: those that a command drew, followed by zeros.
+/// 256 random bytes: the bytes that a command drew, followed by zeros.
 fn padded(drawn: &[u8]) -> [u8; 256]
     requires { length drawn.now ≤ 256 }
     ensures { result ≡ padded drawn.now }

@@ -53,9 +53,10 @@ pub fn following_laws()
         → IsFollowedWhole before entries layer final followed after new }
 {}
 
-/// The journal that a head starts. The image of a device starts a new journal, with a power cycle
-/// of the device. A state text starts a journal in which the device and the layer continue
-/// unchanged. A checkpoint starts the journal that was checkpointed, with its layer and its device.
+/// These laws say which journal a head starts. The image of a device starts a new journal, with a
+/// power cycle of the device. A state text starts a journal in which the device and the layer
+/// continue unchanged. A checkpoint starts the journal that was checkpointed, with its layer and
+/// its device.
 #[inline(always)]
 #[tactic(auto, using(crate::proofs::Starts::image_starts, crate::proofs::Starts::state_starts, crate::proofs::Starts::checkpoint_starts))]
 pub fn starting_laws()
@@ -74,9 +75,9 @@ pub fn starting_laws()
         ≡ Ok (record { journal = checkpointed j clock r; device = r }) }
 {}
 
-/// If the input consists of a head that starts a journal, entries, and perhaps an incomplete entry
-/// after a crash, and the device and its layer give the recorded answers, opening the input yields
-/// the device and the layer after all complete entries.
+/// Suppose that the input consists of a head that starts a journal, entries, and perhaps an
+/// incomplete entry after a crash. If the device and its layer give the recorded answers, opening
+/// the input yields the device and the layer after all complete entries.
 #[inline(always)]
 #[tactic(auto, using(crate::proofs::Again::opened_again))]
 pub fn opening_laws()
@@ -92,8 +93,9 @@ pub fn opening_laws()
         new }
 {}
 
-/// Opening a checkpoint of a running device, followed by the entries of the commands that the
-/// device and its layer executed since, yields this device and layer.
+/// The input begins with a checkpoint of a running device. It continues with the entries of the
+/// commands that the device and its layer executed since, and perhaps with an incomplete entry
+/// after a crash. Opening this input yields the same device and layer.
 #[inline(always)]
 #[tactic(auto, using(crate::proofs::Starts::checkpoint_opened))]
 pub fn checkpoint_laws()

@@ -1,6 +1,6 @@
 //! Converts the journal of a device to a script, or to the answers that the device gave. The script
 //! consists of the journal's head and, for each entry, a comment that traces the answer and the
-//! lines that execute the command. The answers consist of that trace and the response, for each
+//! lines that execute the command. The answers consist of the same trace and the response for each
 //! entry.
 //!
 //! [`retell`] executes the entries of a journal again, as opening a journal does, and converts
@@ -27,7 +27,7 @@ use tpm_machine::Machine;
 use tpm_record::Keep;
 use tpm_step::Outcome;
 
-/// The form to which a journal is converted.
+/// What a journal is converted to.
 #[derive(Clone, Copy, PartialEq, Eq)]
 pub enum Telling {
     /// A script that executes the journal's commands again.
@@ -36,7 +36,7 @@ pub enum Telling {
     Answers,
 }
 
-/// The reasons why a journal was not converted to its end.
+/// Why the conversion of a journal stopped before the journal's end.
 #[derive(Clone, Copy, PartialEq, Eq)]
 pub enum RetellFault {
     /// The journal has no head, or its head contains no device. Nothing was written.

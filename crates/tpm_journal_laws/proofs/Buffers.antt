@@ -1,4 +1,5 @@
--- Buffers that are recorded whole, and buffers that are truncated.
+-- A journal records a buffer of up to 4,096 bytes whole. The device refuses the recorded part of a
+-- longer buffer as it refuses the whole buffer.
 use Rattle.std.proofs.Common.{◌≡◌, ℕ, ◌<◌, List, length, take, Err, refl, sym, ap, ◌∙◌, take_all, arith}
 use Rattle.std.proofs.lemmas.Bool.{le-ltb, lt-ltb}
 use Rattle.std.proofs.lemmas.List.{length-take-le}

@@ -1,4 +1,5 @@
--- The lines of an entry execute its command as it was originally executed.
+-- If an entry contains the random bytes that its command drew, the entry's lines execute the
+-- command as it was originally executed.
 use native.Mathlib.Nat.{mod-eq_of_lt}
 use Rattle.std.proofs.Common.{◌≡◌, ℕ, zero, suc, ◌+◌, ◌%◌, ◌<◌, ◌≤◌, false, List, [], ◌∷◌, length, take, get_or, refl, sym, ap, ◌∙◌, arith}
 use Rattle.std.specs.Prelude.{map, slice_index}

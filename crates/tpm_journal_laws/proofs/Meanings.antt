@@ -1,4 +1,4 @@
--- What the lines of a journal mean.
+-- The lines of a journal mean what its entries say.
 use Rattle.std.proofs.Common.{◌≡◌, ℕ, zero, suc, ◌+◌, ◌<◌, ◌≤◌, ◌==◌, false, List, [], ◌∷◌, ◌++◌, Some, None, refl, ap, ◌∙◌, append_assoc, cond, length, length-append, arith}
 use Rattle.std.specs.Prelude.{codes, map, nat_lt}
 use Rattle.std.specs.Int.{w64, to_be_bytes}

@@ -1,4 +1,5 @@
--- The entries of a journal, played as a script.
+-- If the content of its head has at most 32,767 bytes, a journal can be played as a script. The
+-- script prints the device's responses to the entries.
 use Rattle.std.proofs.Common.{◌≡◌, ℕ, zero, suc, ◌+◌, ◌*◌, ◌<◌, ◌≤◌, ◌^◌, ◌&&◌, Bool, false, List, [], ◌∷◌, ◌++◌, Option, Some, None, length, max, refl, ap, ◌∙◌, length-append, arith}
 use Rattle.std.specs.Prelude.{codes, nat_le, nat_lt, option_and_then, option_map, if◌then◌else◌}
 use Rattle.std.specs.Int.{w64, to_be_bytes}

@@ -1,4 +1,4 @@
--- Which buffers a journal records whole, and what it records of longer ones.
+-- Says which buffers a journal records whole, and what it records of longer buffers.
 use Rattle.std.specs.Prelude.{◌≡◌, ℕ, ◌<◌, ◌≤◌, Bool, List, length}
 use Rattle.tpm_record.specs.Record.{Record}
 use Rattle.tpm_step.specs.Events.{Given}
@@ -10,8 +10,8 @@ abbrev pub IsRecordedWhole : Type 0
 IsRecordedWhole = (buffer : List ℕ) (locality elapsed : ℕ) (completes : Bool) (random : List ℕ)
     → length buffer ≤ 4096 → (command_at buffer locality elapsed completes random).buffer ≡ buffer
 
--- If a longer buffer is truncated for the journal, the recorded part has the same step as the
--- whole, whether or not an allocation fails.
+-- If a longer buffer is truncated for the journal, the recorded part has the same step as the whole
+-- buffer, whether or not an allocation fails.
 abbrev pub LongerAreRefusedAlike : Type 0
 LongerAreRefusedAlike = (refused : Bool) (r : Record) (buffer : List ℕ) (locality elapsed : ℕ)
     (completes : Bool) (random : List ℕ) → 4096 < length buffer

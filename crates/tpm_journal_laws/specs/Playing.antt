@@ -12,7 +12,7 @@ use Rattle.tpm_step.specs.Step.{step}
 use Rattle.tpmsim_script.specs.Line.{lines_of}
 use Rattle.tpmsim_script.specs.Script.{at_first, play, printed_response, repeated}
 
--- the event that the lines of an entry execute; its random bytes repeat those that the entry's
+-- the event that the lines of an entry execute; its random bytes repeat the bytes that the entry's
 -- command drew
 abbrev pub scripted : PlainEntry → PlainEvent
 scripted e = Given e.buffer e.locality e.elapsed (repeated (shown e.drawn))

@@ -4,7 +4,7 @@
 //! clock and records buffers, and which commands of a damaged journal are executed.
 //!
 //! The laws are about the definitions of tpm_journal, tpm_journal_text and tpmsim_script. Each
-//! function states a law in its contract, and does nothing at run time. No crate uses this one.
+//! function states a law in its contract, and does nothing at run time. No crate uses this crate.
 
 ghost use Rattle.tpm_journal_laws.specs.Buffers.{IsRecordedWhole, LongerAreRefusedAlike};
 ghost use Rattle.tpm_journal_laws.specs.Damage.{FrontIsFollowed};
@@ -47,8 +47,8 @@ pub fn time_laws()
     ensures once { TellsNoTimeTwice }
 {}
 
-/// A buffer of up to 4,096 bytes is recorded whole. A longer one is truncated, and the device
-/// refuses the recorded part as it would refuse the whole.
+/// A buffer of up to 4,096 bytes is recorded whole. A longer buffer is truncated, and the device
+/// refuses the recorded part as it would refuse the whole buffer.
 #[inline(always)]
 #[tactic(auto, using(crate::proofs::Buffers::longer_are_refused_alike))]
 pub fn buffer_laws()
@@ -57,7 +57,7 @@ pub fn buffer_laws()
 {}
 
 /// If a damaged journal is truncated at the damage, it can be executed to its end. The resulting
-/// device is that of the damaged journal, and all answers match their entries.
+/// device is the device of the damaged journal, and all answers match their entries.
 #[inline(always)]
 #[tactic(auto, using(crate::proofs::Damage::front_is_followed))]
 pub fn damage_laws()

@@ -117,8 +117,8 @@ few_is_no_entry sum e rest text mark is t same has =
     line_feed_is_no_zero has.front has.zeros (without_end sum e) rest (omega (arith, fewer, sizes, end, a, b, size))
     (sym (ends_a_line sum e rest) ∙ sym t ∙ has.is)
 
--- If the input begins with the line of a mark and is shorter than the mark's entry, and one of its
--- lines does not end where a line of that entry ends, it is damaged.
+-- Suppose that the input begins with the line of a mark and is shorter than the mark's entry. If
+-- one of its lines does not end where a line of that entry ends, the input is damaged.
 pub lines_end_otherwise : (sum : ℕ) (text mark : List ℕ) → BeginsWithMark sum mark text → (HasFewer 72 text → ⊥) → HasFewer (entry_size mark) text
     → (LinesEnd mark text → ⊥) → IsDamaged sum text
 lines_end_otherwise sum text mark begins long has otherwise = record {

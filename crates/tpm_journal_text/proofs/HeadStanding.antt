@@ -25,7 +25,7 @@ pub head_mark_bytes : (clock : ℕ) (content : List ℕ) → AreBytes (head_mark
 unfolding head_mark
 head_mark_bytes clock content = all_small (head_mark clock content) (omega arith, (omega arith, (omega arith, (omega arith, (omega arith, (omega arith, (omega arith, (omega arith, (omega arith, (omega arith, (omega arith, (omega arith, (omega arith, (omega arith, (omega arith, (omega arith, (omega arith, (omega arith, (omega arith, (omega arith, tt))))))))))))))))))))
 
-limit_small : (kind : HeadKind) → content_limit kind ≤ 36864
+limit_small : (kind : HeadKind) → content_limit kind ≤ 40960
 limit_small Image = omega arith
 limit_small State = omega arith
 
@@ -104,8 +104,8 @@ one_word State Image x y same =
     let no : 50 ≡ 49 = ap (λ (l : List ℕ). get_or l 17 0) same in
     absurd (omega (arith, no))
 
--- If the input begins with the word for a state text, its head contains a state text; otherwise it
--- contains an image.
+-- If the input begins with the word for a state text, its head contains a state text; otherwise its
+-- head contains an image.
 pub is_state : (word text rest : List ℕ) (kind : HeadKind) (clock : ℕ) (content : List ℕ) → word ≡ head_word State → take (length word) text ≡ word
     → text ≡ head_text kind clock content ++ rest → State ≡ kind
 is_state word text rest kind clock content is front t =

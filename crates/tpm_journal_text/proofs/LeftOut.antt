@@ -16,8 +16,8 @@ use Rattle.tpm_journal_text.proofs.Standing.{buffer_told, drawn_told, entry_text
 abbrev pub without : (place : ℕ) → List ℕ → List ℕ
 without place text = take place text ++ drop (place + 1) text
 
--- If a byte is removed, the offsets of the bytes before it are unchanged, and those of the later
--- bytes decrease by one.
+-- If a byte is removed, the offsets of the bytes before it are unchanged, and the offsets of the
+-- later bytes decrease by one.
 before_place : (place : ℕ) (text : List ℕ) (at : ℕ) → at < place → place ≤ length text → get_or (without place text) at 0 ≡ get_or text at 0
 before_place place text at before within =
     get_or_append_left (take place text) (drop (place + 1) text) 0 at (omega (arith, before, length-take-le place text within))

@@ -239,7 +239,7 @@ feed_in_entry sum e place is =
     (sym (get_or-append-add line (lines_of e) place 0) ∙ ap (λ (n : ℕ). get_or (line ++ lines_of e) (n + place) 0) many
     ∙ ap (λ (l : List ℕ). get_or l (72 + place) 0) (sym (entry_lines sum e)) ∙ is)
 
--- The lines of a prefix of an entry end where the lines of the entry end.
+-- The lines of a prefix of an entry end only where the lines of the entry end.
 pub front_lines_end : (sum : ℕ) (e : PlainEntry) (size : ℕ) → IsEntry e → size ≤ 72 + last_end e → LinesEnd (mark_of e) (take size (entry_text sum e))
 front_lines_end sum e size is less place there =
     let text = entry_text sum e in
@@ -252,14 +252,15 @@ front_lines_end sum e size is less place there =
       | inr last ↦ absurd (omega (arith, last, small, less))
     ]
 
--- If the lines of the input end where an entry's lines end, so do those of a prefix.
+-- If the lines of the input end only where the lines of the mark's entry end, so do the lines of
+-- each prefix of the input.
 pub lines_end_front : (mark front back : List ℕ) → LinesEnd mark (front ++ back) → LinesEnd mark front
 lines_end_front mark front back end place there =
     let at : get_or front (72 + place) 0 ≡ 10 = sym (get_or-drop 72 front place 0) ∙ there in
     end place (get_or-drop 72 (front ++ back) place 0
     ∙ get_or_append_left front back 0 (72 + place) (feed_within front (72 + place) at) ∙ at)
 
--- After zeros are appended to the input, its lines still end where the lines of the mark's entry
+-- If zeros are appended to the input, its lines still end only where the lines of the mark's entry
 -- end.
 pub lines_end_zeros : (mark front : List ℕ) (count : ℕ) → LinesEnd mark front → LinesEnd mark (front ++ replicate count 0)
 lines_end_zeros mark front count end place there =

@@ -23,7 +23,7 @@ pub record PlainEntry : Type 0 where
 abbrev pub entry_room : ℕ
 entry_room = 9216
 
--- the largest size of a buffer in an entry; a longer buffer is refused like one of 4,097 bytes
+-- the largest size of a buffer in an entry; a longer buffer is refused like a buffer of 4,097 bytes
 abbrev pub entry_limit : ℕ
 entry_limit = 4097
 
@@ -38,7 +38,7 @@ plain_entry e = record {
   answered = e.answered;
 }
 
--- The conditions under which a command can be written as an entry.
+-- The command can be written as an entry: all its fields have allowed values and sizes.
 pub record IsEntry (e : PlainEntry) : Type 0 where
   pub elapsed : e.elapsed < 2 ^ 32
   pub locality : e.locality ≤ 4
@@ -67,11 +67,11 @@ mark_of e =
 abbrev pub mark_size : ℕ
 mark_size = 26
 
--- the number of random bytes that the entry with this mark drew; below, the size of its command
--- buffer
+-- the number of random bytes that the command of the entry with this mark drew
 abbrev pub drawn_size : (mark : List ℕ) → ℕ
 drawn_size mark = from_be_bytes w16 (take 2 (drop 6 mark))
 
+-- the size of the command buffer in the entry with this mark
 abbrev pub buffer_size : (mark : List ℕ) → ℕ
 buffer_size mark = from_be_bytes w16 (take 2 (drop 8 mark))
 
@@ -96,7 +96,8 @@ unfoldable pub ten_digits : ℕ → List ℕ
 ten_digits number =
     map (digit_at number) (1000000000 ∷ 100000000 ∷ 10000000 ∷ 1000000 ∷ 100000 ∷ 10000 ∷ 1000 ∷ 100 ∷ 10 ∷ 1 ∷ [])
 
--- the random bytes for a script line, which may not be empty: a zero byte if the command drew none
+-- the random bytes in an entry's script line, which must contain at least one byte: the bytes that
+-- the command drew, or a zero byte if it drew none
 abbrev pub shown : List ℕ → List ℕ
 shown [] = 0 ∷ []
 shown (byte ∷ bytes) = byte ∷ bytes

@@ -18,7 +18,7 @@ head_word State = codes "# tpmsim journal 2 "
 -- the largest size of the content of a head of this kind
 abbrev pub content_limit : HeadKind → ℕ
 content_limit Image = 28672
-content_limit State = 36864
+content_limit State = 40960
 
 -- the mark of a head, 20 bytes: the clock in milliseconds, the size of the content, and the
 -- content's checksum
@@ -37,10 +37,11 @@ head_text kind clock content =
     marked_line (head_word kind) (head_mark clock content) (head_sum clock content)
     ++ codes "# " ++ encode_lower content ++ 10 ∷ []
 
--- the size of the line with a head's mark; below, of a head with `count` bytes of content
+-- the size of the line with a head's mark
 abbrev pub head_line_size : ℕ
 head_line_size = 77
 
+-- the size of a head with `count` bytes of content
 abbrev pub head_size : (count : ℕ) → ℕ
 head_size count = head_line_size + (3 + 2 * count)
 

@@ -8,7 +8,8 @@ use crate::put::{put, put_hex};
 use crate::sum::{sum_from, sum_of};
 use tpm_bytes::Sink;
 
-/// The largest size of a buffer in an entry. A longer buffer is refused like one of 4,097 bytes.
+/// The largest size of a buffer in an entry. A longer buffer is refused like a buffer of 4,097
+/// bytes.
 pub const ENTRY_LIMIT: usize = 4_097;
 
 /// The largest size of an encoded entry.
@@ -98,8 +99,8 @@ impl<'a> Entry<'a> {
         put(room, place, b"\n")
     }
 
-    /// Returns the random bytes for a script line, which may not be empty: a zero byte if the
-    /// command drew none.
+    /// Returns the random bytes for the entry's script line, which must contain at least one byte:
+    /// the bytes that the command drew, or a zero byte if it drew none.
     fn shown(&self) -> &[u8]
         ensures value { result.now ≡ shown self.now.drawn.now }
         ensures size { length result.now ≡ max 1 (length self.now.drawn.now) }

@@ -21,7 +21,7 @@ pub enum HeadKind {
 /// The largest size of an image in a head.
 const IMAGE_LIMIT: usize = 28_672;
 
-const STATE_LIMIT: usize = 36_864;
+const STATE_LIMIT: usize = 40_960;
 
 /// The largest size of the content of any head.
 pub const CONTENT_LIMIT: usize = STATE_LIMIT;
@@ -70,7 +70,7 @@ impl HeadKind {
 /// The size of a head with `count` bytes of content.
 #[tactic(auto, using(crate::proofs::HeadStanding::head_text_many))]
 pub fn head_size(count: usize) -> usize
-    requires { count ≤ 36864 }
+    requires { count ≤ 40960 }
     ensures value { result ≡ text_size count }
     ensures text { (kind : HeadKind) (clock : ℕ) (content : List ℕ) → length content ≡ count
         → length (head_text kind clock content) ≡ result }
@@ -81,7 +81,7 @@ pub fn head_size(count: usize) -> usize
 /// Returns the mark of a head whose content comes in two parts.
 #[tactic(auto, using(crate::proofs::Sums::sum_behind, crate::proofs::Sums::joined_many), unfolding(crate::specs::Head::head_mark))]
 pub(crate) fn mark_of(clock: u64, front: &[u8], back: &[u8]) -> Sink<MARK_SIZE>
-    requires { length front.now + length back.now ≤ 36864 }
+    requires { length front.now + length back.now ≤ 40960 }
     ensures value { result ≡ head_mark clock (front.now ++ back.now) }
     ensures many { length result ≡ 20 }
 {
@@ -103,7 +103,7 @@ fn put_head(
     sum: &mut u64,
     buffer: &mut [u8],
 ) -> usize
-    requires small { length front.now + length back.now ≤ 36864 }
+    requires small { length front.now + length back.now ≤ 40960 }
     requires buffer { text_size (length front.now + length back.now) ≤ length buffer.old }
     ensures size { result ≡ text_size (length front.now + length back.now) }
     ensures written { take result buffer.new ≡ head_text kind clock (front.now ++ back.now) }

@@ -16,7 +16,7 @@ use Rattle.tpm_keeping.specs.declared.holder.End.{End}
 use Rattle.tpm_keeping.specs.declared.holder.End.TheVariants as ending
 use Rattle.tpm_keeping.specs.declared.holder.Phase.TheVariants.{Leaving}
 
--- After a call, either the whole history is promised (no crash removes it), or the number of
+-- After a call, either the whole history is promised, so that no crash removes it, or the number of
 -- promised commands has not changed.
 promise_is : (j : Journal) (force : Force) (job : Job) (c : List ℕ) (s : Shared)
     → ((promises j force job c ≡ true) × (promise j force job c s ≡ length s.history)) ⊎ (promise j force job c s ≡ s.promised)

@@ -20,7 +20,8 @@ use Rattle.tpm_keeping.specs.declared.holder.Phase.TheVariants.{Ended, Locking, 
 abbrev Passing : (List ℕ → Bool) → List (List ℕ) → Type 0
 Passing test cs = AllByRecursion (λ c. test c ≡ true) cs
 
--- The command of a call in progress passes the test.
+-- The command of the call passes the test, unless the call has ended or only has to release the
+-- lock.
 abbrev Fair : (List ℕ → Bool) → Phase → List ℕ → Type 0
 Fair test (Ended e) c = Unit {0}
 Fair test (Leaving e) c = Unit {0}
@@ -200,7 +201,7 @@ choice : (test : List ℕ → Bool) (b : Bool) (v w : World) → AllFair test v 
 choice test true v w hv hw = hv
 choice test false v w hv hw = hw
 
--- After a step that does not concern the lock, all commands still pass the test.
+-- After a step that neither takes nor releases the lock, all commands still pass the test.
 moves_fair : (phase : Phase) (effect : Effect) (told : Told) (test : List ℕ → Bool) (j : Journal) (w : World) (p : ℕ) → AllFair test w → (w.holders p).phase ≡ phase
     → Fair test phase (w.holders p).command
     → AllFair test (with_holder (does j phase w.shared (w.holders p) effect) w.holders p (next_in j phase (w.holders p) told))

@@ -1,4 +1,5 @@
--- Lemmas about the steps of a keeper that cuts off damage.
+-- A step of a keeper that cuts off damage is a step of an ordinary keeper, possibly followed by a
+-- request for another call.
 use Rattle.std.proofs.Common.{[], refl, inl, inr}
 use Rattle.tpm_keeping.specs.Cutting.{Caller, IsOrIsAsked, goes_on_in, next_call}
 use Rattle.tpm_keeping.specs.Holder.{Told, next_of}
@@ -12,7 +13,7 @@ use Rattle.tpm_keeping.specs.declared.holder.Job.TheVariants.{Cut}
 use Rattle.tpm_keeping.specs.declared.holder.Phase.{Phase}
 use Rattle.tpm_keeping.specs.declared.holder.Phase.TheVariants.{Ended, Locking, Looking, Reading, Putting, Forcing, Making, Naming, Settling, Leaving}
 
--- if a call ends with this fault, the keeper requests either a cut or nothing more
+-- if a call ends with a fault, either the holder is unchanged, or the keeper requests a cut
 ended_so : (f : Fault) (c : Caller) → IsOrIsAsked c.holder (goes_on_in IsCut (Ended (ending.Failed f)) c).holder
 ended_so fault.Damaged c = inr (Cut, [], refl)
 ended_so fault.Idle c = inl refl

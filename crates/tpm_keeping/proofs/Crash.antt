@@ -105,7 +105,7 @@ left_text j f c count litter laws lives entered ok t le =
       torn = cut.torn;
     }
 
--- the commands that a crash leaves include all whose entries are on the disk
+-- the commands that a crash leaves include all commands whose entries are on the disk
 left_sure : (j : Journal) (head : List ℕ) (start : Spot) (surely rest : List (List ℕ)) (c : Content) (count : ℕ) → c.commands ≡ surely ++ rest
     → length (whole j head start surely) ≤ count → length surely ≤ length (whole_in j start c.commands (count - length head))
 left_sure j head start surely rest c count has le =
@@ -118,7 +118,7 @@ left_sure j head start surely rest c count has le =
 none_in : (j : Journal) (start : Spot) (cs : List (List ℕ)) (count : ℕ) → cs ≡ [] → whole_in j start cs count ≡ []
 none_in j start cs count none = ap (λ (x : List (List ℕ)). whole_in j start x count) none
 
--- the promised commands are among those that a crash leaves
+-- the commands that a crash leaves include all promised commands
 kept_in : (s : Shared) (f : File) (inside surely rest commands : List (List ℕ)) → s.promised ≤ length f.before + length surely
     → commands ≡ surely ++ rest → (0 < f.number → length surely ≤ length inside) → (f.number ≡ 0 → commands ≡ [])
     → s.promised ≤ length f.before + length inside

@@ -67,7 +67,8 @@ acts_heads Show e j s k p n is le = shows_heads e j s k (acts j Show k p) n is l
 acts_heads Begin e j s k p n is le = shows_heads e j s k (acts j Begin k p) n is le
 acts_heads Cut e j s k p n is le = shows_heads e j s k (acts j Cut k p) n is le
 
--- After a holder has read the whole file, it does its job, since the file is a journal.
+-- If n is at least 4 plus the number of unread bytes, a holder that reads on ends its call with the
+-- result `e` within n steps.
 reads_on_heads : (e : End) (j : Journal) (s : Shared) (k : Holder) (n : ℕ) → IsJournal j → Still j s → IsReading j (sight s) k → end_with j k.job k.command ≡ e
     → 4 + (k.size - k.seen) ≤ n → HeadsFor e j s (reads_on j k) n
 reads_on_heads e j s k n laws still r is le = by (is_read k) refl

@@ -1,4 +1,5 @@
--- Lemmas about sequences of entries, and about what is left of them after a truncation.
+-- Executing a sequence of entries yields a valid state. Truncating the sequence leaves complete
+-- entries and possibly a part of one more entry.
 use Rattle.std.proofs.Common.{◌≡◌, ℕ, ◌+◌, ◌-◌, ◌<◌, ◌≤◌, Bool, true, false, List, [], ◌∷◌, ◌++◌, length, take, refl, sym, ap, ◌∙◌, subst, arith, append_assoc, length-append}
 use Rattle.std.specs.Prelude.{nat_le}
 use Rattle.std.proofs.lemmas.Bool.Decides.{nat_tests}
@@ -73,8 +74,8 @@ front_past x y count le =
 front_twice : (n : ℕ) (x : List ℕ) → take n (take n x) ≡ take n x
 front_twice n x = take_all n (take n x) (grind (arith, common_steps))
 
--- The encoding of some entries is truncated, and litter is appended. What is left consists of
--- complete entries and less than one more entry.
+-- If the encoding of some entries is truncated and litter is appended, the result consists of
+-- complete entries and a torn end, which may be empty.
 pub record IsCut (j : Journal) (s : Spot) (cs : List (List ℕ)) (tail : List ℕ) (count : ℕ) (litter : List ℕ) : Type 0 where
   pub left : List ℕ
   pub is : take count (entries j s cs ++ tail) ++ litter ≡ entries j s (whole_in j s cs count) ++ left

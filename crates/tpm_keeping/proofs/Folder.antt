@@ -73,7 +73,8 @@ each_longer j origin history more (a ∷ answers) h = (
 
 -- ---- a put
 
--- Overwriting bytes with the same bytes and further ones only appends the further ones.
+-- If the first n bytes of `same ++ rest` overwrite the start of `same`, the result is `same`,
+-- followed by the part of `rest` that was written.
 again : (same rest : List ℕ) (n : ℕ)
     → take n (same ++ rest) ++ drop (length (take n (same ++ rest))) same ≡ same ++ take (n - length same) rest
 again [] rest n =
@@ -212,7 +213,8 @@ state_lives j s laws still named = trail_lives j s.file.start s.file.now.command
 
 -- ---- the knowledge of other holders
 
--- After a step of another process, everything that a holder knew about the folder still holds.
+-- Everything that a holder knew about the folder `s` also holds for the folder `t`, as it does
+-- after a step of another process.
 pub record Grows (j : Journal) (s t : Shared) : Type 0 where
   pub knows : (force : Force) (file : ℕ) (device : Option Spot) (place : ℕ) (unsure : List ℕ) → file < s.next
       → Knows j s.file force file device place unsure → Knows j t.file force file device place unsure
@@ -223,8 +225,8 @@ pub record Moves (j : Journal) (s t : Shared) : Type 0 where
   pub still : Still j t
   pub grows : Grows j s t
 
--- A holder's position remains correct if at least the bytes that it knows to be synced are still on
--- the disk.
+-- If a file only gains commands and no entry on the disk is lost, a holder's position in the file
+-- remains correct.
 forced_at : (j : Journal) (f g : File) (more : List (List ℕ)) (force : Force) (state : Spot) (place : ℕ) (unsure : List ℕ)
     → g.head ≡ f.head → g.start ≡ f.start → g.now.commands ≡ f.now.commands ++ more → min f.forced (length (body j f)) ≤ g.forced
     → IsAt j f.head f.start f.now.commands f.forced force state place unsure
@@ -316,7 +318,8 @@ put_moves j s k n laws still puts = record {
 
 -- ---- a sync, and dropped bytes
 
--- if only the bytes on the disk changed, the invariant of the folder still holds
+-- if only the record of what is on the disk changes, and no entry on the disk is lost, the
+-- invariant of the folder still holds
 forced_still : (j : Journal) (s : Shared) (forced : ℕ) (past : List Content) (is_dropped : Bool) → Still j s
     → min s.file.forced (length (body j s.file)) ≤ forced → (past ≡ s.file.past) ⊎ (past ≡ [])
     → Still j (record s { file = record s.file { forced = forced; past = past; is_dropped = is_dropped } })
@@ -433,8 +436,8 @@ named_file j origin s k laws fresh enough kept text next lives =
       past = tt;
     }
 
--- appending two lists of commands to the history, one after the other, is appending their
--- concatenation
+-- if two lists of commands are appended to the history, one after the other, the history grows by
+-- their concatenation
 twice_longer : (history some more : List (List ℕ)) → (history ++ some) ++ more ≡ history ++ (some ++ more)
 twice_longer history some more = append_assoc history some more
 

@@ -20,10 +20,11 @@ use Rattle.tpm_keeping.specs.declared.holder.Phase.TheVariants.{Ended, Locking, 
 abbrev pub body : Journal → File → List ℕ
 body j f = whole j f.head f.start f.now.commands
 
--- the position after a file's complete entries, and the state at this position
+-- the position after a file's complete entries
 abbrev pub spot_of : Journal → File → Spot
 spot_of j f = trail j f.start f.now.commands
 
+-- the state after a file's complete entries
 abbrev pub state_of : Journal → File → List ℕ
 state_of j f = (spot_of j f).state
 
@@ -32,8 +33,9 @@ pub record IsText (j : Journal) (head : List ℕ) (start : Spot) (c : Content) :
   pub is : c.text ≡ whole j head start c.commands ++ tail
   pub torn : j.is_torn (trail j start c.commands) tail ≡ true
 
--- What the file contains, or contained earlier: its commands are in the history, and the commands
--- `surely` at its start are certainly on the disk.
+-- A content that the file has or had. Its commands begin with `surely`, and follow `before` in the
+-- history. All of them have entries. If the file exists, the content's bytes are the head, these
+-- entries, and a torn end, which may be empty.
 pub record IsContent (j : Journal) (head : List ℕ) (start : Spot) (number : ℕ) (history before surely : List (List ℕ)) (c : Content) : Type 0 where
   pub rest : List (List ℕ)
   pub has : c.commands ≡ surely ++ rest
@@ -43,14 +45,16 @@ pub record IsContent (j : Journal) (head : List ℕ) (start : Spot) (number : �
   pub text : 0 < number → IsText j head start c
   pub empty : number ≡ 0 → c.commands ≡ []
 
--- The state that a file's head restores is the one reached by all commands before the file's first
--- entry.
+-- A file's head decodes to the position `start`. The state at this position is valid, and is the
+-- result of executing the commands `before`, which precede the file's first entry.
 pub record IsHeaded (j : Journal) (origin head : List ℕ) (start : Spot) (before : List (List ℕ)) : Type 0 where
   pub after : j.after_head head ≡ Some start
   pub lives : j.is_state start.state ≡ true
   pub state : start.state ≡ run j origin before
 
--- Whatever a crash leaves of the file is a journal that contains all promised commands.
+-- The invariant of a file: whatever a crash leaves of the file is a journal that contains all
+-- promised commands. The entries of `surely` are on the disk, and each promised command is in
+-- `before` or `surely`.
 pub record IsFile (j : Journal) (origin : List ℕ) (history : List (List ℕ)) (promised : ℕ) (lasting : Bool) (next : ℕ) (f : File) : Type 0 where
   pub surely : List (List ℕ)
   pub enough : 0 < f.number → length (whole j f.head f.start surely) ≤ f.forced
@@ -80,7 +84,7 @@ pub record Still (j : Journal) (s : Shared) : Type 0 where
 
 -- ---- one holder
 
--- the part of the folder on which a holder depends
+-- the part of the folder on which the invariant of a holder depends
 pub record Sight : Type 0 where
   pub origin : List ℕ
   pub file : File
@@ -103,9 +107,9 @@ sight s = record {
   answers = s.answers;
 }
 
--- The holder's device has executed some of the commands, from the first one on, up to the offset
--- `place` in the file. If the holder syncs before each response, the bytes that it knows to be
--- synced are on the disk.
+-- The holder's device has executed the commands `done`, whose entries are the first in the file and
+-- end at the offset `place`. If the holder syncs before each response, all executed bytes except
+-- `unsure` are on the disk.
 pub record IsAt (j : Journal) (head : List ℕ) (start : Spot) (cs : List (List ℕ)) (forced : ℕ) (force : Force) (spot : Spot) (place : ℕ) (unsure : List ℕ) : Type 0 where
   pub done : List (List ℕ)
   pub ahead : List (List ℕ)
@@ -116,8 +120,8 @@ pub record IsAt (j : Journal) (head : List ℕ) (start : Spot) (cs : List (List 
   pub reached : place ≡ length (whole j head start done)
   pub sure : is_always force ≡ true → length front ≤ forced
 
--- If the journal is still the file that a holder has read, the device in the holder's memory is the
--- one that the file's entries produce, up to the executed offset.
+-- If the holder has a device, and the file from which it was read is still the journal, then `IsAt`
+-- holds for this device. If the holder has no device, it has executed no bytes.
 pub record Knows (j : Journal) (f : File) (force : Force) (file : ℕ) (device : Option Spot) (place : ℕ) (unsure : List ℕ) : Type 0 where
   pub at : (s : Spot) → device ≡ Some s → file ≡ f.number
       → IsAt j f.head f.start f.now.commands f.forced force s place unsure
@@ -126,7 +130,8 @@ pub record Knows (j : Journal) (f : File) (force : Force) (file : ℕ) (device :
 abbrev pub KnowsOf : Journal → Sight → Holder → Type 0
 KnowsOf j v k = Knows j v.file k.force k.file k.device k.place k.unsure
 
--- The holder has executed the whole file.
+-- The holder has executed all complete entries of the journal. If it syncs before each response,
+-- all these bytes except `unsure` are on the disk.
 pub record HasAll (j : Journal) (f : File) (force : Force) (file place : ℕ) (unsure : List ℕ) : Type 0 where
   pub same : file ≡ f.number
   pub named : 0 < f.number
@@ -135,14 +140,15 @@ pub record HasAll (j : Journal) (f : File) (force : Force) (file place : ℕ) (u
   pub reached : place ≡ length (body j f)
   pub sure : is_always force ≡ true → length front ≤ f.forced
 
--- This is the correct response to the job in this state.
+-- This is the correct response to the job in this state. Only `Execute` and `Show` require a
+-- particular response.
 abbrev pub Gives : Job → Journal → (state command response : List ℕ) → Type 0
 Gives Execute j state c response = response ≡ j.response state c
 Gives Show j state c response = response ≡ j.head state
 Gives job j state c response = Unit {0}
 
--- The command is the last one of the history, and this is its response, which has not been sent
--- yet.
+-- `command` is the last command of the history, and `response` is the device's response to it. No
+-- response at this position has been sent yet.
 pub record IsLast (j : Journal) (origin : List ℕ) (history : List (List ℕ)) (answers : List Answer) (command response : List ℕ) : Type 0 where
   pub before : List (List ℕ)
   pub is : history ≡ before ++ command ∷ []
@@ -154,7 +160,8 @@ LastIf Execute j origin history answers c response = IsLast j origin history ans
 LastIf Show j origin history answers c response = response ≡ j.head (run j origin history)
 LastIf job j origin history answers c response = Unit {0}
 
--- The bytes that the holder has read are those of the file after the executed part.
+-- The holder has read the bytes of the journal from the end of the executed part up to the offset
+-- `seen`.
 pub record IsReading (j : Journal) (v : Sight) (k : Holder) : Type 0 where
   pub knows : KnowsOf j v k
   pub same : k.file ≡ v.file.number
@@ -179,8 +186,9 @@ pub record Puts (j : Journal) (f : File) (job : Job) (k : Holder) : Type 0 where
   pub out : k.out ≡ k.unsure ++ entries j (spot_of j f) (adds j job k.command)
   pub gives : Gives job j (state_of j f) k.command k.response
 
--- The holder has executed the whole file. If its job executed a command, that command is the last
--- one of the history.
+-- The holder has executed all complete entries of the journal. If its job is `Execute`, its command
+-- is the last command of the history. If its job is `Show`, its response is the head for the
+-- current state.
 pub record Stays (j : Journal) (origin : List ℕ) (f : File) (history : List (List ℕ)) (answers : List Answer) (force : Force) (file : ℕ) (device : Option Spot) (place : ℕ) (unsure : List ℕ) (job : Job) (command response : List ℕ) : Type 0 where
   pub all : HasAll j f force file place unsure
   pub has : device ≡ Some (spot_of j f)
@@ -189,18 +197,18 @@ pub record Stays (j : Journal) (origin : List ℕ) (f : File) (history : List (L
 abbrev pub StaysOf : Journal → Sight → Holder → Type 0
 StaysOf j v k = Stays j v.origin v.file v.history v.answers k.force k.file k.device k.place k.unsure k.job k.command k.response
 
--- the encoding of a journal that begins in a state, followed by the entries of commands
+-- the bytes of a journal that begins in a state and contains the entries of these commands
 abbrev pub begun : Journal → List ℕ → List (List ℕ) → List ℕ
 begun j state cs = whole j (j.head state) (started j state) cs
 
--- The holder replaces the existing journal with a new one.
+-- A journal exists, and the holder's output is a new journal that replaces it.
 pub record Follows (j : Journal) (f : File) (job : Job) (command : List ℕ) (device : Option Spot) (out response : List ℕ) : Type 0 where
   pub named : 0 < f.number
   pub has : device ≡ Some (trail j (started j (run j (state_of j f) (leads j job command))) (adds j job command))
   pub text : out ≡ begun j (run j (state_of j f) (leads j job command)) (adds j job command)
   pub gives : Gives job j (state_of j f) command response
 
--- The holder begins the first journal.
+-- No journal exists, and the holder's output is the head of the first journal.
 pub record Founds (j : Journal) (f : File) (job : Job) (device : Option Spot) (out : List ℕ) : Type 0 where
   pub unnamed : f.number ≡ 0
   pub is : job ≡ Begin
@@ -213,7 +221,8 @@ abbrev pub Makes : Journal → Sight → Holder → Type 0
 Makes j v k =
     Follows j v.file k.job k.command k.device k.out k.response ⊎ Founds j v.file k.job k.device k.out
 
--- all entries of the file are on the disk
+-- All complete entries of the file are on the disk, and a crash leaves no earlier content of the
+-- file.
 pub record IsForced (j : Journal) (f : File) : Type 0 where
   pub all : length (body j f) ≤ f.forced
   pub past : f.past ≡ []
@@ -243,8 +252,8 @@ holds (Ended e) = false
 holds Locking = false
 holds phase = true
 
--- If the folder was synced since the holder opened the file, a crash cannot give the journal's name
--- back to an earlier file.
+-- Suppose that the folder was synced since the holder opened this file, and that the file is still
+-- the journal. Then a crash cannot give the journal's name back to an earlier file.
 abbrev pub Calm : Sight → (settled : Bool) → (file : ℕ) → Type 0
 Calm v settled file = settled ≡ true → file ≡ v.file.number → v.older ≡ []
 

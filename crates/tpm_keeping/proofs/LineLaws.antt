@@ -89,7 +89,7 @@ first_line (suc (suc b) ∷ text) s rest is =
     let part = with_first_is b (line_at text) s rest is in
     ap (λ (x : List ℕ). suc (suc b) ∷ x) (first_line text part.0 rest part.2) ∙ ap (λ (x : List ℕ). line x ++ rest) (sym part.1)
 
--- a head is the line whose content is its state
+-- if bytes decode as a head, they are a single line, and its content is the state
 head_is : (o : Option (List ℕ × List ℕ)) (p : Spot) → headed_by o ≡ Some p → (o ≡ Some (p.state, [])) × (spot_at 0 p.state ≡ p)
 head_is None p is = absurd cc
 head_is (Some found) p is = by found.1 refl is

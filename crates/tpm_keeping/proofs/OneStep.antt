@@ -1,5 +1,5 @@
--- Each step of a holder preserves the invariant of the folder and of all holders, whether the step
--- is done, fails or is interrupted by the holder's death.
+-- Each step of a holder preserves the invariant of the folder and of all holders. The step may be
+-- done, may fail, or may be interrupted by the holder's death.
 use Rattle.std.proofs.Common.{◌≡◌, ℕ, zero, suc, ◌+◌, ◌<◌, ◌≤◌, ◌==◌, ◌&&◌, Bool, true, false, cond, List, [], ◌∷◌, ◌++◌, length, take, drop, min, Some, None, Option, refl, sym, ap, ◌∙◌, subst, arith, inl, inr, append_assoc, length-append}
 use Rattle.std.specs.List.{AllByRecursion}
 use Rattle.std.specs.Prelude.{nat_le}
@@ -185,7 +185,7 @@ looks_fits j s p k more laws still lock below calm knows = by (s.file.number == 
 
 -- ---- reading
 
--- the holder after it read these further bytes
+-- the holder after it has read these additional bytes
 abbrev pub more_read : Holder → List ℕ → Holder
 more_read k bytes = record k { seen = k.seen + length bytes; read = k.read ++ bytes }
 
@@ -227,8 +227,8 @@ has_read_fits j s p k (b ∷ bs) n laws still lock below calm r is =
 
 -- ---- putting
 
--- The position of every response is within the history. Therefore, a command that is appended next
--- has a later position.
+-- Every response that is not gone has a position within the history. Therefore, a command that is
+-- appended next has a later position.
 each_before : (j : Journal) (origin : List ℕ) (history : List (List ℕ)) (answers : List Answer) (n : ℕ) → length history < n → Each j origin history answers
     → AllByRecursion (λ a. a.is_gone ≡ false → a.place < n) answers
 each_before j origin history [] n le h = tt
@@ -289,7 +289,8 @@ put_all j s k t new false word a out number text forced' =
       sure = λ always. absurd (let e : false ≡ true = sym word ∙ always in cc);
     }
 
--- after a complete write, no bytes are dropped
+-- after a complete write by a holder that syncs before each response, no dropped bytes are missing
+-- from the file
 undropped : (s : Shared) (k : Holder) → (is_always k.force ≡ true → sure k ≤ s.file.forced) → is_always k.force ≡ true → put_dropped s.file k (length k.out) ≡ false
 undropped s k le word =
     let low = le word in
@@ -374,7 +375,8 @@ forced_fits j s p k still lock below calm stays none =
 
 -- ---- naming
 
--- The command after which the new journal begins is the last one of the history.
+-- If the job executed a command, this command is the last command of the history after the new
+-- journal gets its name.
 last_named : (job : Job) (j : Journal) (s : Shared) (c response : List ℕ) → Still j s → 0 < s.file.number → Gives job j (state_of j s.file) c response
     → LastIf job j s.origin ((s.history ++ leads j job c) ++ adds j job c) s.answers c response
 last_named Execute j s c response still named gives = by (j.is_entered c)

@@ -1,4 +1,4 @@
--- Whatever a holder knew about the file, it then reads the file to its end.
+-- Whatever a holder knew about the file before, it reads the file to its end.
 use Rattle.std.proofs.Common.{◌≡◌, ℕ, ◌+◌, ◌<◌, ◌≤◌, ◌||◌, Bool, true, false, cond, List, [], ◌∷◌, ◌++◌, length, take, drop, Some, None, Option, refl, sym, ap, ◌∙◌, subst, arith, inl, append_assoc, length-append}
 use Rattle.std.proofs.lemmas.Bool.Decides.{nat_tests}
 use Rattle.std.proofs.lemmas.List.{append-nil, drop_at, length-drop, take_all, take_at}
@@ -22,8 +22,8 @@ pub record IsCaughtUp (j : Journal) (s : Shared) (k : Holder) : Type 0 where
   pub is : found j k.device k.read ≡ Some (spot_of j s.file, taken)
   pub all : HasAll j s.file k.force k.file (k.place + taken) (cond (is_always k.force) (k.unsure ++ take taken k.read) [])
 
--- After a holder has read the file, it remembers the bytes that it does not know to be synced, if
--- its `force` setting requires this.
+-- A holder that has executed the whole file remembers the bytes that it does not know to be synced
+-- only if it syncs before each response.
 unsure_by : (j : Journal) (s : Shared) (k : Holder) (place : ℕ) (front unsure : List ℕ) (b : Bool) → is_always k.force ≡ b
     → k.file ≡ s.file.number → 0 < s.file.number → body j s.file ≡ front ++ unsure → place ≡ length (body j s.file)
     → (is_always k.force ≡ true → length front ≤ s.file.forced)
@@ -103,8 +103,8 @@ caught j s k laws still knows same named read = by k.device refl
 
 -- ---- then the holder does its job
 
--- if the folder is not yet synced and the `force` setting requires it, syncing the folder is the
--- next step
+-- when a holder that has done all work on the file goes to the next phase, `settles k`, its
+-- invariant still holds
 pub settles_fits : (j : Journal) (s : Shared) (p : ℕ) (k : Holder) → (s.locked ≡ true) × (s.locker ≡ p) → k.file < s.next → Calm (sight s) k.settled k.file
     → StaysOf j (sight s) k → (promises j k.force k.job k.command ≡ true → IsForced j s.file) → Fits j s p (goes (settles k) k)
 settles_fits j s p k lock below calm stays forced = by k.settled refl (is_never k.force) refl
@@ -164,7 +164,8 @@ shows_fits j s p k response job is quiet none lock below calm all last gives = b
         settles_fits j s p new lock below calm stays
         (λ yes'. absurd (quietly j k.force job k.command quiet word (subst (λ (x : Job). promises j k.force x k.command ≡ true) is yes')))
 
--- the device in the holder's memory is the one that the file's entries produce
+-- if a holder has executed the whole file, and its device has the state after the file's entries,
+-- then `KnowsOf` holds for the holder
 pub has_all_knows : (j : Journal) (s : Shared) (k : Holder) → HasAll j s.file k.force k.file k.place k.unsure → k.device ≡ Some (spot_of j s.file) → KnowsOf j (sight s) k
 has_all_knows j s k all has = record {
   at = λ d is _. record {

@@ -14,12 +14,14 @@ use Rattle.tpm_keeping.specs.declared.holder.Job.TheVariants.{Show, Cut}
 use Rattle.tpm_keeping.specs.declared.holder.Phase.{Phase}
 use Rattle.tpm_keeping.specs.declared.holder.Phase.TheVariants.{Ended}
 
--- A holder, what happens if its call finds damage, and the call to begin again after a cut. If
--- damage is not cut off, the command of that call is not stored.
+-- A holder, and the call that begins again after a cut.
 pub record Caller : Type 0 where
   pub holder : Holder
+  -- what happens if the call finds damage
   pub on_damage : OnDamage
+  -- the job with which the call begins again after a cut
   pub job : Job
+  -- the command with which the call begins again after a cut; empty unless damage is to be cut off
   pub command : List ℕ
 
 abbrev pub caller_of : {D : Type 0} → (D → Spot) → CuttingKeeper D → Caller

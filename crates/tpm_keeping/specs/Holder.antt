@@ -14,23 +14,27 @@ use Rattle.tpm_keeping.specs.declared.holder.Phase.{Phase}
 use Rattle.tpm_keeping.specs.declared.holder.Phase.TheVariants.{Ended, Locking, Looking, Reading, Putting, Forcing, Making, Naming, Settling, Leaving}
 
 pub record Holder : Type 0 where
-  -- when the holder syncs, and the minimum size at which it may restart a journal
+  -- when the holder syncs
   pub force : Force
+  -- the minimum size at which the holder may restart a journal
   pub limit : ℕ
   pub phase : Phase
   pub job : Job
   pub command : List ℕ
-  -- the position of the device in memory, the number of the file from which the device was read,
-  -- and the number of this file's bytes that the device executed
+  -- the position of the device in memory, or None if no device is in memory
   pub device : Option Spot
+  -- the number of the file from which the device was read
   pub file : ℕ
+  -- the number of this file's bytes that the device has executed
   pub place : ℕ
-  -- the executed bytes at the end that the holder does not know to be synced
+  -- the last executed bytes, if the holder does not know them to be synced. Only a holder that
+  -- syncs before each response stores these bytes
   pub unsure : List ℕ
-  -- the size of the file, the offset up to which it was read, and the bytes that were read but not
-  -- executed yet
+  -- the size of the file
   pub size : ℕ
+  -- the offset up to which the file was read
   pub seen : ℕ
+  -- the bytes that were read but not executed yet
   pub read : List ℕ
   -- whether the folder was synced since the file was opened
   pub settled : Bool
@@ -251,7 +255,7 @@ looked j k file size =
       size = size;
     }))
 
--- the holder if there is no journal: it begins one if that is its job; otherwise, it fails
+-- the holder if there is no journal: it begins a journal if that is its job; otherwise, it fails
 abbrev pub begins_of : Journal → Holder → Option (List ℕ) → Holder
 begins_of j k None = dropped fault.Unreadable k
 begins_of j k (Some s) = renews j (record k { place = 0 }) s []

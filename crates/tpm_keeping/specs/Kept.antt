@@ -12,8 +12,8 @@ use Rattle.tpm_keeping.specs.declared.holder.End.TheVariants as ending
 use Rattle.tpm_keeping.specs.declared.holder.Phase.{Phase}
 use Rattle.tpm_keeping.specs.declared.holder.Phase.TheVariants.{Ended, Locking, Looking, Reading, Putting, Forcing, Making, Naming, Settling, Leaving}
 
--- The command of a response is in the history at its position, and the response is that of the
--- device that executed all commands before it.
+-- The history has the command of a response at the response's position. The device that executed
+-- all commands before this position returns this response.
 pub record IsTrue (j : Journal) (origin : List ℕ) (history : List (List ℕ)) (a : Answer)
     : Type 0 where
   pub before : List (List ℕ)
@@ -35,12 +35,13 @@ pub record IsKept (j : Journal) (w : Shared) : Type 0 where
   pub opens : 0 < w.file.number
       → (p : Spot) × (taken : ℕ) × (j.opened w.file.now.text ≡ Some (p, taken))
       × (p.state ≡ run j w.origin w.history)
-  -- the history contains the command of each response that is not gone, at a position of its own,
-  -- and the response is that of the device
+  -- if a response is not gone, its command is in the history at its own position, and the response
+  -- is the device's response to this command
   pub each : AllByRecursion (λ a. a.is_gone ≡ false → IsTrue j w.origin w.history a) w.answers
+  -- the positions of the responses that are not gone ascend
   pub once : Ascend w.answers
-  -- the responses of holders with `force=always` are not gone, whatever the words of force of other
-  -- holders, and their commands are promised
+  -- no response of a holder with `force=always` is gone, and the command of each such response is
+  -- promised. The `force` settings of other holders do not matter
   pub always : AllByRecursion
       (λ a. is_always a.force ≡ true → (a.is_gone ≡ false) × (a.place ≤ w.promised))
       w.answers
@@ -105,13 +106,14 @@ HasEnded w p e = ((w.holders p).phase ≡ Ended e) × (w.shared.locked ≡ false
 
 -- ---- a cut
 
--- the bytes of the file that a holder has read but not executed, including those that the host now
--- reports
+-- the bytes of the file that a holder has read but not executed, including the bytes that the host
+-- now reports
 abbrev pub text_read : Phase → Holder → Told → List ℕ
 text_read Reading k (Bytes bytes) = k.read ++ bytes
 text_read phase k told = []
 
--- A prefix of these bytes opens in some state, and the holder has to write the head of that state.
+-- The first `place` of these bytes open in some state, and the holder has to write the head of that
+-- state.
 pub record KeepsFront (j : Journal) (text : List ℕ) (k : Holder) : Type 0 where
   pub spot : Spot
   pub is : j.opened (take k.place text) ≡ Some (spot, k.place)

@@ -43,7 +43,7 @@ opened_by (Some found) =
       suc (length found.0) + (walk found.0 [] 0 0 found.1).1,
     )
 
--- a head is a line with nothing after it
+-- the position with this state, if no bytes are left: a head is a line with nothing after it
 abbrev pub spot_if_all : (state rest : List ℕ) → Option Spot
 spot_if_all state [] = Some (spot_at 0 state)
 spot_if_all state (b ∷ rest) = None

@@ -19,17 +19,23 @@
 -- makes another process do this: it takes the lock next and dies after truncating the file (`Dies p
 -- (Part 0)`).
 --
--- The model leaves out: what processes read after a failed sync, if the system then shows older
--- bytes (a holder opens the file again if it is shorter, and does not notice other bytes in their
--- place); a write that left a whole entry, was reported as failed, and is cut back; a crash that
--- mixes blocks of two contents; a disk that reports a sync that it did not do; file systems that
--- lose bytes of a file and keep later ones, as ext4 and XFS may, or undo one of two renames; a
--- folder whose sync fails and then succeeds without the rename; a torn sector over bytes that were
--- synced before; the folder's own name in its parent, which hosts sync with the folder; the
--- finished journals, which hosts link before a rename; the content of a command, such as its
--- time and its random bytes; network file systems, on which locks and renames are seen late; two
--- hosts on one folder; the removal of the lock's file while a holder has the lock; and anybody else
--- who writes to the folder.
+-- The model leaves out:
+-- - What processes read after a failed sync, if the system then shows older bytes. A holder opens
+--   the file again if it is shorter, but does not notice other bytes in the same place.
+-- - A write that left a whole entry, was reported as failed, and is cut back.
+-- - A crash that mixes blocks of two contents.
+-- - A disk that reports a sync that it did not do.
+-- - A file system that loses bytes of a file and keeps later bytes, as ext4 and XFS may.
+-- - A file system that undoes one of two renames.
+-- - A folder whose sync fails and then succeeds without the rename.
+-- - A torn sector over bytes that were synced before.
+-- - The folder's own name in its parent, which hosts sync with the folder.
+-- - The finished journals, which hosts link before a rename.
+-- - The content of a command, such as its time and its random bytes.
+-- - Network file systems, on which locks and renames are seen late.
+-- - Two hosts on one folder.
+-- - The removal of the lock's file while a holder has the lock.
+-- - Anybody else who writes to the folder.
 use Rattle.std.specs.Prelude.{◌≡◌, ℕ, zero, suc, ◌+◌, ◌-◌, ◌<◌, ◌≤◌, ◌==◌, ◌&&◌, Bool, true, false, cond, List, [], ◌∷◌, ◌++◌, drop, length, max, min, nat_le, take, Option, Some, None}
 use Rattle.tpm_keeping.specs.Journal.{Entered, Journal, Spot, entries, run, started, trail, whole_in}
 use Rattle.tpm_keeping.specs.Holder.{Holder, Told, Done, Stands, Gone, Bytes, Failed, Starved, asked, is_never, newborn, next_in, rests, sure}
@@ -53,8 +59,9 @@ pub record Content : Type 0 where
 -- A file. Its number is 0 if there is no file, and no two files ever have the same number.
 pub record File : Type 0 where
   pub number : ℕ
-  -- the file's head, and the position after the head
+  -- the file's head
   pub head : List ℕ
+  -- the position after the head
   pub start : Spot
   -- the commands that were executed before the file's first entry
   pub before : List (List ℕ)
@@ -81,15 +88,15 @@ pub record Answer : Type 0 where
 pub record Shared : Type 0 where
   -- the state in which the first journal began
   pub origin : List ℕ
-  -- the file that is named `journal`, and the files that had this name since the folder was last
-  -- synced
+  -- the file that is named `journal`
   pub file : File
+  -- the files that had this name since the folder was last synced
   pub older : List File
   -- the number of the next file that is created
   pub next : ℕ
-  -- the bytes of the new file that has no name yet, and the number of these bytes that are on the
-  -- disk
+  -- the bytes of the new file that is not named `journal` yet
   pub fresh : List ℕ
+  -- the number of the new file's bytes that are on the disk
   pub fresh_forced : ℕ
   pub locked : Bool
   pub locker : ℕ
@@ -115,7 +122,7 @@ pub data Effect : Type 0 where
 
 -- Everything that may happen. `p` is the process that does it.
 pub data Event : Type 0 where
-  -- the process begins, with its own `force` setting
+  -- the process begins; `force` and `limit` are its own settings
   Starts : (p : ℕ) → (force : Force) → (limit : ℕ) → Event
   Asks : (p : ℕ) → (job : Job) → (command : List ℕ) → Event
   -- the process does its task; a read returns one byte, and at most `more` further bytes
@@ -133,13 +140,13 @@ with_holder s holders p k = record { shared = s; holders = λ q. cond (q == p) k
 
 -- ---- what a process does
 
--- the bytes after further bytes were written at an offset; these replace old bytes, and may extend
--- the list
+-- the bytes after a write at an offset. The written bytes replace old bytes, and may extend the
+-- list
 abbrev pub written : (text : List ℕ) → (at : ℕ) → (bytes : List ℕ) → List ℕ
 written text at bytes = take at text ++ (bytes ++ drop (at + length bytes) text)
 
--- the job's command, if it gets an entry in the old or the new journal (`adds`), or if it has no
--- entry and a new journal begins after it (`leads`)
+-- `adds` is the job's command if the command has an entry. `leads` is the job's command if it has
+-- no entry, so that a new journal begins after it
 abbrev pub adds : Journal → Job → List ℕ → List (List ℕ)
 adds j Execute c = cond (j.is_entered c) (c ∷ []) []
 adds j job c = []
@@ -153,8 +160,8 @@ leads j job c = []
 abbrev pub put_more : Journal → Holder → (count : ℕ) → List (List ℕ)
 put_more j k count = cond (nat_le (length k.out) count) (adds j k.job k.command) []
 
--- whether dropped bytes are still missing from the file after a write; none are if everything was
--- written, starting within the synced bytes
+-- whether dropped bytes are still missing from the file after a write. No bytes are missing if the
+-- whole output was written, starting within the synced bytes
 abbrev pub put_dropped : File → Holder → (count : ℕ) → Bool
 put_dropped f k count =
     cond (nat_le (length k.out) count && nat_le (sure k) (min f.forced k.place)) false f.is_dropped
@@ -197,7 +204,7 @@ abbrev pub lost : Shared → Shared
 lost s = record s { file = record s.file { is_dropped = true } }
 
 -- the state of a holder's device. When the first file gets the journal's name, the history begins
--- in the state of the holder that wrote the file
+-- in the state of the writer's device
 abbrev pub state_in : Option Spot → List ℕ
 state_in None = []
 state_in (Some p) = p.state
@@ -275,7 +282,8 @@ promise j Power Execute c s = cond (j.is_entered c) s.promised (length s.history
 promise j Power Renew c s = length s.history
 promise j force job c s = s.promised
 
--- the folder after a holder releases the lock
+-- the folder after a call ends and its holder releases the lock. If the call succeeded, its promise
+-- is made, and the response of a command is sent
 abbrev pub left : Journal → End → Shared → Holder → Shared
 left j ending.Done s k = record s {
   locked = false;
@@ -398,7 +406,7 @@ abbrev pub happen : Journal → List Event → World → World
 happen j [] w = w
 happen j (e ∷ es) w = happen j es (happens j w e)
 
--- There is a synced journal, with complete entries and possibly the remains of one more.
+-- The file is a synced journal with complete entries, and possibly the remains of one more entry.
 pub record IsFound (j : Journal) (f : File) : Type 0 where
   pub after : j.after_head f.head ≡ Some f.start
   pub lives : j.is_state f.start.state ≡ true

@@ -23,7 +23,7 @@ pub enum OnDamage {
     BeginsAgain,
 }
 
-/// A keeper, and the call to begin again after a cut.
+/// A keeper, and the call that begins again after a cut.
 #[derive(Drop)]
 pub struct CuttingKeeper<D: Device> {
     pub(crate) keeper: Keeper<D>,
@@ -78,7 +78,7 @@ impl<D: Device> CuttingKeeper<D> {
         self.keeper.ask()
     }
 
-    /// Returns the keeper's current or last job: the job of the call, or the cut of the damage.
+    /// Returns the keeper's current or last job, which is the job of the call or a cut.
     pub fn job(&self) -> Job
         ensures { result ≡ (caller_of D.spot self.now).holder.job }
     {

@@ -1,4 +1,4 @@
-//! What a keeper requires of its device, and of the device's journal.
+//! Defines what a keeper requires of its device and of the device's journal.
 
 ghost use Rattle.std.specs.Prelude.{◌≡◌, ◌++◌, ℕ, List, IfOk, OnOk, false, true};
 ghost use Rattle.std.specs.Option.{MatchOption};

@@ -1,10 +1,10 @@
-//! The jobs and phases of a holder, and the reasons why its calls fail.
+//! Defines the jobs and phases of a holder, and the reasons why its calls fail.
 
 ghost use Rattle.std.specs.Prelude.{◌≡◌};
 ghost use Rattle.tpm_keeping.specs.Holder.{fault_of};
 ghost use Rattle.tpm_keeping.specs.Sentence.{sentence};
 
-/// A holder's `force` setting, its word of force: when it syncs its writes to the disk.
+/// When a holder syncs its writes to the disk: its `force` setting, also called its word of force.
 #[derive(Clone, Copy, PartialEq, Eq)]
 pub enum Force {
     /// Only when the holder writes a new journal.
@@ -19,14 +19,14 @@ pub enum Force {
 #[derive(Clone, Copy, PartialEq, Eq)]
 pub enum Job {
     /// Execute a command. Its entry is appended to the journal, or begins a new journal if the old
-    /// one has grown. After a command without an entry, such as a power cycle or restoring a
+    /// journal has grown. After a command without an entry, such as a power cycle or restoring a
     /// snapshot, a new journal begins in the state after it.
     Execute,
     /// Restart the journal in the same state: a checkpoint.
     Renew,
     /// Return the encoded state: a snapshot.
     Show,
-    /// Make sure that there is a device: open it, or create one from a seed.
+    /// Make sure that there is a device: open it, or create it from a seed.
     Begin,
     /// Make sure that there is a device. If the journal is damaged, begin a new journal in the
     /// state after its undamaged beginning. If a device is in memory and its file is damaged, the
@@ -68,9 +68,9 @@ pub enum Fault {
 }
 
 impl Fault {
-    /// Returns the message for the fault, to be written after a path: the lock's path for `Lock`,
-    /// the new journal's for `Make` and `Name`, the folder's for `Settle`, and the journal's for
-    /// all others.
+    /// Returns the message for the fault, to be written after a path. The path is the lock's for
+    /// `Lock`, the new journal's for `Make` and `Name`, the folder's for `Settle`, and the
+    /// journal's for all other faults.
     pub fn sentence(self) -> &'static str
         ensures { result.now ≡ sentence self }
     {
@@ -109,7 +109,7 @@ pub enum Phase {
     Locking,
     /// Report which file is the journal.
     Looking,
-    /// Read the bytes after those already read.
+    /// Read the next bytes of the file.
     Reading,
     /// Write the holder's output to the file.
     Putting,

@@ -1,4 +1,4 @@
-//! What holds after every run of all holders.
+//! States what holds after every run of all holders.
 
 ghost use Rattle.std.specs.Prelude.{◌≡◌, ◌+◌, ◌<◌, ◌≤◌, ◌∷◌, ℕ, Bool, List, None, false, length, true};
 ghost use Rattle.std.specs.List.{AllByRecursion};
@@ -18,9 +18,9 @@ ghost use Rattle.tpm_keeping.specs.declared.holder.Job.TheVariants.{Cut, Show};
 ghost use Rattle.tpm_keeping.specs.declared.holder.Phase.TheVariants.{Ended, Leaving, Making};
 
 /// Whatever the holders of one device are asked to do, wherever each is killed, whatever fails and
-/// whenever the host crashes: the journal opens as the device that executed the history. Each
-/// response whose command no crash removed is that of this device, and no crash removes what a
-/// holder promised because of its `force` setting.
+/// whenever the host crashes: the journal opens as the device that executed the history. If no
+/// crash removed the command of a response, this device returns the same response. No crash removes
+/// what a holder promised because of its `force` setting.
 pub fn kept_through_crashes()
     ensures { (j : Journal) (start : World) (events : List Event)
         → IsJournal j → IsStart j start → IsKept j (happen j events start).shared }

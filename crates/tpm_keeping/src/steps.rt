@@ -16,8 +16,8 @@ use crate::keeper::Keeper;
 use std::mem;
 
 impl<D: Device> Keeper<D> {
-    /// Continues with the file that is now the journal. Forgets the device if this is another file
-    /// than before, or has become shorter.
+    /// Continues with the file that is now the journal. Forgets the device if this is a different
+    /// file, or if the file no longer has all bytes that the device executed.
     pub(crate) fn looked(&mut self, file: u64, size: u64) -> Result<(), Exhausted>
         ensures ok { OnOk result (holder_of D.spot self.new
             ≡ looked D.journal (holder_of D.spot self.old) file size) }
@@ -110,8 +110,9 @@ impl<D: Device> Keeper<D> {
         self.acts(device)
     }
 
-    /// Handles damage in the bytes that were read, which are the whole file. A cut continues with
-    /// the device of the undamaged beginning, in a new journal.
+    /// Handles damage in the bytes that were read, which are the whole file. A cut begins a new
+    /// journal in the state after the undamaged beginning, if there is one. Otherwise the call
+    /// fails.
     fn salvages(&mut self) -> Result<(), Exhausted>
         ensures ok { OnOk result (holder_of D.spot self.new ≡ salvages D.journal self.old.job None
             (holder_of D.spot self.old)) }
@@ -132,8 +133,8 @@ impl<D: Device> Keeper<D> {
         self.renews(device)
     }
 
-    /// Records that the first `taken` bytes of those read are executed. A holder that syncs before
-    /// each response remembers them, because it does not know them to be synced.
+    /// Records that the first `taken` of the bytes that were read are executed. A holder that syncs
+    /// before each response remembers these bytes, because it does not know them to be synced.
     fn caught_up(&mut self, taken: usize) -> Result<(), Exhausted>
         ensures ok { OnOk result (holder_of D.spot self.new
             ≡ caught_up (holder_of D.spot self.old) taken) }
@@ -176,7 +177,7 @@ impl<D: Device> Keeper<D> {
         }
     }
 
-    /// Executes the command, or refuses bytes that do not encode one.
+    /// Executes the command, or refuses bytes that do not encode a command.
     fn executes(&mut self, device: D) -> Result<(), Exhausted>
         requires out { self.old.out.items ≡ [] }
         requires response { self.old.response.items ≡ [] }

@@ -120,8 +120,8 @@ fn without_a_journal_only_begin_is_done(rt: HostRuntime) {
     check(&rt, &mut folder, &mut never, Job::Begin, b"LKMNU", b"h");
 }
 
-// Each holder reads what others added. Only the holder that syncs before each response writes the
-// bytes again that it does not know to be synced, which leaves the file unchanged.
+// Each holder reads what the other holders added. The holder that syncs before each response cannot
+// know that these bytes were synced, so it writes the same bytes again. No other holder does so.
 #[test]
 fn holders_of_each_word_take_turns(rt: HostRuntime) {
     let mut folder = Folder::new(rt.alloc());

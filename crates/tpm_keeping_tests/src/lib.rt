@@ -1,7 +1,7 @@
 #![tactic(auto)]
 
-//! Tests of the keeper of a device for what no clause says: that each call can succeed, and which
-//! tasks it requests.
+//! Tests of the keeper of a device, for behaviour that no contract covers: each call can succeed,
+//! and requests the expected tasks.
 //!
 //! The crate uses `tpm_keeping`, and no crate uses it.
 

@@ -1,4 +1,4 @@
--- The size of the entries at the start of a list of bytes.
+-- Lemmas about the size of the entries at the start of a list of bytes.
 use Rattle.std.proofs.Common.{◌≡◌, ◌≤◌, ◌<◌, ◌+◌, ℕ, List, [], ◌∷◌, ◌++◌, ◌⊎◌, inl, inr, length, drop, take, Option, Some, None, ap, sym, ◌∙◌, append-nil, arith, length-append}
 use Rattle.std.proofs.lemmas.List.{drop-drop, length-take-le, take-append-drop}
 use Rattle.tpm_journal_text.specs.Entry.{IsEntry, PlainEntry, entry_text, sum_after}
@@ -19,8 +19,8 @@ use Rattle.tpm_kept_journal.proofs.texts.NextAt.{damage_tells, torn_tells}
 pub none_more : (sum : ℕ) (text : List ℕ) → entry_at sum text ≡ None → entries_size sum text ≡ 0
 none_more sum text none = ap (λ (es : List PlainEntry). length (entries_text sum es)) (entries_again sum [] text tt none)
 
--- If the bytes begin with an entry, the size of their entries is that of this entry plus that of
--- the entries after it.
+-- If the bytes begin with an entry, the size of all entries at their start is the size of this
+-- entry plus the size of the entries after it.
 pub one_more : (sum size : ℕ) (text : List ℕ) (e : PlainEntry) → IsEntry e → size ≤ length text → take size text ≡ entry_text sum e
     → entries_size sum text ≡ size + entries_size (sum_after sum e) (drop size text)
 one_more sum size text e is within front =

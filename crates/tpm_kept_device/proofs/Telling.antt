@@ -1,4 +1,4 @@
--- When the device executes entries or writes a head, its results equal those of the journal's
+-- When the device executes entries or writes a head, its results agree with the journal's
 -- definitions.
 use Rattle.std.proofs.Common.{◌≡◌, ◌≤◌, ◌+◌, ℕ, false, List, length, Option, Some, None, subst, ap, ◌∙◌, arith}
 use Rattle.tpm_bytes.specs.Reading.{AreBytes}

@@ -9,12 +9,12 @@ abbrev pub given_text : (locality : ℕ) → (completes : Bool) → (random buff
 given_text locality completes random buffer =
     locality ∷ (yes_no_text completes ++ (random ++ buffer))
 
--- the encoding of a TPM command that arrives when the host's clock shows `now`, and of one that
--- arrives some milliseconds after the previous command
+-- the encoding of a TPM command that arrives when the host's clock shows `now`
 abbrev pub text_at : (now locality : ℕ) → (completes : Bool) → (random buffer : List ℕ) → List ℕ
 text_at now locality completes random buffer =
     0 ∷ (to_be_bytes w64 now ++ given_text locality completes random buffer)
 
+-- the encoding of a TPM command that arrives this many milliseconds after the previous command
 abbrev pub text_after : (elapsed locality : ℕ) → (completes : Bool) → (random buffer : List ℕ)
     → List ℕ
 text_after elapsed locality completes random buffer =

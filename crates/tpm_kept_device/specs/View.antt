@@ -35,17 +35,19 @@ plain_seed seed = record {
   content = seed.content.now;
 }
 
--- the state of a device, and its position, which also contains the checksum of its journal
+-- the state of a device
 abbrev pub state_of : Parts → DeviceState
 state_of parts = state_in parts.journal (slot_record parts.machine.keep)
 
+-- the position of a device, which contains the device's state and its journal's checksum
 abbrev pub spot_in : Parts → Spot
 spot_in parts = spot_of parts.journal (slot_record parts.machine.keep)
 
--- the effect of a device's latest command, and the encoding of its report and response
+-- the effect of a device's latest command
 abbrev pub seen_in : Parts → Seen
 seen_in parts = seen_of slot_record parts.machine parts.journal.layer parts.outcome
 
+-- the encoding of the report of a device's latest command and of its response
 abbrev pub answer_in : Parts → List ℕ
 answer_in parts = reported (seen_in parts)
 

@@ -95,8 +95,8 @@ fn read_executed_at<'a>(text: &mut Cursor<'a>) -> Result<Command<'a>, Malformed>
     read_executed(Moment::At(now_ms), text)
 }
 
-/// Decodes a TPM command that arrives some milliseconds after the previous one. The byte for the
-/// command's kind is already consumed.
+/// Decodes a TPM command that arrives some milliseconds after the previous command. The byte for
+/// the command's kind is already consumed.
 #[tactic(auto, unfolding(tpm_kept_journal::specs::Command::executed_after_in))]
 fn read_executed_after<'a>(text: &mut Cursor<'a>) -> Result<Command<'a>, Malformed>
     ensures { Gives plain_command (executed_after_in text.old) result }

@@ -31,7 +31,7 @@ pub fn command_at(
     Ok(text)
 }
 
-/// Encodes a TPM command that arrives this many milliseconds after the previous one.
+/// Encodes a TPM command that arrives this many milliseconds after the previous command.
 #[tactic(auto, using(crate::proofs::Texts::after_read))]
 pub fn command_after(
     alloc: Global,

@@ -1,7 +1,7 @@
 #![tactic(auto)]
 
-//! Tests of a kept device for what no clause says: that a keeper can keep one, that each call can
-//! succeed, and how a TPM responds through the keeper.
+//! Tests of a kept device, for behaviour that no contract covers: a keeper can keep such a device,
+//! each call can succeed, and a TPM responds through the keeper as expected.
 //!
 //! The crate uses `tpm_kept_device`, and no crate uses it.
 

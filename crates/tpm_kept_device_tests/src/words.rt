@@ -1,4 +1,4 @@
-//! Encoded commands and seeds.
+//! Encodes commands and seeds for the tests.
 
 use std::alloc::{AllocError, Global};
 
@@ -23,7 +23,7 @@ pub fn given(alloc: Global, now_ms: u64, random: u8, buffer: &[u8]) -> Result<Ve
     Ok(text)
 }
 
-/// A TPM command that arrives this many milliseconds after the previous one.
+/// A TPM command that arrives this many milliseconds after the previous command.
 pub fn given_after(
     alloc: Global,
     elapsed_ms: u32,

@@ -3,8 +3,9 @@ use Rattle.std.proofs.Common.{◌≡◌, ◌<◌, ◌+◌, ◌==◌, ℕ, zero, 
 use Rattle.std.specs.List.{AllByRecursion}
 use Rattle.std.proofs.lemmas.Bool.{false≢true}
 use Rattle.std.proofs.lemmas.List.{length-take-le, take-append-drop}
-use Rattle.tpm_completion.specs.Execution.{AsksFirst, Behind, Completes, CompletesIf, Loads, PlacesIf, Seen, asked_behind, opened_behind}
+use Rattle.tpm_completion.specs.Execution.{AsksFirst, Behind, Completes, CompletesIf, Loads, PlacesIf, Seen, Sends, asked_behind, opened_behind, sent_behind}
 use Rattle.tpm_completion.specs.declared.completion.Completion.{Completion}
+use Rattle.tpm_completion.specs.declared.sending.Sent.{Sent}
 use Rattle.tpm_completion.proofs.Exactly.{exactly}
 use Rattle.tpm_journal.specs.Command.{IsPerformed, event_of}
 use Rattle.tpm_journal.specs.Replay.{AnswersAre, EndsIn, LeadsBy, Performance, Replays, answer_said, entry_in, response_sum}
@@ -28,7 +29,8 @@ use Rattle.tpm_kept_journal.specs.Opening.{Fails, found_at, found_next, performa
 use Rattle.tpm_kept_journal.specs.State.{DeviceState, IsDeviceState, bytes_of, spot_of, state_in, state_of_bytes}
 use Rattle.tpm_kept_journal.specs.texts.NextAt as next
 use Rattle.tpm_kept_journal.specs.texts.Parts.{where_so}
-use Rattle.tpm_kept_journal.proofs.Layers.{IsFine, completed_fine}
+use Rattle.tpm_kept_journal.proofs.Fine.{IsFine}
+use Rattle.tpm_kept_journal.proofs.Layers.{completed_fine}
 use Rattle.tpm_kept_journal.proofs.States.{state_told}
 use Rattle.tpm_kept_journal.proofs.Walks.{found_torn, spot_made, walk_ends, walk_entry, walk_fails, walk_otherwise}
 use Rattle.tpm_kept_journal.proofs.texts.NextAt.{next_only}
@@ -47,15 +49,21 @@ loads_record : (first : Seen) (content : Result Object ContextFault) (seen : See
 loads_record first (Ok object) seen is (refused, places) = content_record refused first object seen is places
 loads_record first (Err fault) seen is same = subst (λ (s : Seen). IsRecord s.step.after) (sym same) is
 
-behind_record : (first : Seen) (buffer : List ℕ) (asked : Option (List ℕ)) (seen : Seen)
-    → IsRecord first.step.after → Behind false first buffer asked seen → IsRecord seen.step.after
-behind_record first buffer (Some context) seen is loads = loads_record first (opened_behind first context) seen is loads
-behind_record first buffer None seen is same = subst (λ (s : Seen). IsRecord s.step.after) (sym same) is
+sends_record : (first : Seen) (buffer : List ℕ) (locality : ℕ) (sent : Option Sent) (seen : Seen) → IsRecord first.step.after
+    → Sends false first buffer locality sent seen → IsRecord seen.step.after
+sends_record first buffer locality (Some sent) seen is (second, passes, same) =
+    subst (λ (s : Seen). IsRecord s.step.after) (sym same) passes.executes.is_record
+sends_record first buffer locality None seen is same = subst (λ (s : Seen). IsRecord s.step.after) (sym same) is
+
+behind_record : (first : Seen) (buffer : List ℕ) (locality : ℕ) (asked : Option (List ℕ)) (seen : Seen)
+    → IsRecord first.step.after → Behind false first buffer locality asked seen → IsRecord seen.step.after
+behind_record first buffer locality (Some context) seen is loads = loads_record first (opened_behind first context) seen is loads
+behind_record first buffer locality None seen is sends = sends_record first buffer locality (sent_behind first buffer) seen is sends
 
 asks_record : (c : Completion) (old : Record) (buffer : List ℕ) (locality elapsed : ℕ) (random : List ℕ) (seen : Seen)
     → AsksFirst false c old buffer locality elapsed random seen → IsRecord seen.step.after
 asks_record c old buffer locality elapsed random seen (first, passes, behind) =
-    behind_record first buffer (asked_behind first buffer) seen passes.executes.is_record behind
+    behind_record first buffer locality (asked_behind first buffer) seen passes.executes.is_record behind
 
 completes_record : (c : Completion) (old : Record) (event : PlainEvent) (seen : Seen) → Completes false c old event seen → IsRecord seen.step.after
 completes_record c old (Given buffer locality elapsed random) seen is = asks_record c old buffer locality elapsed random seen is
@@ -67,7 +75,7 @@ pub record_after : (completes : Bool) (c : Completion) (old : Record) (event : P
 record_after false c old event seen passes = passes.executes.is_record
 record_after true c old event seen is = completes_record c old event seen is
 
--- The state after an effect is one that a device can have.
+-- The state after an effect is a state that a device can have.
 pub state_after : (s : DeviceState) (completes : Bool) (event : PlainEvent) (elapsed : ℕ) (seen : Seen) → IsDeviceState s
     → CompletesIf false completes s.layer s.device event seen → IsDeviceState (left_by s elapsed seen)
 state_after s completes event elapsed seen is done = record {
@@ -228,7 +236,7 @@ last_is (y ∷ z ∷ front) x = last_is (z ∷ front) x
 -- ---- the result for all bytes
 
 -- If there is no fault, the walk over the bytes ends at this position after `taken` bytes. If there
--- is one, the walk fails.
+-- is a fault, the walk fails.
 abbrev pub Tells : Option FollowFault → Option (Spot × ℕ) → Spot → (taken : ℕ) → Type 0
 Tells None found p taken = found ≡ Some (p, taken)
 Tells (Some fault) found p taken = found ≡ None

@@ -31,7 +31,7 @@ use Rattle.tpm_kept_journal.proofs.texts.Parts.{Decides-leb, are_bytes-Decides, 
 
 -- ---- bytes that encode a state
 
--- The requirements on an encoded state that can be written in a head.
+-- The bytes encode a state that can be written in a head.
 pub record IsWritable (text : List ℕ) : Type 0 where
   pub are : AreBytes text
   pub says : IsStateText text

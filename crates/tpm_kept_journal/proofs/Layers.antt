@@ -1,7 +1,6 @@
--- All numbers that a completing layer stores fit in 64 bits, before and after each command.
-use Rattle.std.proofs.Common.{◌≡◌, ◌<◌, ◌+◌, ◌-◌, ◌^◌, ◌==◌, ℕ, zero, suc, Bool, true, false, cond, List, length, replicate, get_or, Option, Some, None, Result, Ok, Err, refl, subst, sym, ◌∙◌, arith, inl, inr, length-set, ltb-true}
+-- A completing layer that is valid before a command is valid after it.
+use Rattle.std.proofs.Common.{◌≡◌, ◌<◌, ◌+◌, ◌-◌, ◌^◌, ◌==◌, ℕ, Bool, true, false, cond, List, length, get_or, Option, Some, None, IfSome, Result, Ok, Err, refl, subst, sym, ◌∙◌, arith, inl, inr, length-set, ltb-true}
 use Rattle.std.specs.Prelude.{nat_lt}
-use Rattle.std.specs.List.{All}
 use Rattle.std.proofs.lemmas.Bool.{cases_lt}
 use Rattle.std.proofs.lemmas.List.{get_or_past, length-map}
 use Rattle.std.proofs.lemmas.List.Elements.{All-map, All-set}
@@ -18,46 +17,26 @@ use Rattle.tpm_types.specs.declared.handle.Handle.{Handle}
 use Rattle.tpm_types.specs.Limits.{session_limit}
 use Rattle.tpm_step.specs.Events.{Cycled, Given, Placed, PlainEvent}
 use Rattle.tpm_step.specs.Step.{step}
-use Rattle.tpm_snapshot.specs.Layer.{layer_of}
-use Rattle.tpm_state_text.specs.Layer.{IsLayer}
 use Rattle.tpm_completion.specs.Capability.{asked_at, capability_told}
 use Rattle.tpm_completion.specs.Command.{Command, plain_command}
-use Rattle.tpm_completion.specs.Completed.{completed, completed_with, done_behind, loaded_behind, passed}
-use Rattle.tpm_completion.specs.Completion.{forgotten, new_completion, session_context, session_kept}
+use Rattle.tpm_completion.specs.Completed.{completed, completed_with, done_behind, loaded_behind, passed, sending_behind}
+use Rattle.tpm_completion.specs.Completion.{forgotten, sequences_kept, session_context, session_kept}
 use Rattle.tpm_completion.specs.Context.{token_at}
-use Rattle.tpm_completion.specs.Execution.{Seen, asked_behind, opened_behind}
+use Rattle.tpm_completion.specs.Execution.{Seen, asked_behind, opened_behind, sent_behind, sent_event}
 use Rattle.tpm_completion.specs.Hashing.{hash_row}
 use Rattle.tpm_completion.specs.Loading.{placed_reply}
-use Rattle.tpm_completion.specs.Reply.{capability_asked, command_reply, listed, load_asked, probed, replied, reply, reply_by, row_served, save_asked, served, stands, stirred}
+use Rattle.tpm_completion.specs.Reply.{capability_asked, command_reply, listed, load_asked, or_reply, plain_reply, probed, replied, reply, reply_by, row_served, save_asked, served, stands, stirred}
 use Rattle.tpm_completion.specs.Testing.{incremental_row, test_parms_row, test_result_row}
 use Rattle.tpm_types.specs.declared.refused.Refused.{Refused}
 use Rattle.tpm_completion.specs.Saving.{Reply, counted, loaded, loaded_by, next_number, object_numbered, object_saved, place_named, refused, saved, session_numbered, session_saved, with_session}
 use Rattle.tpm_completion.specs.declared.capability.Asked.{Asked}
 use Rattle.tpm_completion.specs.declared.completion.Completion.{Completion}
 use Rattle.tpm_completion.specs.declared.context.Token.{Token}
-
--- A layer is valid: it has a slot for each session, and its numbers fit in 64 bits.
-abbrev pub IsFine : Completion → Type 0
-IsFine c = IsLayer (layer_of c)
-
-choice : {X : Type 0} (P : X → Type 0) (b : Bool) (x y : X) → P x → P y → P (cond b x y)
-choice P true x y p q = p
-choice P false x y p q = q
-
--- ---- new layers
-
-zeros_all : {X : Type 0} (P : X → Type 0) (n : ℕ) (x : X) → P x → All P (replicate n x)
-zeros_all P zero x p k d lt = absurd (omega (arith, lt))
-zeros_all P (suc n) x p zero d lt = p
-zeros_all P (suc n) x p (suc k) d lt = zeros_all P n x p k d (omega (arith, lt))
-
-pub new_fine : (start : ℕ) → start < 2 ^ 64 → IsFine (new_completion start)
-new_fine start small = record {
-  start = small;
-  count = omega arith;
-  sessions = refl;
-  each_session = zeros_all (λ (context : ℕ). context < 2 ^ 64) session_limit 0 (omega arith);
-}
+use Rattle.tpm_completion.specs.declared.sending.Sent.{Sent}
+use Rattle.tpm_completion.specs.SequenceReply.{sequence_reply}
+use Rattle.tpm_completion.specs.Sequences.{no_sequences}
+use Rattle.tpm_kept_journal.proofs.Fine.{AreSlots, IsFine, LeavesFine, choice, free_are}
+use Rattle.tpm_kept_journal.proofs.SequenceLayers.{IsSent, sent_is, sent_reply_fine, sequence_reply_fine}
 
 -- ---- the contexts that are stored in slots
 
@@ -72,6 +51,9 @@ session_kept_fine : (r : Record) (c : Completion) → IsFine c → (place : ℕ)
 unfolding session_kept
 session_kept_fine r c is place = choice (λ (n : ℕ). n < 2 ^ 64) _ (session_context c place) 0 (context_fine c is place) (omega arith)
 
+sequences_kept_are : (r : Record) (c : Completion) → IsFine c → AreSlots (sequences_kept r c)
+sequences_kept_are r c is = choice AreSlots r.fixed.started c.sequences no_sequences (is.sequences, is.each_sequence) free_are
+
 forgotten_fine : (r : Record) (c : Completion) → IsFine c → IsFine (forgotten r c)
 unfolding forgotten
 forgotten_fine r c is = record {
@@ -80,6 +62,8 @@ forgotten_fine r c is = record {
   sessions = length-map (numbers_below session_limit) (session_kept r c);
   each_session = All-map (λ (n : ℕ). n < 2 ^ 64) (session_kept r c) (numbers_below session_limit)
       (λ k d lt. session_kept_fine r c is (get_or (numbers_below session_limit) k d));
+  sequences = (sequences_kept_are r c is).0;
+  each_sequence = (sequences_kept_are r c is).1;
 }
 
 with_session_fine : (c : Completion) (place context : ℕ) → IsFine c → context < 2 ^ 64 → IsFine (with_session c place context)
@@ -88,6 +72,8 @@ with_session_fine c place context is small = record {
   count = is.count;
   sessions = length-set c.sessions place context ∙ is.sessions;
   each_session = All-set (λ (n : ℕ). n < 2 ^ 64) c.sessions place context small is.each_session;
+  sequences = is.sequences;
+  each_sequence = is.each_sequence;
 }
 
 counted_fine : (c : Completion) (number : ℕ) → IsFine c → number < 2 ^ 64 → IsFine (counted c number)
@@ -96,12 +82,11 @@ counted_fine c number is small = record {
   count = small;
   sessions = is.sessions;
   each_session = is.each_session;
+  sequences = is.sequences;
+  each_sequence = is.each_sequence;
 }
 
 -- ---- replies
-
-abbrev LeavesFine : Reply → Type 0
-LeavesFine x = IsFine x.after
 
 -- If there is a number, it fits in 64 bits.
 abbrev IsSmall : Option ℕ → Type 0
@@ -197,9 +182,20 @@ reply_by_fine : (r : Record) (c : Completion) (buffer response : List ℕ) (was_
 reply_by_fine r c buffer response was_told (Ok command) is = command_reply_fine r c command response was_told is
 reply_by_fine r c buffer response was_told (Err e) is = probed_fine c buffer response is
 
-reply_fine : (r : Record) (c : Completion) (buffer response : List ℕ) (was_told : Bool) → IsFine c → LeavesFine (reply r c buffer response was_told)
+plain_reply_fine : (r : Record) (c : Completion) (buffer response : List ℕ) (was_told : Bool) → IsFine c → LeavesFine (plain_reply r c buffer response was_told)
+unfolding plain_reply
+plain_reply_fine r c buffer response was_told is = reply_by_fine r c buffer response was_told (plain_command buffer) is
+
+or_reply_fine : (first : Option Reply) (other : Reply) → IfSome first LeavesFine → LeavesFine other → LeavesFine (or_reply first other)
+or_reply_fine (Some reply) other fine is = fine
+or_reply_fine None other fine is = is
+
+reply_fine : (r : Record) (c : Completion) (buffer response : List ℕ) (was_told : Bool) → IsFine c
+    → LeavesFine (reply r c buffer response was_told)
 unfolding reply
-reply_fine r c buffer response was_told is = reply_by_fine r c buffer response was_told (plain_command buffer) is
+reply_fine r c buffer response was_told is =
+    or_reply_fine (sequence_reply r c buffer response) (plain_reply r c buffer response was_told)
+    (sequence_reply_fine r c buffer response is) (plain_reply_fine r c buffer response was_told is)
 
 -- ---- events
 
@@ -215,15 +211,25 @@ content_fine : (first : Seen) (content : Result Object ContextFault) → IsFine 
 content_fine first (Ok object) is = placed_fine first.layer (next_handle first.step.after.objects) is
 content_fine first (Err fault) is = is
 
-done_fine : (first : Seen) (buffer : List ℕ) (asked : Option (List ℕ)) → IsFine first.layer → IsFine (done_behind first buffer asked).layer
-done_fine first buffer (Some context) is = content_fine first (opened_behind first context) is
-done_fine first buffer None is =
+sending_fine : (first : Seen) (buffer : List ℕ) (locality : ℕ) (sent : Option Sent) → IsFine first.layer → IfSome sent IsSent
+    → IsFine (sending_behind first buffer locality sent).layer
+sending_fine first buffer locality (Some sent) is valid =
+    let second : Seen = passed first.layer first.step.after (sent_event sent locality) in
+    sent_reply_fine second.layer (second.step.row.check == 0) sent.work second.step.response
+    (passed_fine first.layer first.step.after (sent_event sent locality) is) valid
+sending_fine first buffer locality None is valid =
     reply_fine first.step.after first.layer buffer first.step.response (first.step.row.check == 0) is
+
+done_fine : (first : Seen) (buffer : List ℕ) (locality : ℕ) (asked : Option (List ℕ)) → IsFine first.layer
+    → IsFine (done_behind first buffer locality asked).layer
+done_fine first buffer locality (Some context) is = content_fine first (opened_behind first context) is
+done_fine first buffer locality None is =
+    sending_fine first buffer locality (sent_behind first buffer) is (sent_is first.step.after first.layer buffer first.step.response)
 
 with_fine : (c : Completion) (old : Record) (event : PlainEvent) → IsFine c → IsFine (completed_with c old event).layer
 with_fine c old (Given buffer locality elapsed random) is =
     let first : Seen = passed c old (Given buffer locality elapsed random) in
-    done_fine first buffer (asked_behind first buffer) (passed_fine c old (Given buffer locality elapsed random) is)
+    done_fine first buffer locality (asked_behind first buffer) (passed_fine c old (Given buffer locality elapsed random) is)
 with_fine c old Cycled is = passed_fine c old Cycled is
 with_fine c old (Placed object) is = passed_fine c old (Placed object) is
 

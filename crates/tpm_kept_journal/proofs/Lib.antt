@@ -6,6 +6,9 @@ pub mod States
 pub mod Beginning
 pub mod Heads
 pub mod JournalLaws
+pub mod Fine
+pub mod Widths
+pub mod SequenceLayers
 pub mod Layers
 pub mod Following
 pub mod Executed

@@ -5,12 +5,14 @@ use Rattle.std.proofs.lemmas.Bool.{false≢true}
 use Rattle.std.proofs.lemmas.List.{length-append, length-replicate, length-take-le}
 use Rattle.std.proofs.lemmas.Slice.Eq.{bytes_eq-Decides}
 use Rattle.tpm_completion.specs.Answer.{is_refusal, refusal}
-use Rattle.tpm_completion.specs.Command.{plain_command}
-use Rattle.tpm_completion.specs.Completed.{behind, completed, done_behind, loaded_behind, passed}
+use Rattle.tpm_completion.specs.Command.{authorized_command, plain_command}
+use Rattle.tpm_completion.specs.Completed.{behind, completed, done_behind, loaded_behind, passed, sending_behind}
 use Rattle.tpm_completion.specs.Completion.{forgotten}
-use Rattle.tpm_completion.specs.Execution.{Seen, asked_behind, opened_behind}
+use Rattle.tpm_completion.specs.Execution.{Seen, asked_behind, opened_behind, sent_behind}
 use Rattle.tpm_completion.specs.Loading.{context_asked, object_context_in}
+use Rattle.tpm_completion.specs.Sending.{sent_for, sent_in}
 use Rattle.tpm_completion.specs.declared.completion.Completion.{Completion}
+use Rattle.tpm_completion.specs.declared.sending.Sent.{Sent}
 use Rattle.tpm_journal.specs.Command.{Command, entry_of, given, padded}
 use Rattle.tpm_journal.specs.draw_laws.Bytes.{AgreeOnDrawn, zeros_behind}
 use Rattle.tpm_journal.proofs.draw_laws.Executions.{draws_alike, steps_alike}
@@ -72,7 +74,7 @@ module _ (c : Completion) (old : Record) (buffer : List ℕ) (locality elapsed :
       ap (seen_made c here) (steps_alike old buffer locality elapsed random other agree false)
       ∙ ap (λ (n : ℕ). seen_made c (λ (x : Stepped). n) (step old (event random))) draws
 
-  -- Replacing the random bytes after the drawn ones by zeros does not change the drawn bytes.
+  -- Replacing the random bytes after the drawn bytes by zeros does not change the drawn bytes.
   zeros_agree : length random ≡ 256 → AgreeOnDrawn old buffer locality elapsed random (zeros_behind drawn random)
   zeros_agree all = (
     length-append (take drawn random) (replicate (256 - drawn) 0)
@@ -96,7 +98,8 @@ module _ (c : Completion) (old : Record) (buffer : List ℕ) (locality elapsed :
   passed_anyhow other none as_long =
       passed_alike other (as_long, ap (λ (n : ℕ). take n other) none ∙ ap (λ (n : ℕ). take n random) (sym none))
 
--- ---- a command that loads the context of an object draws no random bytes
+-- ---- a command that loads the context of an object, or for which the layer sends a command, draws
+-- no random bytes
 
 -- A success does not look like the refusal 0x143: the third byte of its response code is 0, and not
 -- 1.
@@ -139,6 +142,19 @@ asked_draws_none c old buffer locality elapsed random context asked =
     refused_draws_none (ticked old elapsed) random (accepted (ticked old elapsed) buffer locality random)
     (asked_refused _ buffer _ context asked)
 
+sent_refused : (r : Record) (c : Completion) (buffer response : List ℕ) (sent : Sent) → sent_for r c buffer response ≡ Some sent → is_refusal 0x143 response ≡ true
+unfolding sent_for
+sent_refused r c buffer response sent is =
+    and_right r.fixed.started (is_refusal 0x143 response) (if_some _ (sent_in r c (authorized_command buffer)) sent is)
+
+sent_draws_none : (c : Completion) (old : Record) (buffer : List ℕ) (locality elapsed : ℕ) (random : List ℕ) (sent : Sent)
+    → sent_behind (passed c old (Given buffer locality elapsed random)) buffer ≡ Some sent
+    → drawn_by old (Given buffer locality elapsed random) 0 ≡ 0
+unfolding passed
+sent_draws_none c old buffer locality elapsed random sent is =
+    refused_draws_none (ticked old elapsed) random (accepted (ticked old elapsed) buffer locality random)
+    (sent_refused _ _ buffer _ sent is)
+
 -- ---- with the completing layer
 
 zeros_many : (n : ℕ) (random : List ℕ) → n ≤ length random → length random ≡ 256 → length (zeros_behind n random) ≡ length random
@@ -155,17 +171,32 @@ module _ (c : Completion) (old : Record) (buffer : List ℕ) (locality elapsed :
   few_content (Ok object) = omega arith
   few_content (Err fault) = few_drawn c old buffer locality elapsed random
 
-  few_behind : (asked : Option (List ℕ)) → (done_behind first buffer asked).drawn ≤ length random
-  few_behind (Some context) = few_content (opened_behind first context)
-  few_behind None = few_drawn c old buffer locality elapsed random
+  -- A command that the layer sends draws at most as many random bytes as are available.
+  few_sending : (sent : Option Sent) → (sending_behind first buffer locality sent).drawn ≤ length random
+  few_sending (Some sent) =
+      omega (arith, all, few_drawn first.layer first.step.after sent.command locality 0 (replicate 256 0), length-replicate {A = ℕ} 256 0)
+  few_sending None = few_drawn c old buffer locality elapsed random
 
-  -- The device's effect stays the same if zeros replace the random bytes after those that the whole
-  -- command draws.
+  few_behind : (asked : Option (List ℕ)) → (done_behind first buffer locality asked).drawn ≤ length random
+  few_behind (Some context) = few_content (opened_behind first context)
+  few_behind None = few_sending (sent_behind first buffer)
+
+  -- The device's effect stays the same if zeros replace the random bytes after the bytes that the
+  -- whole command draws.
+  sending_again : (sent : Option Sent) → sent_behind first buffer ≡ sent
+      → passed c old (Given buffer locality elapsed (zeros_behind (sending_behind first buffer locality sent).drawn random)) ≡ first
+  sending_again None is = passed_again c old buffer locality elapsed random first.drawn refl all
+  sending_again (Some sent) is =
+      let n : ℕ = (sending_behind first buffer locality (Some sent)).drawn in
+      passed_anyhow c old buffer locality elapsed random (zeros_behind n random)
+      (sent_draws_none c old buffer locality elapsed random sent is)
+      (zeros_many n random (few_sending (Some sent)) all)
+
   first_again : (asked : Option (List ℕ)) → asked_behind first buffer ≡ asked
-      → passed c old (Given buffer locality elapsed (zeros_behind (done_behind first buffer asked).drawn random)) ≡ first
-  first_again None is = passed_again c old buffer locality elapsed random first.drawn refl all
+      → passed c old (Given buffer locality elapsed (zeros_behind (done_behind first buffer locality asked).drawn random)) ≡ first
+  first_again None is = sending_again (sent_behind first buffer) refl
   first_again (Some context) is =
-      let n : ℕ = (done_behind first buffer (Some context)).drawn in
+      let n : ℕ = (done_behind first buffer locality (Some context)).drawn in
       passed_anyhow c old buffer locality elapsed random (zeros_behind n random)
       (asked_draws_none c old buffer locality elapsed random context is)
       (zeros_many n random (few_behind (Some context)) all)
@@ -175,7 +206,7 @@ module _ (c : Completion) (old : Record) (buffer : List ℕ) (locality elapsed :
   completed_again false n is = passed_again c old buffer locality elapsed random n is all
   completed_again true n is =
       ap (λ (m : ℕ). completed true c old (Given buffer locality elapsed (zeros_behind m random))) is
-      ∙ ap (λ (f : Seen). behind f buffer) (first_again (asked_behind first buffer) refl)
+      ∙ ap (λ (f : Seen). behind f buffer locality) (first_again (asked_behind first buffer) refl)
 
   pub completed_few : (completes : Bool) → (completed completes c old (Given buffer locality elapsed random)).drawn ≤ length random
   completed_few false = few_drawn c old buffer locality elapsed random

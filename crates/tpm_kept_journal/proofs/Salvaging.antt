@@ -54,7 +54,7 @@ abbrev pub taken_of : Option (Spot × ℕ) → ℕ
 taken_of None = 0
 taken_of (Some found) = found.1
 
--- If walking over the bytes reaches a position, then walking over only the executed ones reaches
+-- If walking over the bytes reaches a position, then walking over only the executed bytes reaches
 -- the same position.
 record IsFront (p q : Spot) (taken n : ℕ) (text : List ℕ) : Type 0 where
   size : ℕ
@@ -62,7 +62,7 @@ record IsFront (p q : Spot) (taken n : ℕ) (text : List ℕ) : Type 0 where
   within : size ≤ length text
   walks : (bound : ℕ) → size < bound → walk bound p taken (take size text) ≡ Some (q, n)
 
--- If the bytes end without a further entry, no byte is executed.
+-- If the bytes end without a further entry, no byte is executed, and `IsFront` holds.
 front_ends : (bound : ℕ) (p q : Spot) (taken n : ℕ) (text : List ℕ) → walk (suc bound) p taken text ≡ Some (q, n) → found_at p text ≡ Ends
     → IsFront p q taken n text
 front_ends bound p q taken n text leads ends =
@@ -79,7 +79,8 @@ front_ends bound p q taken n text leads ends =
     nothing (suc more) less here =
         walk_ends more p taken [] (found_torn p [] ((is_torn_text-Decides p.chain []).1 (torn_nothing p.chain))) ∙ here
 
--- If the bytes begin with an entry, so do the executed ones.
+-- If the bytes begin with an entry, and `IsFront` holds for the bytes after it, then `IsFront`
+-- holds for all bytes.
 front_goes : (p q s : Spot) (taken n : ℕ) (e : PlainEntry) (rest text : List ℕ) → IsEntry e → text ≡ entry_text p.chain e ++ rest
     → performed_on p.chain e (state_of_bytes p.state) ≡ Some s → IsFront s q (taken + length (entry_text p.chain e)) n rest
     → IsFront p q taken n text

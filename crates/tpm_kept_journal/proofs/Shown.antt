@@ -1,5 +1,5 @@
--- The head that a device writes for its state is the one that `head_of` defines for the encoding of
--- this state.
+-- The head that a device writes for its state is the head that `head_of` defines for the encoding
+-- of this state.
 use Rattle.std.proofs.Common.{◌≡◌, ◌≤◌, ◌&&◌, ℕ, suc, zero, Bool, true, cond, List, [], ◌∷◌, ◌++◌, length, sym, ap, ◌∙◌, arith, le-leb}
 use Rattle.std.specs.Prelude.{is_some}
 use Rattle.std.specs.Int.{w64, to_be_bytes}

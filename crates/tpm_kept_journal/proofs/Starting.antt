@@ -38,7 +38,7 @@ use Rattle.tpm_kept_journal.specs.texts.HeadAt.{PlainHead, head_at}
 use Rattle.tpm_kept_journal.proofs.Entries.{sum_small}
 use Rattle.tpm_kept_journal.proofs.Following.{Tells, followed_so}
 use Rattle.tpm_kept_journal.proofs.Heads.{head_starts}
-use Rattle.tpm_kept_journal.proofs.Layers.{IsFine, new_fine}
+use Rattle.tpm_kept_journal.proofs.Fine.{IsFine, new_fine}
 use Rattle.tpm_kept_journal.proofs.texts.HeadAt.{no_head}
 
 -- ---- a journal starts in a state that a device can have

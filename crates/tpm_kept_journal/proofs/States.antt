@@ -41,7 +41,7 @@ state_told s is =
 pub layer_back : (layer : Layer) → layer_of (completion_of (Some layer)) ≡ layer
 layer_back layer = refl
 
--- The facts about bytes that decode to a state.
+-- The bytes decode to a state, which contains this layer and this device.
 pub record IsStateText (text : List ℕ) : Type 0 where
   pub layer : Layer
   pub device : Record

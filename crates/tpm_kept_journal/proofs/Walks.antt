@@ -81,7 +81,7 @@ walk_otherwise bound p e taken rest is performed =
 abbrev pub spot_made : List ℕ → ℕ → Spot
 spot_made state chain = record { state = state; chain = chain }
 
--- The position after a command that has an entry is the same as the one after its entry. If the
+-- If a command has an entry, the position after the command is the position after its entry. If the
 -- position does not encode a state, the command's entry is empty, and the position stays the same.
 pub data Leads (p : Spot) (c : List ℕ) : Type 0 where
   Nowhere : (device_journal.entry p c ≡ []) → (stepped device_journal p c ≡ p) → Leads p c
@@ -155,7 +155,7 @@ abbrev pub end_of : Spot → List (List ℕ) → Spot
 end_of p cs = trail device_journal p cs
 
 -- If walking over the entries of `cs` gives the right position, so does walking over the entry of
--- `c` and then those of `cs`.
+-- `c` and then over the entries of `cs`.
 walk_led : (c : List ℕ) (cs : List (List ℕ)) (bound : ℕ) (p : Spot) (taken : ℕ) (tail : List ℕ)
     → ((bound taken : ℕ) → length (all (stepped device_journal p c) cs ++ tail) < bound
     → walk bound (stepped device_journal p c) taken (all (stepped device_journal p c) cs ++ tail)

@@ -16,7 +16,7 @@ pub data Moment : Type 0 where
 -- A command. `Executes`: a TPM command, with its moment, its locality, whether the completing layer
 -- is used, 256 random bytes, and its buffer. `Cycles`: a power cycle at this time of the host's
 -- clock; `start` has no effect, since the completing layer keeps its start number. `Begins`: the
--- device is replaced by one with this seed, for example to restore a snapshot.
+-- device is replaced by the device of this seed, for example to restore a snapshot.
 pub data KeptCommand : Type 0 where
   Executes : Moment → (locality : ℕ) → (completes : Bool) → (random buffer : List ℕ) → KeptCommand
   Cycles : (now start : ℕ) → KeptCommand
@@ -74,11 +74,12 @@ command_in text = do
 unfoldable pub command_of : List ℕ → Result KeptCommand Malformed
 command_of text = if are_bytes text then command_in text else Err malformed
 
--- whether the bytes were decoded as a command, and whether the command has an entry
+-- whether the bytes were decoded as a command
 abbrev pub is_command_read : Result KeptCommand Malformed → Bool
 is_command_read (Ok c) = true
 is_command_read (Err why) = false
 
+-- whether the bytes were decoded as a command that has an entry
 abbrev pub is_entered_read : Result KeptCommand Malformed → Bool
 is_entered_read (Ok (Executes moment locality completes random buffer)) = true
 is_entered_read c = false

@@ -103,12 +103,12 @@ response_to state command = with_both (state_of_bytes state) (command_of command
 abbrev pub entry_at_spot : Spot → (command : List ℕ) → Option PlainEntry
 entry_at_spot p command = with_both (state_of_bytes p.state) (command_of command) None entered
 
--- the encoding of an entry, and the checksum after it. If there is no entry, the encoding is empty
--- and the checksum stays the same
+-- the encoding of an entry; empty if there is no entry
 abbrev pub text_if : (sum : ℕ) → Option PlainEntry → List ℕ
 text_if sum (Some e) = entry_text sum e
 text_if sum None = []
 
+-- the checksum after an entry; unchanged if there is no entry
 abbrev pub sum_if : (sum : ℕ) → Option PlainEntry → ℕ
 sum_if sum (Some e) = sum_after sum e
 sum_if sum None = sum

@@ -78,11 +78,12 @@ is_state_text text =
 abbrev pub no_head : List ℕ → List ℕ
 no_head text = 256 ∷ length text ∷ text
 
--- the head for an encoded state, and the checksum after this head
+-- the head for an encoded state
 unfoldable pub head_of : List ℕ → List ℕ
 head_of text =
     cond (is_state_text text) (head_text State (time_in text) (content_in text)) (no_head text)
 
+-- the checksum after the head for an encoded state
 unfoldable pub head_sum_of : List ℕ → ℕ
 head_sum_of text = cond (is_state_text text) (head_sum (time_in text) (content_in text)) 0
 

@@ -23,6 +23,6 @@ unfoldable pub whole_size : List ℕ → ℕ
 whole_size text = size_with (head_at text) text
 
 -- the position after the intact part of a journal, and the size of this part; None if there is no
--- head that starts a device, or if a response of the device differs from the one in its entry
+-- head that starts a device, or if a response of the device differs from the recorded response
 unfoldable pub salvaged_text : List ℕ → Option (Spot × ℕ)
 salvaged_text text = opened_text (take (whole_size text) text)

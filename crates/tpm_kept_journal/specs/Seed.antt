@@ -58,8 +58,8 @@ abbrev pub layer_restored : (start : ℕ) → Option Layer → Completion
 layer_restored start (Some layer) = record (completion_of (Some layer)) { start = start }
 layer_restored start None = new_completion start
 
--- the device that a state text contains, with the layer that it contains, or with a new one if it
--- contains none
+-- the device that a state text contains, with the completing layer in the state text, or with a new
+-- layer if the state text contains none
 abbrev pub state_restored : Seed → Result WholeState StateFault → Option DeviceState
 state_restored seed (Ok whole) = Some (record {
   time = seed.now;

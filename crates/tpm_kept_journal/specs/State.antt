@@ -42,22 +42,23 @@ abbrev pub state_by : (time : ℕ) → Result WholeState StateFault → Option D
 state_by time (Ok whole) = state_with time whole.device whole.layer
 state_by time (Err why) = None
 
--- the two parts of an encoded state: the time, and the state text
+-- the first part of an encoded state: the time
 abbrev pub time_in : List ℕ → ℕ
 time_in text = from_be_bytes w64 (take 8 text)
 
+-- the second part of an encoded state: the state text
 abbrev pub content_in : List ℕ → List ℕ
 content_in text = drop 8 text
 
 unfoldable pub state_of_bytes : List ℕ → Option DeviceState
 state_of_bytes text = state_by (time_in text) (current_state_of_text (content_in text))
 
--- the state of a device with this journal; and the device's position in the journal, which is the
--- state and the journal's checksum
+-- the state of a device with this journal
 abbrev pub state_in : Journal → Record → DeviceState
 state_in journal device =
     record { time = journal.time; layer = journal.layer; device = device }
 
+-- the position of a device in its journal: the device's encoded state, and the journal's checksum
 abbrev pub spot_of : Journal → Record → Spot
 spot_of journal device =
     record { state = bytes_of (state_in journal device); chain = journal.sum }

@@ -14,7 +14,7 @@ ghost use Rattle.tpm_kept_journal.specs.State.{DeviceState, IsDeviceState, bytes
 ghost use Rattle.tpm_kept_journal.specs.State.{whole_of};
 ghost use Rattle.tpm_state_text.specs.State.{state_text};
 
-/// The journal of a kept device satisfies what a keeper requires: whatever is executed, wherever
+/// The journal of a kept device satisfies what a keeper requires. Whatever is executed, wherever
 /// the journal is cut, and whatever a crash leaves, it opens as the device that executed the
 /// complete entries.
 #[inline(always)]

@@ -1,4 +1,4 @@
-//! Handles and authorization entries in words.
+//! Writes handles and authorization entries in words.
 
 use crate::fault::SpellFault;
 use crate::word::put_bytes;

@@ -1,6 +1,6 @@
 #![tactic(auto)]
 
-//! Finds the line in words that encodes the buffer of a command, if there is one.
+//! Finds a line in words that encodes the buffer of a command, if there is such a line.
 //!
 //! [`line::line_of`] and [`line::write_line`] read a buffer according to the shape of its command,
 //! and write a word for each of its parts: handles and entries ([`entry`]), parameters

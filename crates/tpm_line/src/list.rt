@@ -1,4 +1,4 @@
-//! Lists in words: selections of PCRs, digests with their algorithm, and sized buffers.
+//! Writes lists in words: selections of PCRs, digests with their algorithm, and sized buffers.
 
 use crate::fault::SpellFault;
 use crate::word::{hash_word, put_buffer, put_digits};

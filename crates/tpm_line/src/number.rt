@@ -1,4 +1,5 @@
-//! Numbers in words. They are decimal, except that codes, sets of bits and handles are hexadecimal.
+//! Writes numbers in words: in decimal, except that codes, sets of bits and handles are
+//! hexadecimal.
 
 use std::fmt::{self, Write};
 use tpm_commands::CommandCode;

@@ -40,7 +40,7 @@ fn put_parameter<W: Write>(
         ParameterKind::U32 | ParameterKind::PersistentHandle => {
             put_number(u64::from(fields.u32()?), form, line)?;
         }
-        // Numbers of eight bytes are sets of bits.
+        // Every parameter of eight bytes is a set of bits, so it is written in hexadecimal.
         ParameterKind::U64 => put_number(fields.u64()?, Form::Hexadecimal, line)?,
         ParameterKind::Hash | ParameterKind::HashOrNull => put_hash(fields, line)?,
         ParameterKind::Symmetric => put_symmetric(fields, line)?,

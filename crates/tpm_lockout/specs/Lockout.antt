@@ -2,13 +2,14 @@
 use Rattle.std.specs.Prelude.{ℕ, ◌<◌, ◌*◌, ◌^◌, false}
 use Rattle.tpm_lockout.specs.declared.fields.LockoutFields.{LockoutFields}
 
--- the lockout state. `fields` survives a power cycle: failedTries, the parameters of the
--- protection, and whether lockoutAuth is disabled. The other two members are timers in milliseconds:
--- the time that already counts towards forgiving the next failed try, and the time that already
--- counts towards enabling lockoutAuth again
+-- the lockout state
 pub record LockoutState : Type 0 where
+  -- the part that survives a power cycle: failedTries, the parameters of the protection, and
+  -- whether lockoutAuth is disabled
   pub fields : LockoutFields
+  -- the milliseconds that already count towards forgiving the next failed try
   pub forgiving_time : ℕ
+  -- the milliseconds that already count towards enabling lockoutAuth again
   pub closed_time : ℕ
 
 -- this number of seconds, converted to milliseconds

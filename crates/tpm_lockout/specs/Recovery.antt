@@ -28,8 +28,9 @@ opened_at time s =
     then record (with_closed false s) { closed_time = 0 }
     else record s { closed_time = time }
 
--- the lockout state after some milliseconds: if lockoutRecovery has passed, lockoutAuth is enabled
--- again
+-- the lockout state after some milliseconds. If lockoutAuth is disabled and lockoutRecovery is not
+-- 0, the time counts, and lockoutAuth is enabled again once lockoutRecovery has passed. Otherwise,
+-- this time is 0
 unfoldable pub opened_after : (elapsed : ℕ) → LockoutState → LockoutState
 opened_after elapsed s =
     if opens_by_time s.fields then opened_at (s.closed_time + elapsed) s

@@ -26,14 +26,14 @@ after_failure s =
     then record (with_tries (s.fields.failed_tries + 1) s) { forgiving_time = 0 }
     else s
 
--- the number of failed tries left after this time: each full recoveryTime forgives one, down to
--- zero
+-- the number of failed tries left after this time: each full recoveryTime forgives one failed try,
+-- down to zero
 abbrev pub tries_left : LockoutFields → (time : ℕ) → ℕ
 tries_left f time = f.failed_tries - time / milliseconds f.recovery_time
 
 -- the lockout state when this time has counted towards forgiving failed tries: each full
--- recoveryTime forgives one. If any are left, the remaining time counts towards forgiving the next
--- one
+-- recoveryTime forgives one failed try. If failed tries are left, the remaining time counts towards
+-- forgiving the next failed try
 abbrev pub forgiven_at : (time : ℕ) → LockoutState → LockoutState
 forgiven_at time s =
     let left = tries_left s.fields time in
@@ -41,7 +41,8 @@ forgiven_at time s =
       forgiving_time = if left == 0 then 0 else time % milliseconds s.fields.recovery_time;
     }
 
--- the lockout state after some milliseconds: each full recoveryTime forgives a failed try
+-- the lockout state after some milliseconds: each full recoveryTime forgives a failed try. If
+-- recoveryTime is 0, no try is forgiven, and the time towards forgiving is 0
 unfoldable pub forgiven_after : (elapsed : ℕ) → LockoutState → LockoutState
 forgiven_after elapsed s =
     if counts_tries s.fields then forgiven_at (s.forgiving_time + elapsed) s

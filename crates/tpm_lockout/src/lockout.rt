@@ -1,5 +1,5 @@
-//! Dictionary attack protection in operation: failed tries, their forgiveness over time, and the
-//! disabling of lockoutAuth (TPM 2.0 Library, Part 1, section 19.8).
+//! Counts failed tries, forgives them over time, and disables and enables lockoutAuth (TPM 2.0
+//! Library, Part 1, section 19.8).
 
 ghost use Rattle.std.specs.Prelude.{◌≡◌, ◌-◌, ◌<◌, ◌*◌, ◌^◌, false};
 ghost use Rattle.tpm_lockout.specs.Lockout.{milliseconds, new_lockout, restored, times_restarted};

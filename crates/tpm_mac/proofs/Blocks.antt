@@ -1,4 +1,4 @@
--- Blocks 1 to n of KDFa, concatenated.
+-- If the blocks of KDFa are written one after another, the output is the key that KDFa derives.
 use Rattle.std.proofs.Common.{◌≡◌, ℕ, zero, suc, ◌+◌, ◌-◌, ◌*◌, ◌<◌, ◌≤◌, List, ◌∷◌, [], ◌++◌, add-one, ap, arith, drop, length, length-append, sym, take, ◌∙◌}
 use Rattle.std.proofs.lemmas.Grind.{div_ceil_times, flat_map-append}
 use Rattle.std.proofs.lemmas.List.{append-nil, take_all}
@@ -35,8 +35,8 @@ length-pieces_to piece size each zero = omega arith
 length-pieces_to piece size each (suc n) =
     rw (pieces_to-suc piece n, length-append, each (1 + n), length-pieces_to piece size each n) (omega arith)
 
--- if a list starts with the first n blocks and block n + 1 is written after them, then the list
--- starts with the first n + 1 blocks
+-- if a list starts with the first n blocks, and block n + 1 is written after them, it starts with
+-- the first n + 1 blocks
 pub take-piece_written : (piece : ℕ → List ℕ) (size : ℕ) → ((i : ℕ) → length (piece i) ≡ size)
     → (old new block : List ℕ) (n : ℕ) → n * size ≤ length old
     → take (n * size) old ≡ take (length old) (pieces_to piece n)

@@ -1,4 +1,5 @@
--- Filling a list from its start, byte by byte or block by block.
+-- A list that is filled from its start, byte by byte or block by block, starts with the bytes that
+-- were written.
 use Rattle.std.proofs.Common.{◌≡◌, ℕ, zero, suc, ◌+◌, ◌-◌, ◌<◌, ◌≤◌, List, [], ◌∷◌, ◌++◌, add-zero, ap, append_assoc, arith, bit_xor, drop, length, length-append, length-drop, refl, replicate, slice_index_or, slice_set, sym, take, ◌∙◌, inl, inr}
 use Rattle.std.proofs.lemmas.Bool.{cases_lt}
 use Rattle.std.proofs.lemmas.Grind.{get_or_default_zero}

@@ -8,7 +8,7 @@ use Rattle.tpm_mac.specs.declared.hasher.Hasher.{Hasher}
 use Rattle.tpm_mac.specs.declared.hasher.State.{State}
 use Rattle.tpm_mac.specs.declared.hasher.State.TheVariants.{Sha1, Sha256}
 
--- The state is that of a hash with this algorithm that was fed this message.
+-- The state belongs to a hash with this algorithm, and this message was fed to it.
 abbrev pub StateHolds : State → HashAlg → List ℕ → Type 0
 StateHolds (Sha1 hasher) alg.Sha1 message = S1.Holds hasher message
 StateHolds (Sha1 hasher) alg.Sha256 message = ⊥

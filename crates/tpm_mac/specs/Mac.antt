@@ -7,7 +7,7 @@ use Rattle.tpm_mac.specs.declared.algorithm.HashAlg.{HashAlg}
 use Rattle.tpm_mac.specs.declared.mac.Mac.{Mac}
 
 -- The Mac uses this algorithm and key and was fed the message `text`. The input of its inner hash
--- is (K0 xor ipad) ++ text (steps 4 and 5), and that of its outer hash is K0 xor opad (step 7).
+-- is (K0 xor ipad) ++ text (steps 4 and 5). The input of its outer hash is K0 xor opad (step 7).
 unfoldable pub MacHolds : Mac → HashAlg → (key text : List ℕ) → Type 0
 MacHolds mac algorithm key text =
     Holds mac.inner algorithm (masked_key 0x36 (padded_key algorithm key) ++ text)

@@ -1,5 +1,5 @@
-//! Computes HMACs. If the key and the algorithm are those of the previous HMAC, the key is not
-//! masked and hashed again.
+//! Computes HMACs. If the key and the algorithm are the same as for the previous HMAC, the key is
+//! not masked and hashed again.
 
 ghost use Rattle.std.specs.Prelude.{◌≡◌, length};
 ghost use Rattle.tpm_mac.specs.Digest.{digest_size, joined_text};

@@ -17,14 +17,15 @@ use Rattle.tpm_machine.specs.Drawn.{bytes_drawn}
 pub framed_alone : (tag code : ℕ) → framed tag code [] ≡ to_be_bytes w16 tag ++ to_be_bytes w32 10 ++ to_be_bytes w32 code
 framed_alone tag code = ap (λ (l : List ℕ). to_be_bytes w16 tag ++ to_be_bytes w32 10 ++ l) (append-nil (to_be_bytes w32 code))
 
--- the encoding of the response to a command with at least one entry
+-- if a command has at least one entry, its response contains the size of the parameters, and the
+-- answers to the entries after the parameters
 success_some : (entries : List Entry) (handle : Option Handle) (answer area : List ℕ) → 1 ≤ length entries → success_text entries handle answer area ≡ framed 0x8002 0 (handle_answer handle ++ to_be_bytes w32 (length answer) ++ answer ++ area)
 unfolding success_text
 success_some [] handle answer area some = absurd (let none : ⊥ = omega arith in none)
 success_some (entry ∷ entries) handle answer area some = refl
 
 -- If the code draws new nonces, encrypts the parameters, answers the entries and then encodes the
--- response, the result is the one that `answer_to` defines.
+-- response, the result is as `answer_to` defines it.
 answered_by : (c : Whole) (grants : List (Option Grant)) (a : Written) (effect : Record) (random : List ℕ) (mid after : Record) (left parameters area text : List ℕ) → 1 ≤ length c.entries
     → entries_rolled effect c.entries (drop a.drawn random) ≡ record { after = mid; left = left }
     → parameters ≡ encrypted_answer mid (granted_entries c grants) a.parameters
@@ -54,7 +55,8 @@ answered_with c grants a effect random mid after entries granted draws left para
     spelled
     (rw (← paired) ended)
 
--- the number of random bytes that are left after the row and the new nonces have drawn theirs
+-- after the row and the new nonces have drawn their bytes, as many random bytes are left as
+-- `entries_rolled` leaves
 left_behind : (r mid : Record) (entries sent : List Entry) (draws left random : List ℕ) (drawn : ℕ)
     → entries ≡ sent → draws ≡ drop drawn random → entries_rolled r entries draws ≡ record { after = mid; left = left } → length left ≡ length (entries_rolled r sent (drop drawn random)).left
 left_behind r mid entries sent draws left random drawn same behind rolled =
@@ -67,7 +69,7 @@ drawn_few r mid entries sent draws left random drawn same behind rolled few row 
     let is = left_behind r mid entries sent draws left random drawn same behind rolled in
     omega (arith, is, ap length behind, length-drop drawn random)
 
--- the total number of random bytes that the row and the new nonces draw
+-- the row and the new nonces together draw `bytes_drawn` random bytes
 pub drawn_in_all : (r mid : Record) (entries sent : List Entry) (draws left random : List ℕ) (drawn : ℕ)
     → entries ≡ sent → draws ≡ drop drawn random → entries_rolled r entries draws ≡ record { after = mid; left = left } → length random - length left ≡ bytes_drawn random r sent drawn
 drawn_in_all r mid entries sent draws left random drawn same behind rolled =

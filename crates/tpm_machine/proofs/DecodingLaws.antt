@@ -19,8 +19,8 @@ use Rattle.tpm_step.specs.declared.refused_command.RefusedCommand.{RefusedComman
 use Rattle.tpm_step.proofs.Binding.{ok_at}
 use Rattle.tpm_step.proofs.Decoding.{general_reads}
 
--- if a buffer passes the general checks, the resulting command is the one that `command_at` reads,
--- and no bytes remain after it
+-- if a buffer passes the general checks, `command_at` reads the same command from the buffer, and
+-- no bytes remain after it
 spells : (r : Record) (buffer : List ℕ) (c : Whole) → general r buffer ≡ Ok c → command_at buffer ≡ Ok (c, [])
 spells r buffer c is = ok_at (λ x. command_at buffer ≡ Ok (x, [])) (general r buffer) c (general_reads r buffer) is
 

@@ -1,4 +1,5 @@
--- The history that a device follows after an execution or a run.
+-- If a device follows a history, then after an execution or a run it follows the history with the
+-- accepted events added.
 use Rattle.std.proofs.Common.{◌≡◌, Bool, List, [], Bor, ℕ, subst, sym}
 use Rattle.std.specs.Fn.{Mut}
 use Rattle.tpm_record.specs.Record.{Record, manufactured}
@@ -14,8 +15,8 @@ use Rattle.tpm_step.proofs.Following.{execution_follows, manufactured_follows, r
 pub new_follows : (r : Record) (random : List ℕ) → r ≡ manufactured random → Follows r []
 new_follows r random is = subst (λ (x : Record). Follows x []) (sym is) (manufactured_follows random)
 
--- If a device follows a history, then after an event it follows the same history, to which the
--- event is added if it was accepted.
+-- If a device follows a history, then after an event it follows the history with this event added.
+-- An event that was not accepted is not added. The other claims of `FollowsOn` hold too.
 pub follows_on : (can : Bool) (old : Record) (event : PlainEvent) (x : Stepped) → Executes can old event x → FollowsOn old event x
 follows_on can old event x executes =
     let next : After Follows old event x = λ history follows. execution_follows can old event x history executes follows in

@@ -23,7 +23,7 @@ places can old object (Ok handle) new (adds, is) = ap (option_map object_handle)
 places can old object (Err Full) new (adds, is) = (ap (option_map object_handle) adds.0, is ∙ ap (λ (objects : List (Option Object)). record old { objects = objects }) adds.1)
 places can old object (Err NoMemory) new (adds, is) = (adds.2, is ∙ ap (λ (objects : List (Option Object)). record old { objects = objects }) adds.3)
 
--- the record after an object was added is the one that the event `Placed` produces
+-- after an object was added, the record is the record after the event `Placed`
 placed_is : (old : Record) (object : Object) (found : Option ℕ) → lowest_free old.objects ≡ found → record old { objects = placed_at found object old.objects } ≡ placed old object
 placed_is old object found free = ap (λ (x : Option ℕ). record old { objects = placed_at x object old.objects }) (sym free)
 
@@ -48,8 +48,9 @@ if_memory P Q (Ok handle) so holds = so holds
 if_memory P Q (Err Full) so holds = so holds
 if_memory P Q (Err NoMemory) so holds = tt
 
--- The facts that hold after an object was placed on a device. The same facts hold after every
--- execution.
+-- These facts hold after an object was to be placed on a device. The result is as `Places` says.
+-- Unless an allocation failed, the call executed an event, and the device still follows its
+-- history.
 pub record Tells (can : Bool) (old : Record) (object : Object) (result : Result Handle SlotFault) (new : Record) : Type 0 where
   pub places : Places can old result new
   pub executes : IfMemory result (Executes can old (Placed object) (placing_seen new))

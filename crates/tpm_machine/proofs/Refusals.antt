@@ -51,7 +51,7 @@ steps_harmless can r event x (refused, only, is) = rw is (step_harmless refused 
 pub steps_exactly : (can : Bool) (r : Record) (event : PlainEvent) (x : Stepped) → x ≡ step r event → Steps can r event x
 steps_exactly can r event x e = (false, λ t. absurd (false≢true t), e)
 
--- an answer equal to the defined one satisfies `Answers`: it is the case in which no allocation
+-- an answer equal to the defined answer satisfies `Answers`: it is the case in which no allocation
 -- failed
 pub answers_exactly : (can : Bool) (r : Record) (random : List ℕ) (a : Result Accepted RefusedCommand) (x : Stepped) → x ≡ stepped_of r random a → Answers can r random a x
 answers_exactly can r random a x e = (false, λ t. absurd (false≢true t), e)

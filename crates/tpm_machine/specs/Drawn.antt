@@ -7,8 +7,8 @@ use Rattle.tpm_step.specs.Entries.{entries_rolled}
 use Rattle.tpm_step.specs.Events.{PlainEvent, Given, Cycled, Placed}
 use Rattle.tpm_step.specs.Step.{Accepted, accepted}
 
--- the number of random bytes that a command draws in all: `drawn` by its row, and then those for
--- the new nonces of its entries
+-- the number of random bytes that a command draws in all: `drawn` by its row, and then the bytes
+-- for the new nonces of its entries
 abbrev pub bytes_drawn : List ℕ → Record → List Entry → (drawn : ℕ) → ℕ
 bytes_drawn random r entries drawn =
     length random - length (entries_rolled r entries (drop drawn random)).left

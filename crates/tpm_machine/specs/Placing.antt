@@ -1,4 +1,4 @@
--- The effect of placing an object from a saved context on a machine.
+-- The effect on a machine when an object from a saved context is placed.
 use Rattle.std.specs.Prelude.{◌≡◌, Bool, true, [], None, Some, Result, Ok, Err}
 use Rattle.tpm_containers.specs.declared.slots.SlotFault.{SlotFault}
 use Rattle.tpm_containers.specs.declared.slots.SlotFault.TheVariants.{Full, NoMemory}

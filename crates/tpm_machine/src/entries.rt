@@ -21,7 +21,7 @@ use tpm_types_command::AuthEntry;
 /// (TPMS_AUTH_RESPONSE, TPM 2.0 Library, Part 2, section 10.13.3).
 const PASSWORD_ANSWER: [u8; 5] = [0, 0, 1, 0, 0];
 
-/// The maximum total size of the answers to a command's entries: three of 69 bytes.
+/// The maximum total size of the answers to a command's entries: three answers of 69 bytes.
 pub const ENTRY_ANSWERS_LIMIT: usize = 207;
 
 /// The size of the next nonce of an entry's session.
@@ -191,8 +191,8 @@ fn end_entry<K: Keep>(keep: &mut K, entry: &AuthEntry, grant: Option<Grant>)
     }
 }
 
-/// Ends the sessions that do not continue, and resets the policies of the others that authorized a
-/// handle.
+/// Ends the sessions that do not continue. Resets the policy of each other policy session that
+/// authorized a handle.
 pub fn end_entries<K: Keep>(keep: &mut K, entries: &[AuthEntry], grants: &[Option<Grant>])
     ensures { K.record_of keep.new
         ≡ entries_ended (K.record_of keep.old) (zip (map entry_of entries.now) grants.now) }

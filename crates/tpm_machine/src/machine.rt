@@ -107,7 +107,7 @@ impl<K: Keep> Machine<K> {
         self.drawn
     }
 
-    /// Executes one event. The response, the row and the new state are those that the table
+    /// Executes one event. The response, the row and the new state are those that the event's step
     /// defines, except that a command that may allocate can return MEMORY instead of succeeding.
     /// `Executes` also states facts about every outcome and every record.
     pub fn execute(&mut self, event: &Event) -> Outcome
@@ -188,8 +188,7 @@ impl<K: Keep> Machine<K> {
         ensures runs { Runs F.FnMut K.can_refuse (state_of K.record_of self.old) tell.old
             (map plain_event events.now) (state_of K.record_of self.new) tell.new }
 
-        // If no allocation can fail, the final record is the one that the steps of the events
-        // produce.
+        // If no allocation can fail, the final record is the record after the steps of the events.
         ensures after { K.can_refuse ≡ false → state_of K.record_of self.new
             ≡ after_all (state_of K.record_of self.old) (map plain_event events.now) }
 

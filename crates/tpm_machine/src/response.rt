@@ -93,7 +93,8 @@ fn write_plain(handle: Option<Handle>, parameters: &[u8], text: &mut Response)
     append(text, parameters);
 }
 
-/// Writes the response to a successful command with entries. `area` contains the answers to them.
+/// Writes the response to a successful command with entries. `area` contains the answers to the
+/// entries.
 fn write_with_area(handle: Option<Handle>, parameters: &[u8], area: &[u8], text: &mut Response)
     requires empty { text.old.items ≡ [] }
     requires parameters { length parameters.now ≤ ANSWER_LIMIT }
@@ -127,7 +128,8 @@ fn encrypt_answer<K: Keep>(
 }
 
 /// Writes the response to a successful command with entries. Renews the nonces of the entries'
-/// sessions, and ends those that do not continue. Returns how many random bytes the command drew.
+/// sessions, and ends the sessions that do not continue. Returns how many random bytes the command
+/// drew.
 #[inline(never)]
 fn write_with_sessions<K: Keep>(
     keep: &mut K,

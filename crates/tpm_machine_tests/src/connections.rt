@@ -1,4 +1,4 @@
-//! Connections that take turns.
+//! Tests of connections that take turns.
 
 use super::comparison::check;
 use super::device::{STARTUP, answer, feed, host, mux, turn};

@@ -1,4 +1,4 @@
-//! Three connections that measure into PCRs, in several orders. Afterwards TPM2_PCR_Read returns
+//! Tests of three connections that extend PCRs, in several orders. Afterwards TPM2_PCR_Read returns
 //! the value that the accepted commands determine.
 
 use super::comparison::check;

@@ -252,7 +252,7 @@ const POLICY: Exchange = (
 );
 
 /// TPM2_StartAuthSession, which allocates memory if the state is stored in lists. The new session
-/// gets the handle of the earlier one, which is free again.
+/// gets the handle of the earlier session, which is free again.
 const START: Exchange = (
     "80010000002b0000017640000007400000070010000000000000000000000000000000000000010010000b",
     &[("80010000002000000000030000000010", 16)],

@@ -1,5 +1,5 @@
-//! NV indices: makes each call once, with lists and with fixed slots, and compares a digest with
-//! one from Python's `hashlib`.
+//! Tests of NV indices. Each call is made once, with lists and with fixed slots. Python's `hashlib`
+//! computed the expected digest.
 
 use super::comparison::check;
 use std::alloc::Global;

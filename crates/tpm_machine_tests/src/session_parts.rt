@@ -1,5 +1,5 @@
-//! Sessions by handle, in both kinds of slots, and values computed by other programs: HMACs and
-//! hashes by Python's `hmac` and `hashlib`, the encrypted parameter by OpenSSL.
+//! Tests of sessions by handle, in both kinds of slots. Other programs computed the expected
+//! values: Python's `hmac` and `hashlib` the HMACs and hashes, and OpenSSL the encrypted parameter.
 
 ghost use Rattle.std.specs.Prelude.{◌≡◌, ◌≤◌, length};
 

@@ -48,7 +48,7 @@ other_bytes most radix (c ∷ cs) other = rw other refl
 pub digits_are_utf8 : (radix : ℕ) (digits : List ℕ) → radix ≤ 36 → list_all (is_digit radix) digits ≡ true → IsUtf8 digits
 digits_are_utf8 radix digits small all = IsUtf8-from_ascii digits (digits_are_ascii radix digits small ((each_decides radix digits).0 all))
 
--- If a text consists of digits, the number in it is the value of these digits.
+-- If a text is not empty and consists of digits, the number in it is the value of these digits.
 is_number : (radix : ℕ) (digits : List ℕ) → 0 < length digits → list_all (is_digit radix) digits ≡ true → numeral radix digits ≡ Some (digits_value radix digits)
 unfolding numeral
 is_number radix [] some all = absurd (omega arith)

@@ -36,8 +36,8 @@ unfoldable pub number_of : List ℕ → Option ℕ
 number_of token =
     if starts_with nat_eq token (codes "0x") then numeral 16 (drop 2 token) else numeral 10 token
 
--- the number that was read, if there is one. Fails with Bad if there is none, or with Range if the
--- number exceeds this limit
+-- the number that was read, if a number was read. Fails with Bad if there is no number, or with
+-- Range if the number exceeds this limit
 unfoldable pub at_most : ℕ → Option ℕ → Result ℕ TokenFault
 at_most most written = do
   number ← ok_or written Bad
@@ -52,6 +52,6 @@ number_in most token = at_most most (number_of token)
 abbrev pub decimal_of : List ℕ → Option ℕ
 decimal_of digits = result_ok (at_most (2 ^ 32 - 1) (numeral 10 digits))
 
--- this number if it is that of a locality (0 to 4), and None otherwise
+-- this number if it is the number of a locality (0 to 4), and None otherwise
 abbrev pub locality_of : ℕ → Option ℕ
 locality_of number = if nat_le number 4 then Some number else None

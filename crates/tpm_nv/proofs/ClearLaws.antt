@@ -1,5 +1,5 @@
--- The effect of TPM2_Clear on stored NV indices: which bytes of the data area are kept, and which
--- indices the remaining heads and bytes represent.
+-- TPM2_Clear keeps the bytes of the NV indices that the platform defined. The remaining heads and
+-- bytes represent exactly these indices.
 use Rattle.std.proofs.Common.{◌≡◌, ℕ, ◌+◌, ◌-◌, ◌≤◌, Bool, true, false, cond, List, [], ◌∷◌, ◌++◌, length, take, drop, refl, sym, ap, ◌∙◌, arith, append_assoc, length-append, length-drop}
 use Rattle.std.proofs.lemmas.Bool.{cond_both}
 use Rattle.std.proofs.lemmas.List.{drop-drop, drop_at, length-take-le, take_at}

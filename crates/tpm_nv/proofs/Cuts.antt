@@ -317,8 +317,7 @@ put_all piece bytes same =
     let none : drop (0 + length piece) bytes ≡ [] = drop_all (0 + length piece) bytes (omega arith) in
     rw none (append-nil piece)
 
--- If a gap is opened in the area, filled with a piece, and closed again, the area is the original
--- one.
+-- If a gap is opened in the area, filled with a piece, and closed again, the area is unchanged.
 pub closed_again : (start size : ℕ) (piece area : List ℕ) → start ≤ length area → length piece ≡ size → closed_up start size (take start area ++ (piece ++ drop start area)) ≡ area
 closed_again start size piece area inside same =
     let front = take start area in

@@ -59,7 +59,7 @@ pub known_of : (P : NvIndex → Type 0) (found : Option NvIndex) (x : NvIndex) �
 known_of P None x is known = absurd cc
 known_of P (Some y) x is known = let same : y ≡ x = cc in subst P same known
 
--- If the new heads and area represent the old indices with one of them changed, they represent the
+-- If the new heads and area represent the old indices with one index changed, they represent the
 -- old contents with this index changed.
 pub contents_changed : (es new : Entries Head) (area after : List ℕ) (count : ℕ) (handle : Handle) (shown : NvContents) (x : NvIndex) (f : NvIndex → NvIndex) → (let view : NvContents = record { indices = indices_of es area; max_count = count } in view ≡ shown) → at_key (indices_of es area) handle.number ≡ Some x → indices_of new after ≡ changed_key (indices_of es area) handle.number (f x) → (index : NvIndex) → index_at shown handle ≡ Some index → (let view : NvContents = record { indices = indices_of new after; max_count = count } in view ≡ changed_index shown handle (f index))
 contents_changed es new area after count handle shown x f view found seen index is =
@@ -137,8 +137,8 @@ length_filled true start size byte area fits = refl
 length_filled false start size byte area fits =
     length_put start (replicate size byte) area (omega (arith, fits, length-replicate {A = ℕ} size byte))
 
--- Filling a piece of the area, if it is unwritten, and then writing bytes into it has the same
--- result as doing both in a copy of the piece, which then replaces the piece.
+-- Filling a piece of the area, if it is unwritten, and then writing bytes into it can be done in a
+-- copy of the piece. If the copy then replaces the piece, the result is the same.
 filled_put : (is_written : Bool) (start size offset byte : ℕ) (bytes area : List ℕ) → start + size ≤ length area → offset + length bytes ≤ size → put_over (start + offset) bytes (filled is_written start size byte area) ≡ put_over start (put_over offset bytes (cond is_written (piece_of start size area) (replicate size byte))) area
 filled_put true start size offset byte bytes area fits within = put_within start size offset bytes area fits within
 filled_put false start size offset byte bytes area fits within =
@@ -197,8 +197,8 @@ kept_put es area bytes key offset byte h kept there within =
     refl
     (length_put_filled es area bytes key offset byte h kept there within)
 
--- In the result of a write, the offset and the size that the code uses can be replaced by those of
--- the index, since they are equal.
+-- The result of a write stays the same if the offset, the size and the written state of the index
+-- replace the equal values that the code uses.
 pub put_is : (after bytes area : List ℕ) (is_written : Bool) (start size offset byte from many : ℕ) (b : Bool) → after ≡ put_over (from + offset) bytes (filled b from many byte area) → b ≡ is_written → from ≡ start → many ≡ size → after ≡ put_over (start + offset) bytes (filled is_written start size byte area)
 put_is after bytes area is_written start size offset byte from many b is written from_is size_is =
     is
@@ -241,8 +241,8 @@ start_is es area count handle shown view =
 pub known_some : (P : NvIndex → Type 0) (found : Option NvIndex) (x : NvIndex) → found ≡ Some x → P x → IsSomeAnd found P
 known_some P found x is known = subst (λ (o : Option NvIndex). IsSomeAnd o P) (sym is) known
 
--- If a pass over the heads finds no head, there is no index; if it finds one, the index consists
--- of that head and its bytes.
+-- If a pass over the heads finds no head, there is no index. If it finds a head, the index consists
+-- of this head and its bytes.
 module _ (es : Entries Head) (area : List ℕ) (count : ℕ) (handle : Handle) (shown : NvContents) (view : (let kept : NvContents = record { indices = indices_of es area; max_count = count } in kept ≡ shown)) where
   pub found_none : (found : Option Found) → IfNone found (at_key es handle.number ≡ None) → IfNone found (index_at shown handle ≡ None)
   found_none None none = none_at es area count handle shown view none

@@ -101,8 +101,8 @@ counted contents count = record contents { max_count = max contents.max_count co
 
 -- the contents after TPM2_NV_Increment: the counter is incremented. Its first increment makes it
 -- one more than the largest value that any counter has ever had (section 31.2). That largest value
--- is raised to the counter's new value if it was lower. A counter at 2^64 - 1 cannot be incremented
--- (a choice of this implementation)
+-- is raised to the counter's new value if it was lower. The new value must be at most 2^64 - 1 (a
+-- choice of this implementation)
 unfoldable pub incremented : NvContents → Handle → Result NvContents WriteFault
 incremented contents handle = do
   index ← index_or_fault contents handle write_fault.Undefined

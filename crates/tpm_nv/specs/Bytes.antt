@@ -1,4 +1,4 @@
--- Edits of an area of bytes.
+-- Edits of an area of bytes: bytes are overwritten, inserted, removed, moved or copied.
 use Rattle.std.specs.Prelude.{ℕ, ◌+◌, ◌-◌, List, ◌++◌, length, take, drop, replicate, Bool, if◌then◌else◌}
 
 -- the bytes of this size at this offset
@@ -19,11 +19,11 @@ filled is_written start size byte bytes =
 abbrev pub opened : (start size : ℕ) → List ℕ → List ℕ
 opened start size bytes = take start bytes ++ (replicate size 0 ++ drop start bytes)
 
--- the bytes with `size` of them removed at an offset
+-- the bytes without the `size` bytes at an offset
 abbrev pub closed_up : (start size : ℕ) → List ℕ → List ℕ
 closed_up start size bytes = take start bytes ++ drop (start + size) bytes
 
--- the bytes with `size` of them moved from the end to an offset (`moved_from_end`), or from an
+-- the bytes after `size` of them are moved from the end to an offset (`moved_from_end`), or from an
 -- offset to the end (`moved_to_end`)
 unfoldable pub moved_from_end : (start size : ℕ) → List ℕ → List ℕ
 moved_from_end start size bytes =
@@ -34,7 +34,7 @@ abbrev pub moved_to_end : (start size : ℕ) → List ℕ → List ℕ
 moved_to_end start size bytes =
     take start bytes ++ (drop (start + size) bytes ++ piece_of start size bytes)
 
--- the bytes with `size` of them copied to a lower offset
+-- the bytes after `size` of them are copied to a lower offset
 abbrev pub moved_down : (start size place : ℕ) → List ℕ → List ℕ
 moved_down start size place bytes =
     take place bytes ++ (piece_of start size bytes ++ drop (place + size) bytes)

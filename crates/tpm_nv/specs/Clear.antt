@@ -11,8 +11,8 @@ use Rattle.tpm_nv.specs.Index.{NvContents}
 abbrev pub is_by_platform : NvPublic → Bool
 is_by_platform public = has public.attributes attribute.PlatformCreate
 
--- the contents after TPM2_Clear: all indices are removed except those that the platform defined;
--- the largest value that any counter has ever had does not change
+-- the contents after TPM2_Clear: only the indices that the platform defined remain. The largest
+-- value that any counter has ever had does not change
 unfoldable pub cleared : NvContents → NvContents
 cleared contents =
     record contents {

@@ -31,17 +31,18 @@ use Rattle.tpm_nv.specs.declared.definition.DefinitionFault.TheVariants as fault
 abbrev pub has_one : NvAttributes → List NvAttribute → Bool
 has_one attributes these = list_any (λ one. has attributes one) these
 
--- the attributes that allow somebody to write, and those that allow somebody to read
+-- the attributes that allow somebody to write the index
 abbrev pub write_attributes : List NvAttribute
 write_attributes =
     attribute.PpWrite ∷ attribute.OwnerWrite ∷ attribute.AuthWrite ∷ attribute.PolicyWrite ∷ []
 
+-- the attributes that allow somebody to read the index
 abbrev pub read_attributes : List NvAttribute
 read_attributes =
     attribute.PpRead ∷ attribute.OwnerRead ∷ attribute.AuthRead ∷ attribute.PolicyRead ∷ []
 
--- the attributes that a definition may not set: those that describe the index's state (the first
--- three), and those that this device does not support
+-- the attributes that a definition may not set. The first three describe the index's state, and
+-- this device does not support the last three
 abbrev pub undefinable_attributes : List NvAttribute
 undefinable_attributes =
     attribute.Written ∷ attribute.ReadLocked ∷ attribute.WriteLocked
@@ -92,7 +93,8 @@ definition_passes by_platform p auth_size = do
 abbrev pub defined_index : NvPublic → List ℕ → NvIndex
 defined_index public auth_value = record { public = public; auth_value = auth_value; bytes = [] }
 
--- The result says whether an index can be added with its handle, and if not, why.
+-- The result says whether an index with this public area can be added. The fault says why not: the
+-- handle already has an index, or there is no room for the index.
 abbrev pub HasRoomFor : NvContents → NvPublic → Result (Unit {0}) RestoreFault → Type 0
 HasRoomFor contents public (Ok done) =
     (index_at contents public.nv_index ≡ None) × (has_room contents public.data_size ≡ true)
@@ -101,8 +103,8 @@ HasRoomFor contents public (Err Space) =
     (index_at contents public.nv_index ≡ None) × (has_room contents public.data_size ≡ false)
 HasRoomFor contents public (Err NoMemory) = ⊥
 
--- An index was added with its handle, or nothing changed for one of three reasons. The first that
--- applies is returned: the handle already has an index; there is no room for the index; an
+-- On success, the index was added with its handle. On failure, nothing changed, and the fault is
+-- the first that applies: the handle already has an index, there is no room for the index, or an
 -- allocation failed.
 abbrev pub Restores : Bool → NvContents → NvIndex → Result (Unit {0}) RestoreFault → NvContents
     → Type 0
@@ -126,8 +128,8 @@ Restores can old index (Err NoMemory) new =
 abbrev pub IsDefinable : NvPublic → Type 0
 IsDefinable public = (has public.attributes attribute.Written ≡ false) × (has_type_size public ≡ true)
 
--- An index was defined, or nothing changed because the index's public area has WRITTEN set, its
--- type does not allow its size, or it could not be added with its handle.
+-- On success, the index was defined. On failure, nothing changed: the index's public area has
+-- WRITTEN set, its type does not allow its size, or it could not be added with its handle.
 abbrev pub Defines : Bool → NvContents → NvIndex → Result (Unit {0}) DefineFault → NvContents
     → Type 0
 Defines can old index (Ok done) new = IsDefinable index.public × Restores can old index (Ok done) new

@@ -1,5 +1,5 @@
--- How NV indices are stored in memory, which the standard leaves open: the heads, which are indices
--- without their data, are keyed by handle, and the data of all indices is in one area, in order of
+-- How NV indices are stored in memory. The standard leaves this open. A head is an index without
+-- its data. The heads are keyed by handle, and the data of all indices is in one area, in order of
 -- handle. Each index occupies as many bytes as its head says, even before it is written.
 use Rattle.tpm_types.specs.Limits.{nv_index_limit, nv_space_limit}
 use Rattle.std.specs.Prelude.{◌≡◌, ℕ, ◌+◌, ◌≤◌, nat_le, Bool, true, List, [], ◌∷◌, ◌++◌, length, take, drop, Some, if◌then◌else◌, map}
@@ -68,8 +68,8 @@ abbrev pub AreHeads : Entries Head → Type 0
 AreHeads [] = Unit {0}
 AreHeads (e ∷ es) = IsHead e.0 e.1 × AreHeads es
 
--- Valid heads, sorted by key and within the limits, and an area as long as the sum of the sizes in
--- the heads.
+-- The heads are valid, sorted by key and within the limits, and the area is as long as the sum of
+-- the sizes in the heads.
 pub record AreKept (heads : Entries Head) (area : List ℕ) : Type 0 where
   pub ascends : Ascends heads
   pub few : length heads ≤ nv_index_limit
@@ -95,13 +95,15 @@ pub record IsIndexOf (contents : NvContents) (handle : Handle) (head : Head) (by
 abbrev pub started_head : Head → Head
 started_head head = with_attributes head (started_attributes head.public.attributes)
 
--- whether TPM2_Clear keeps an index, and the bytes of the indices that it keeps
+-- whether TPM2_Clear keeps an index
 abbrev pub stays : Head → Bool
 stays head = is_by_platform head.public
 
+-- the bytes of an index if TPM2_Clear keeps it, or no bytes otherwise
 abbrev pub kept_piece : Head → List ℕ → List ℕ
 kept_piece head bytes = if stays head then bytes else []
 
+-- the bytes of the indices that TPM2_Clear keeps
 abbrev pub kept_bytes : Entries Head → List ℕ → List ℕ
 kept_bytes [] area = []
 kept_bytes (e ∷ es) area =

@@ -31,7 +31,7 @@ pub trait Area: Drop + Sized {
         requires { start + length piece.now ≤ length (bytes self.old) }
         ensures { bytes self.new ≡ put_over start piece.now (bytes self.old) };
 
-    /// Sets `size` bytes at an offset to one value.
+    /// Sets `size` bytes at an offset to the same value.
     fn fill(&mut self, start: usize, size: usize, byte: u8)
         requires { start + size ≤ length (bytes self.old) }
         ensures { bytes self.new ≡ put_over start (replicate size byte) (bytes self.old) };
@@ -49,7 +49,7 @@ pub trait Area: Drop + Sized {
         requires { start + size ≤ length (bytes self.old) }
         ensures { bytes self.new ≡ closed_up start size (bytes self.old) };
 
-    /// Copies `size` bytes from one offset to a lower one.
+    /// Copies `size` bytes from an offset to a lower offset.
     fn move_down(&mut self, start: usize, size: usize, place: usize)
         requires inside { start + size ≤ length (bytes self.old) }
         requires lower { place ≤ start }
@@ -69,7 +69,7 @@ pub(crate) fn put_piece(bytes: &mut [u8], start: usize, piece: &[u8])
     bytes[start..start + piece.len()].copy_from_slice(piece);
 }
 
-/// Sets `size` bytes at an offset to one value.
+/// Sets `size` bytes at an offset to the same value.
 pub(crate) fn fill_piece(bytes: &mut [u8], start: usize, size: usize, byte: u8)
     requires { start + size ≤ length bytes.old }
     ensures { bytes.new ≡ put_over start (replicate size byte) bytes.old }
@@ -94,7 +94,7 @@ pub(crate) fn move_to_end(bytes: &mut [u8], start: usize, size: usize)
     bytes[start..].rotate_left(size);
 }
 
-/// Copies `size` bytes from one offset to a lower one.
+/// Copies `size` bytes from an offset to a lower offset.
 #[tactic(auto, using(crate::proofs::ByteLaws::moved_by_copying))]
 pub(crate) fn copy_down(bytes: &mut [u8], start: usize, size: usize, place: usize)
     requires inside { start + size ≤ length bytes.old }

@@ -17,7 +17,7 @@ pub enum WriteFault {
     PastData,
     /// WRITEALL is set, and the write would not cover all of the data.
     Partial,
-    /// The counter has the largest possible value.
+    /// The counter's next value would exceed 2^64 - 1.
     Exhausted,
 }
 

@@ -16,7 +16,7 @@ use tpm_types::{AuthValue, NV_INDEX_LIMIT};
 use tpm_types_nv::NvAttributes;
 
 /// The offset in the shared data area at which the bytes of the index with this key begin, or would
-/// begin if there were one.
+/// begin if the index existed.
 pub(crate) fn start_of(heads: &[(u32, Head)], key: u32) -> usize
     requires { total heads.now ≤ nv_space_limit }
     ensures { result ≡ start_of heads.now key }

@@ -49,7 +49,7 @@ pub trait Indices: Drop + Sized {
             ≡ (contents self.now).indices }
         ensures whole { length result.now ≡ data_bytes (contents self.now) };
 
-    /// The lowest handle of an index at or above this one.
+    /// The lowest handle of an index at or above this handle.
     fn next(&self, handle: Handle) -> Option<u32>
         ensures { result ≡ next_index (contents self.now) handle.number };
 

@@ -35,9 +35,9 @@ reader_passes target =
     refused_if (not (may_read target)) (action_refusal action.First (plain code.NvAuthorization))
 
 -- the refusal of a write after check A1: by A2 if the index is locked against writing; by A3 if its
--- type does not match the command; by A4 if the write extends past the end of the data, if it does
--- not cover all of the data although WRITEALL is set, or if the counter is at its maximum. At this
--- point, the index always exists
+-- type does not match the command. A4 refuses a write that extends past the end of the data, or
+-- does not cover all of it although WRITEALL is set. A4 also refuses an increment if the new value
+-- would exceed 2^64 - 1. At this point, the index always exists
 abbrev pub writing_refusal : WriteFault → Refused
 writing_refusal write_fault.Locked = action_refusal action.Second (plain code.NvLocked)
 writing_refusal write_fault.Attributes =

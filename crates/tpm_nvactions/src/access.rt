@@ -31,7 +31,7 @@ pub fn check_reader(target: &Target) -> Result<(), Refused>
     }
 }
 
-/// The refusal of a write to an index with this fault.
+/// The refusal of a write that failed with this fault.
 pub fn writing_refusal(fault: WriteFault) -> Refused
     ensures { result ≡ writing_refusal fault }
 {
@@ -50,7 +50,7 @@ pub fn writing_refusal(fault: WriteFault) -> Refused
     }
 }
 
-/// The refusal of a lock of an index with this fault.
+/// The refusal of a lock that failed with this fault.
 pub fn lock_refusal(fault: LockFault) -> Refused
     ensures { result ≡ lock_refusal fault }
 {

@@ -187,7 +187,7 @@ refuses : (a b : ObjectType) (area : Sensitive) → b ≢ a → of_type a b area
 refuses a b area other =
     rw (ne_eqb (object_type_number a) (object_type_number b) (λ same. other (sym (same_type a b same)))) refl
 
--- Unwrapping a wrapped private area returns the sensitive area if its type is that of the public
+-- Unwrapping a wrapped private area returns the sensitive area if it has the type of the public
 -- area, and fails otherwise.
 wrapped_is : (parent : Object) (public : Public) (name iv : List ℕ) (area : Sensitive)
     → name ≡ object_name public → length iv ≡ 16 → IsSensitive area

@@ -33,7 +33,8 @@ new_object_areas template given seed key =
     let area : Sensitive = new_sensitive template given seed key in
     record { public = new_public template area; sensitive = area }
 
--- both areas of a new object. The random bytes are first its key, then its seedValue
+-- both areas of a new object. The first random bytes become its key, and the next random bytes
+-- become its seedValue
 unfoldable pub created : Public → SensitiveValues → (random : List ℕ) → Created
 created template given random =
     new_object_areas template given

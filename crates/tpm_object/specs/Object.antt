@@ -34,7 +34,7 @@ is_storage_parent p =
     && not (has p.attributes attribute.Sign)
 
 -- an object with these areas, under a parent with this qualified Name. Trailing zeros of its
--- authorization value are removed, and its type is that of its public area
+-- authorization value are removed, and its type is the type of its public area
 abbrev pub loaded_object : HierarchyHandle
     → Public → Sensitive → (parent_qualified_name : List ℕ) → Object
 loaded_object hierarchy public area parent_qualified_name = record {
@@ -48,9 +48,9 @@ loaded_object hierarchy public area parent_qualified_name = record {
 }
 
 -- The conditions that every loaded object satisfies: its public area can be encoded; its
--- authorization value is one that can be stored; its seedValue is at most 32 bytes long; its key or
--- data is within the limit (Part 2, sections 12.2.4 and 12.3.2.4); and its qualified Name is at
--- most 34 bytes long.
+-- authorization value can be stored; its seedValue is at most 32 bytes long; its key or data is
+-- within the limit (Part 2, sections 12.2.4 and 12.3.2.4); and its qualified Name is at most 34
+-- bytes long.
 pub record IsObject (object : Object) : Type 0 where
   pub public : IsPublic object.public
   pub auth_value : IsAuthValue object.auth_value

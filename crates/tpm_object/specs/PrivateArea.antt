@@ -19,10 +19,11 @@ use Rattle.tpm_types_object.specs.declared.sensitive.Sensitive.{Sensitive}
 use Rattle.tpm_object.specs.declared.object.Object.{Object}
 use Rattle.tpm_object.specs.declared.private_area.IntegrityFault.{IntegrityFault}
 
--- the KDFa labels for the keys of a private area: "STORAGE" and "INTEGRITY"
+-- "STORAGE": the KDFa label for the key that encrypts a private area
 abbrev pub storage_label : List ℕ
 storage_label = 0x53 ∷ 0x54 ∷ 0x4f ∷ 0x52 ∷ 0x41 ∷ 0x47 ∷ 0x45 ∷ []
 
+-- "INTEGRITY": the KDFa label for the HMAC key of a private area
 abbrev pub integrity_label : List ℕ
 integrity_label =
     0x49 ∷ 0x4e ∷ 0x54 ∷ 0x45 ∷ 0x47 ∷ 0x52 ∷ 0x49 ∷ 0x54 ∷ 0x59 ∷ []
@@ -112,8 +113,8 @@ decrypted_area parent name protected = do
   whole ← refused_if (not (length iv.0 == 16)) integrity_fault
   area_in (cfb_decrypt_of (storage_key parent name) iv.0 iv.1)
 
--- the sensitive area in the private area of the object with this public area; its type must be that
--- of the public area
+-- the sensitive area in the private area of the object with this public area. The two areas must
+-- have the same type
 unfoldable pub unwrapped : (parent : Object)
     → Public
     → (text : List ℕ)

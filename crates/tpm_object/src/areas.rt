@@ -21,7 +21,7 @@ ghost use Rattle.tpm_object.specs.Areas.{AreOfOneType, created, new_object_areas
 ghost use Rattle.tpm_object.specs.Primary.{primary_areas};
 
 /// The sensitive area of an object with this seedValue. It contains the caller's data, or this key
-/// if the caller provides none.
+/// if the caller provides no data.
 fn new_sensitive(template: &Public, given: &SensitiveCreate, seed: &[u8], key: &[u8]) -> Sensitive
     requires seed { length seed.now ≤ 32 }
     requires key { length key.now ≤ 32 }

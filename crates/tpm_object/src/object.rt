@@ -18,8 +18,8 @@ pub struct Object {
     pub hierarchy: HierarchyHandle,
     pub public: Public,
     pub auth_value: AuthValue,
-    /// The seedValue, from which `unique` is computed, together with `sensitive`. A storage parent
-    /// also derives the keys of its children's private areas from it.
+    /// The seedValue. `unique` is computed from the seedValue and `sensitive`. A storage parent
+    /// also derives the keys of its children's private areas from the seedValue.
     pub seed_value: Octets<32>,
     /// The object's key or sealed data.
     pub sensitive: Octets<SENSITIVE_LIMIT>,
@@ -50,7 +50,7 @@ pub fn is_keyed_hash(public: &Public) -> bool
     !are_of_cipher(public.parameters)
 }
 
-/// Whether other objects can be created or loaded under this one: it must be a SYMCIPHER object
+/// Whether other objects can be created or loaded under this object: it must be a SYMCIPHER object
 /// that is restricted, decrypts, and does not sign (TPM 2.0 Library, Part 1, section 23).
 pub fn is_storage_parent(public: &Public) -> bool
     ensures { result ≡ is_storage_parent public.now }

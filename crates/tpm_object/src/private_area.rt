@@ -117,7 +117,7 @@ pub fn wrap(parent: &Object, public: &Public, sensitive: &Sensitive, iv: &[u8; 1
     ensures value { result
         ≡ private_text parent.now (object_name public.now) iv.now sensitive.now }
     ensures small { length result ≤ 254 }
-    // Unwrapping returns the sensitive area again if its type is that of the public area.
+    // Unwrapping returns the sensitive area again if it has the type of the public area.
     ensures undone { object_type public.now ≡ sensitive.now.object_type
         → unwrapped parent.now public.now result ≡ Ok sensitive.now }
     // Unwrapping fails if the public and the sensitive area have different types.

@@ -15,7 +15,7 @@ use Rattle.tpm_types.specs.declared.pcr_selection.BankSelection.{BankSelection}
 use Rattle.tpm_pcr.specs.Banks.{all_pcrs, pcr_value, selected_pcrs, selected_values}
 use Rattle.tpm_pcr.specs.Values.{BankValues}
 
--- the concatenated values of a bank's selected PCRs below n
+-- the concatenated values of the selected PCRs of a bank whose numbers are below n
 abbrev pub text_below : BankValues → BankSelection → ℕ → List ℕ
 text_below all bank n =
     concat (map (pcr_value all bank.hash) (filter (is_selected bank.select) (numbers_below n)))

@@ -1,4 +1,5 @@
--- How changes of the banks affect the value of one PCR and the update counter.
+-- New banks contain the starting values. Extending or resetting a PCR changes only the values of
+-- this PCR, and increases the update counter.
 use Rattle.std.proofs.Common.{arith, ◌≡◌, ℕ, zero, suc, ◌+◌, ◌<◌, ◌++◌, Bool, true, false, cond, List, [], ◌∷◌, length, fold, get_or, set, refl, ap, sym, ◌∙◌}
 use Rattle.std.proofs.lemmas.Bool.Decides.{nat_tests}
 use Rattle.std.proofs.lemmas.Grind.{common_steps}

@@ -46,13 +46,13 @@ same_test a b c d false false e f h k = refl
 same_test a b c d true false e f h k = absurd (lt_false c d f (h (lt_true a b e)))
 same_test a b c d false true e f h k = absurd (lt_false a b e (k (lt_true c d f)))
 
--- Suppose that `old` values were read, and then up to k others, until there were eight in all.
--- There is room for one more exactly when k is less than 8 - `old`.
+-- Suppose that `old` values were read, and then up to k more values, until there were eight in all.
+-- One more value can be read exactly when k is less than 8 - `old`.
 pub room_left : (old k : ℕ) → nat_lt (old + min (8 - old) k) 8 ≡ nat_lt k (8 - old)
 room_left old k = same_test (old + min (8 - old) k) 8 k (8 - old) _ _ refl refl (λ h. omega arith) (λ h. omega arith)
 
--- The first `room` chosen PCRs below n + 1 are the first `room` chosen PCRs below n, followed by
--- PCR n if it is chosen and there is room for it.
+-- The first `room` chosen PCRs below n + 1 are the first `room` chosen PCRs below n. If PCR n is
+-- chosen and there is room for it, it follows them.
 chosen_by : (p : ℕ → Bool) (n room : ℕ) (b : Bool) → p n ≡ b → take room (filter p (numbers_below (n + 1))) ≡ cond (b && nat_lt (length (filter p (numbers_below n))) room) (take room (filter p (numbers_below n)) ++ n ∷ []) (take room (filter p (numbers_below n)))
 chosen_by p n room true e =
     rw (add-one, filter-append p (numbers_below n) (n ∷ []), e) (take_push room (filter p (numbers_below n)) n _ refl)
@@ -114,8 +114,8 @@ take_by : {X : Type 0} (room : ℕ) (xs ys : List X) (b : Bool) → nat_lt (leng
 take_by room xs ys true e = let below : length xs < room = lt_true (length xs) room e in take_beyond room (room - length xs) xs ys (omega arith)
 take_by room xs ys false e = let above : room ≤ length xs = le_false (length xs) room e in take_within room xs ys above
 
--- The first `room` elements of two concatenated lists are those of the first list, followed by
--- elements of the second if the first is shorter.
+-- The first `room` elements of two concatenated lists are the first `room` elements of the first
+-- list. If the first list is shorter, elements of the second list follow them.
 pub take-append : {X : Type 0} (room : ℕ) (xs ys : List X) → take room (xs ++ ys) ≡ take room xs ++ take (room - length xs) ys
 take-append room xs ys = take_by room xs ys _ refl
 
@@ -135,8 +135,8 @@ answered_more room after i banks front bank select below is kept left =
     ∙ sym (ap (answer_selection room) (drop_more banks i bank below))
     )
 
--- The values read from the remaining banks are those of the next bank, followed by those of the
--- banks after it.
+-- The values read from the remaining banks are the values of the next bank, followed by the values
+-- of the banks after it.
 pub read_more : (all : BankValues) (room after i : ℕ) (banks : List BankSelection) (bank : BankSelection) (front : List (List ℕ)) → i < length banks → bank ≡ get_or banks i bank → after ≡ room - length (selected_pcrs bank) → (front ++ take room (selected_values all bank)) ++ read_values all after (drop (i + 1) banks) ≡ front ++ read_values all room (drop i banks)
 unfolding read_values
 read_more all room after i banks bank front below is left =

@@ -1,4 +1,5 @@
--- A bank whose first values are replaced by saved ones still contains 24 values of the right size.
+-- If saved values replace the first values of a bank, the bank still contains 24 values of the
+-- right size.
 use Rattle.std.proofs.Common.{arith, ◌≡◌, ℕ, List, ◌++◌, length, drop, length-append, length-drop}
 use Rattle.std.proofs.lemmas.List.Elements.{All-append, All-drop}
 use Rattle.tpm_pcr.specs.Saved.{IsSavedBank}

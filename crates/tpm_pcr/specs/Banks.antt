@@ -15,8 +15,8 @@ use Rattle.tpm_pcr.specs.Values.{BankValues}
 unfoldable pub all_pcrs : List ℕ
 all_pcrs = numbers_below 24
 
--- the starting value of a PCR: for 17 to 22, all bits are set until a dynamic launch; for all
--- others, the value is zeros
+-- the starting value of a PCR: for 17 to 22, all bits are set until a dynamic launch; for all other
+-- PCRs, the value is zeros
 abbrev pub starting_value : HashAlg → ℕ → List ℕ
 starting_value bank pcr =
     replicate (digest_size bank) (if nat_le 17 pcr && nat_le pcr 22 then 0xff else 0)
@@ -51,10 +51,11 @@ HaveValues banks values =
 
 -- ---- the response of TPM2_PCR_Read
 
--- the PCRs that a bank's selection names, in ascending order, and their values
+-- the PCRs that a bank's selection names, in ascending order
 unfoldable pub selected_pcrs : BankSelection → List ℕ
 selected_pcrs bank = filter (is_selected bank.select) all_pcrs
 
+-- the values of the PCRs that a bank's selection names, in ascending order of the PCRs
 abbrev pub selected_values : BankValues → BankSelection → List (List ℕ)
 selected_values banks bank = map (pcr_value banks bank.hash) (selected_pcrs bank)
 
@@ -67,7 +68,7 @@ unfoldable pub read_values : BankValues → ℕ → List BankSelection → List 
 read_values banks room selection = take room (flat_map (selected_values banks) selection)
 
 -- the selection of exactly the PCRs whose values `read_values` returns: the first selected PCRs, up
--- to this number over all banks. A bank without any of them remains in the list
+-- to this number over all banks. A bank without a returned value remains in the list
 abbrev pub answer_selection : ℕ → List BankSelection → List BankSelection
 answer_selection room [] = []
 answer_selection room (bank ∷ selection) =

@@ -44,7 +44,7 @@ may_reset Debug locality = true
 may_reset Dynamic locality = locality == 4
 may_reset Application locality = true
 
--- the banks after a PCR's value in one of them was replaced, which counts as an update
+-- the banks after a PCR's value in one bank was replaced, which counts as an update
 abbrev pub with_value : HashAlg → ℕ → List ℕ → BankValues → BankValues
 with_value alg.Sha1 pcr value banks = record banks {
   sha1 = slice_set banks.sha1 pcr value;
@@ -70,8 +70,8 @@ value_extended alg.Sha1 old (Sha256 digest) = old
 value_extended alg.Sha256 old (Sha1 digest) = old
 value_extended alg.Sha256 old (Sha256 digest) = hash_of alg.Sha256 (old ++ digest)
 
--- a check that refuses a change of this many values if the PCR does not allow it from the locality,
--- or if the update counter would exceed 2^64 - 1
+-- a check of a change of this many values. It fails if the PCR does not allow the change from the
+-- locality, or if the update counter would exceed 2^64 - 1
 abbrev pub change_check : Bool → ℕ → BankValues → Result (Unit {0}) ChangeFault
 change_check may updates banks = do
   locality ← refused_if (not may) fault.Locality

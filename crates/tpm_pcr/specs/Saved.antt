@@ -1,6 +1,6 @@
--- The PCR values that TPM2_Shutdown(STATE) saves and TPM2_Startup(STATE) restores: those of the
--- PCRs that measure the platform's startup. TPM 2.0 Library, Part 1, section 12.2.3, and Part 3,
--- sections 9.3 and 9.4; the PC Client Platform TPM Profile specifies these PCRs.
+-- The PCR values that TPM2_Shutdown(STATE) saves and TPM2_Startup(STATE) restores: the values of
+-- the PCRs that measure the platform's startup. TPM 2.0 Library, Part 1, section 12.2.3, and Part
+-- 3, sections 9.3 and 9.4; the PC Client Platform TPM Profile specifies these PCRs.
 use Rattle.std.specs.Prelude.{◌≡◌, ℕ, ◌++◌, List, length, take, drop, replicate}
 use Rattle.std.specs.List.{All}
 use Rattle.tpm_pcr.specs.Values.{BankValues}
@@ -24,7 +24,7 @@ restored_in saved banks = record banks {
   sha256 = saved.sha256 ++ drop 16 banks.sha256;
 }
 
--- A bank of saved values contains sixteen values, each of 20 bytes for SHA-1 or 32 for SHA-256.
+-- A bank of saved values contains sixteen values of this size.
 abbrev pub IsSavedBank : ℕ → List (List ℕ) → Type 0
 IsSavedBank size values = (length values ≡ 16) × All (λ value. length value ≡ size) values
 

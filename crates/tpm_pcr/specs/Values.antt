@@ -2,11 +2,14 @@
 use Rattle.std.specs.Prelude.{◌≡◌, ℕ, ◌<◌, ◌^◌, List, length}
 use Rattle.std.specs.List.{All}
 
--- the values of PCRs 0 to 23 in each bank, and the update counter: the number of values written
--- plus the number of TPM2_Clear commands, both since the last TPM2_Startup
+-- the PCR banks of a device
 pub record BankValues : Type 0 where
+  -- the values of PCRs 0 to 23 in the SHA-1 bank
   pub sha1 : List (List ℕ)
+  -- the values of PCRs 0 to 23 in the SHA-256 bank
   pub sha256 : List (List ℕ)
+  -- the update counter: the number of values written plus the number of TPM2_Clear commands, both
+  -- since the last TPM2_Startup
   pub update_count : ℕ
 
 -- A bank contains 24 values of this size.

@@ -284,8 +284,8 @@ impl Banks {
     }
 }
 
-/// The starting value of each PCR: `high` for 17 to 22 until a dynamic launch, and `low` for the
-/// others.
+/// The starting value of each PCR: `high` for PCRs 17 to 22 until a dynamic launch, and `low` for
+/// all other PCRs.
 fn starting_values<T: Copy>(low: T, high: T) -> [T; 24]
     ensures { result ≡ replicate 17 low ++ replicate 6 high ++ low ∷ [] }
 {

@@ -15,7 +15,7 @@ abbrev number_after : ℕ → List ℕ → ℕ
 number_after n bytes = number_from_digits_after 256 n bytes
 
 -- If one number is less than another, it is still less after the same number of bytes is appended
--- to each.
+-- to both.
 number_after_lt : (m n : ℕ) (xs ys : List ℕ) → length xs ≡ length ys → AreBytes xs → m < n
     → number_after m xs < number_after n ys
 number_after_lt m n [] [] same fit less = less
@@ -91,7 +91,7 @@ all_below : (bytes : List ℕ) → AreBytes bytes → AllBelowBase 256 bytes
 all_below [] fit = tt
 all_below (x ∷ xs) fit = (fit 0, all_below xs (λ i. fit (suc i)))
 
--- Subtracting a larger natural number from a smaller one yields a negative integer.
+-- Subtracting a larger natural number from a smaller number yields a negative integer.
 below_zero : (n whole : ℕ) → n < whole → pos n -ℤ pos whole ≡ negsuc (whole - suc n)
 below_zero n zero below = absurd (omega arith)
 below_zero n (suc more) below = rw (lt-ltb n (suc more) below) refl

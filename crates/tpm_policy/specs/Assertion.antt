@@ -1,8 +1,9 @@
 -- The assertions of policies. TPM 2.0 Library, Part 3, section 23, and Part 1, section 19.7. Each
--- assertion changes the policy digest; most also record a value to compare later, when the session
--- authorizes a command. A trial session skips these comparisons: TPM2_PolicyPCR's with the PCRs,
--- TPM2_PolicyOR's with the current digest, TPM2_PolicySecret's with nonceTPM and a recorded cpHash,
--- and TPM2_PolicyNV's with the index. The order of the checks is a choice of this implementation.
+-- assertion changes the policy digest. Most assertions also record a value to compare later, when
+-- the session authorizes a command. A trial session skips the comparison of TPM2_PolicyPCR with the
+-- PCRs, of TPM2_PolicyOR with the current digest, and of TPM2_PolicyNV with the index. It also
+-- skips the comparison of TPM2_PolicySecret with nonceTPM and with a recorded cpHash. The order of
+-- the checks is a choice of this implementation.
 use Rattle.tpm_commands.specs.declared.command_code.CommandCode.{CommandCode as ServedCommand}
 use Rattle.tpm_commands.specs.CommandCode.{code_number, is_served}
 use Rattle.tpm_commands.specs.declared.command_code.CommandCode.TheVariants as served
@@ -32,32 +33,43 @@ use Rattle.tpm_policy.specs.declared.secret.SecretAssertion.{SecretAssertion}
 use Rattle.tpm_policy.specs.declared.state.Demand.{Demand}
 use Rattle.tpm_policy.specs.declared.state.Demand.TheVariants as demand
 
--- the data of TPM2_PolicyPCR: the digest in the command, the encoded selection, the digest of the
--- values of the selected PCRs, and the update counter of the PCRs
+-- the data of a TPM2_PolicyPCR assertion
 pub record PcrParts : Type 0 where
+  -- the digest in the command, which may be empty
   pub given : List ℕ
+  -- the encoded selection of PCRs
   pub selection : List ℕ
+  -- the digest of the values of the selected PCRs
   pub digest : List ℕ
+  -- the update counter of the PCRs
   pub update_count : ℕ
 
--- the data of TPM2_PolicySecret: the Name of the entity that authHandle names, the nonce in the
--- command, the session's nonceTPM, cpHashA, policyRef, and expiration
+-- the data of a TPM2_PolicySecret assertion
 pub record SecretParts : Type 0 where
+  -- the Name of the entity that authHandle names
   pub name : List ℕ
+  -- the nonce in the command
   pub nonce : List ℕ
+  -- the session's nonceTPM
   pub nonce_tpm : List ℕ
+  -- the parameter cpHashA
   pub cp_hash : List ℕ
+  -- the parameter policyRef
   pub reference : List ℕ
+  -- the parameter expiration
   pub expiration : ℕ
 
--- the data of TPM2_PolicyNV: the Name of the index; the operand; the offset of the compared bytes;
--- the operation; and the compared bytes of the index, as many as the operand has, or the error if
--- they cannot be read
+-- the data of a TPM2_PolicyNV assertion
 pub record NvParts : Type 0 where
+  -- the Name of the index
   pub name : List ℕ
+  -- the operand with which the index is compared
   pub operand : List ℕ
+  -- the offset of the compared bytes in the index
   pub offset : ℕ
   pub operation : Operation
+  -- the compared bytes of the index, as many as the operand has; or the error if these bytes cannot
+  -- be read
   pub compared : Result (List ℕ) ActionFault
 
 -- the data of a TPM2_PolicyPCR assertion, as values instead of references
@@ -105,7 +117,7 @@ pub data Assertion : Type 0 where
   Secret : SecretParts → Assertion
   Nv : NvParts → Assertion
 
--- whether a value is recorded that differs from this one
+-- whether a value is recorded, and differs from this value
 abbrev pub is_other : Option ℕ → ℕ → Bool
 is_other None number = false
 is_other (Some recorded) number = not (recorded == number)
@@ -114,8 +126,8 @@ abbrev pub is_other_hash : Option (List ℕ) → List ℕ → Bool
 is_other_hash None hash = false
 is_other_hash (Some recorded) hash = not (bytes_eq recorded hash)
 
--- whether the policy requires that an index is written (or unwritten), but it is absent or is in
--- the opposite state
+-- whether the policy requires that an index is written (or unwritten), but the index is absent or
+-- in the opposite state
 abbrev pub is_other_written : Option Bool → Option Bool → Bool
 is_other_written None found = false
 is_other_written (Some recorded) None = true
@@ -130,8 +142,8 @@ extended hash command about policy =
       digest = hash_of hash (policy.digest ++ to_be_bytes w32 (code_number command) ++ about);
     }
 
--- TPM2_PolicyPCR (section 23.7): the assertion uses the digest of the PCRs' values; a trial
--- session uses the digest in the command, unless that is empty
+-- TPM2_PolicyPCR (section 23.7): the assertion uses the digest of the PCRs' values; a trial session
+-- uses the digest in the command if it is not empty
 abbrev pub taken_digest : (trial : Bool) → PcrParts → List ℕ
 taken_digest trial pcr = if trial && is_given pcr.given then pcr.given else pcr.digest
 
@@ -160,9 +172,9 @@ or_asserted hash trial digests policy = do
       (parameter_fault action.First 1 code.Value)
   Ok (record policy { digest = or_digest hash digests })
 
--- TPM2_PolicyAuthValue (section 23.17), and TPM2_PolicyPassword (section 23.18), which extends the
--- digest in the same way. The first requires that the HMAC key include the entity's authorization
--- value; the second requires that the value be sent as a password
+-- TPM2_PolicyAuthValue (section 23.17) requires that the HMAC key include the entity's
+-- authorization value. TPM2_PolicyPassword (section 23.18) requires that the value be sent as a
+-- password. Both extend the digest in the same way
 abbrev demanding : HashAlg → Demand → Policy → Policy
 demanding hash wanted policy = record (extended hash served.PolicyAuthValue [] policy) { demand = wanted }
 
@@ -183,8 +195,8 @@ command_code_asserted hash number policy = do
   Ok (record (extended hash served.PolicyCommandCode (to_be_bytes w32 number) policy) { command = Some number })
 
 -- TPM2_PolicyLocality (section 23.8): removes every allowed locality that the parameter does not
--- select. At least one must remain, even in a trial session (a choice of this implementation).
--- Extended localities, 32 and up, are not supported
+-- select. At least one locality must remain, even in a trial session (a choice of this
+-- implementation). Extended localities, 32 and up, are not supported
 unfoldable pub locality_asserted : HashAlg → (localities : ℕ)
     → Policy → Result Policy ActionFault
 locality_asserted hash localities policy = do
@@ -211,7 +223,7 @@ yes_no_text true = 1 ∷ []
 yes_no_text false = 0 ∷ []
 
 -- TPM2_PolicyNvWritten (section 23.20): from now on, only a written index may be used if
--- `is_written` is true, and otherwise only an unwritten one. The opposite must not have been
+-- `is_written` is true, and otherwise only an unwritten index. The opposite must not have been
 -- recorded, even in a trial session (a choice of this implementation)
 unfoldable pub nv_written_asserted : HashAlg → (is_written : Bool)
     → Policy → Result Policy ActionFault

@@ -7,18 +7,21 @@ use Rattle.tpm_mac.specs.declared.algorithm.HashAlg.{HashAlg}
 use Rattle.tpm_policy.specs.declared.state.Demand.{Demand}
 use Rattle.tpm_policy.specs.declared.state.Demand.TheVariants as demand
 
--- the state of a policy session: the digest; the values that assertions may have recorded (the
--- update counter of PCRs at the last TPM2_PolicyPCR, the code and the cpHash of the only allowed
--- command, and whether the index must have been written); the localities that are allowed, bit n
--- for locality n; and what the policy requires in addition to the digest. Timeouts, name hashes and
--- physical presence are not supported
+-- the state of a policy session. Timeouts, name hashes and physical presence are not supported
 pub record Policy : Type 0 where
+  -- the policy digest
   pub digest : List ℕ
+  -- the PCRs' update counter at the last TPM2_PolicyPCR, if there was one
   pub update_count : Option ℕ
+  -- the code of the only allowed command, if one is recorded
   pub command : Option ℕ
+  -- the cpHash of the only allowed command, if one is recorded
   pub cp_hash : Option (List ℕ)
+  -- whether the NV index must be written (true) or unwritten (false), if this is recorded
   pub nv_written : Option Bool
+  -- the allowed localities, bit n for locality n
   pub localities : ℕ
+  -- what the policy requires in the authorization entry
   pub demand : Demand
 
 -- True for every policy state: digests are at most 32 bytes long, every number fits its integer

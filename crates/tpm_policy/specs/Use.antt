@@ -26,21 +26,29 @@ pub record EntityParts : Type 0 where
   pub hash : HashAlg
   pub digest : List ℕ
 
--- the input of the checks: the number of the authorization entry, the session's type and hash
--- algorithm, whether the entity can be authorized by a policy, the update counter of the PCRs, the
--- command code, the role of the authorization, the cpHash, whether the entity has been written if
--- it is an NV index, the command's locality, and the entity's policy, if it has one
+-- the use of an entity that a policy session has to authorize
 pub record UseParts : Type 0 where
+  -- the number of the authorization entry
   pub entry : ℕ
+  -- the type of the session
   pub kind : SessionType
+  -- the hash algorithm of the session
   pub hash : HashAlg
+  -- whether the entity can be authorized by a policy
   pub available : Bool
+  -- the update counter of the PCRs
   pub update_count : ℕ
+  -- the command code
   pub command : ℕ
+  -- the role of the authorization: USER or ADMIN
   pub role : Role
+  -- the cpHash of the command
   pub cp_hash : List ℕ
+  -- if the entity is an NV index: whether it has been written
   pub written : Option Bool
+  -- the number of the command's locality
   pub locality : ℕ
+  -- the policy of the entity, if it has one
   pub entity : Option EntityParts
 
 abbrev pub entity_parts : EntityPolicy → EntityParts
@@ -61,8 +69,8 @@ parts_of u = record {
   entity = option_map entity_parts u.entity;
 }
 
--- whether the role is ADMIN, which requires the policy to name the command, but the policy names
--- none
+-- whether the role is ADMIN, which requires the policy to name the command, but the policy names no
+-- command
 abbrev pub lacks_command : Role → Option ℕ → Bool
 lacks_command role.User command = false
 lacks_command role.Admin command = is_none command

@@ -22,7 +22,7 @@ fn is_less(bytes: &[u8], others: &[u8]) -> bool
 }
 
 /// Adds 128, half of a byte's range, to the first byte of a signed number, modulo 256. The least
-/// signed number then starts with zero. Therefore, signed numbers compare like unsigned ones.
+/// signed number then starts with zero. Therefore, signed numbers compare like unsigned numbers.
 fn raised_byte(byte: u8) -> u8
     ensures { result ≡ (byte + 128) % 256 }
 {

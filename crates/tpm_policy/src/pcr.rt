@@ -29,7 +29,7 @@ pub struct PcrAssertion<'a> {
 
 impl<'a> PcrAssertion<'a> {
     /// The digest with which the policy digest is extended: the digest of the PCRs' values. A trial
-    /// session uses the digest in the command instead, unless that is empty.
+    /// session uses the digest in the command instead, if it is not empty.
     fn taken(&self, trial: bool) -> &'a [u8]
         ensures { result.now ≡ taken_digest trial (pcr_parts self.now) }
     {
@@ -66,9 +66,9 @@ impl PolicyState {
         digest_parts(hash, &[digest, &code, selection.as_slice(), taken])
     }
 
-    /// TPM2_PolicyPCR: returns PCR_CHANGED if the PCRs' update counter has changed since the
-    /// session's first TPM2_PolicyPCR, and VALUE if the command contains a digest that differs from
-    /// that of the PCRs. A trial session accepts any digest.
+    /// TPM2_PolicyPCR: returns PCR_CHANGED if the session has recorded a different update counter
+    /// of the PCRs. Returns VALUE if the command contains a digest that differs from the digest of
+    /// the PCRs. A trial session makes neither check.
     #[tactic(auto, unfolding(crate::specs::Assertion::pcr_asserted))]
     pub fn pcr(
         &mut self,

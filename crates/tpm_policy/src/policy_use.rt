@@ -1,5 +1,5 @@
-//! Whether a policy session authorizes a use of an entity, and what its policy requires. The first
-//! condition that fails determines the response code.
+//! Checks whether a policy session authorizes a use of an entity, and returns what its policy
+//! requires. The first condition that fails determines the response code.
 
 ghost use Rattle.std.specs.Prelude.{◌≡◌, ◌==◌, option_map};
 ghost use Rattle.std.specs.Int.{bit_at};
@@ -48,7 +48,7 @@ pub struct Use<'a> {
 }
 
 impl PolicyState {
-    /// Whether the role requires the policy to name the command, but this policy names none.
+    /// Whether the role requires the policy to name the command, but this policy names no command.
     fn lacks_command(&self, role: Role) -> bool
         ensures { result ≡ lacks_command role self.now.command }
     {
@@ -99,7 +99,7 @@ impl PolicyState {
     /// counter has changed; POLICY_CC for another command; POLICY_FAIL if the role requires a
     /// command code and none is recorded, for another cpHash, or if the entity does not have the
     /// recorded written state; LOCALITY for a forbidden locality; POLICY_FAIL if the policy is not
-    /// that of the entity.
+    /// the entity's policy.
     #[tactic(auto, unfolding(crate::specs::Use::use_passes))]
     pub fn check_use(&self, asked: &Use) -> Result<Demand, Rc>
         ensures { result ≡ use_passes self.now (parts_of asked.now) }

@@ -47,10 +47,10 @@ impl PolicyState {
         }
     }
 
-    /// TPM2_PolicySecret: returns VALUE if expiration is not 0, SIZE if cpHashA is present but not
-    /// as long as a digest, NONCE if the nonce is present but not the session's nonceTPM, and
-    /// CPHASH if another command's cpHash is recorded. A trial session accepts any nonce, and any
-    /// cpHashA of that size.
+    /// TPM2_PolicySecret: returns VALUE if expiration is not 0, and SIZE if cpHashA is present but
+    /// not as long as a digest. Returns NONCE if the nonce is present but not the session's
+    /// nonceTPM, and CPHASH if cpHashA is present and a different cpHash is recorded. A trial
+    /// session does not make the last two checks.
     #[tactic(auto, unfolding(crate::specs::Assertion::secret_asserted))]
     pub fn secret(
         &mut self,

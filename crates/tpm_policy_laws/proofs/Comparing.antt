@@ -1,4 +1,4 @@
--- The comparison of an accepted TPM2_PolicyNV holds.
+-- If TPM2_PolicyNV is accepted, its comparison holds, or its session is a trial session.
 use Rattle.std.proofs.Common.{◌≡◌, ◌⊎◌, inl, inr, ℕ, Bool, true, false, List, ◌++◌, Result, Ok, Err, refl, ap, ◌∙◌}
 use Rattle.std.specs.Prelude.{not}
 use Rattle.tpm_bytes.proofs.Fields.{ok_is}

@@ -1,4 +1,5 @@
--- The comparison of an accepted TPM2_PolicyNV. TPM 2.0 Library, Part 3, section 23.9.
+-- Defines the comparison that holds when TPM2_PolicyNV is accepted. TPM 2.0 Library, Part 3,
+-- section 23.9.
 use Rattle.std.specs.Prelude.{◌≡◌, ◌⊎◌, ℕ, true, List, Ok}
 use Rattle.tpm_commands.specs.declared.command_code.CommandCode.TheVariants as command
 use Rattle.tpm_policy.specs.Comparison.{compares}
@@ -28,7 +29,7 @@ pub record Compares (r : Record) (q : Request) : Type 0 where
       ⊎ ((bytes : List ℕ) × (compared r target parameters ≡ Ok bytes)
       × (compares parameters.operation bytes parameters.operand ≡ true))
 
--- If TPM2_PolicyNV is accepted, its comparison holds.
+-- If TPM2_PolicyNV is accepted, its comparison holds (`Compares`).
 abbrev pub ComparisonHolds : Type 0
 ComparisonHolds = (r : Record) (q : Request) (s : Success)
     → assertion_row command.PolicyNv r q ≡ Ok s → Compares r q

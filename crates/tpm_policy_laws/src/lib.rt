@@ -2,8 +2,8 @@
 
 //! Laws of the policy commands: what an accepted TPM2_PolicyNV implies about the data of its index.
 //!
-//! These are laws about tpm_actions_policy's definitions. Each is the contract of a function that
-//! has no effect at run time. No crate depends on this one.
+//! These are laws about tpm_actions_policy's definitions. Each law is the contract of a function
+//! that has no effect at run time. No crate depends on this crate.
 
 ghost use Rattle.tpm_policy_laws.specs.Comparing.{ComparisonHolds};
 

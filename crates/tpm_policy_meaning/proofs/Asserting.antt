@@ -105,8 +105,8 @@ module _ (hash : HashAlg) (Broken : Type 0) (One Other : List ℕ → Type 0) (b
 
 -- ---- TPM2_PolicyOR
 
--- The assertion is a TPM2_PolicyOR. Its digests, concatenated, equal the concatenation of these
--- digests.
+-- The assertion is a TPM2_PolicyOR, and the concatenation of its digests equals the concatenation
+-- of these digests.
 abbrev pub IsOrOf : (digests : List (List ℕ)) → Assertion → Type 0
 IsOrOf digests one =
     (given : List (List ℕ)) × (one ≡ assertion.Or given)

@@ -1,5 +1,5 @@
--- If a digest occurs in a concatenation of digests of the same size, it either is one of them or
--- spans two neighbours.
+-- If a digest occurs in a concatenation of digests of the same size, it is either one of these
+-- digests, or it spans two neighbouring digests.
 use Rattle.std.proofs.Common.{◌≡◌, ◌≢◌, ◌⊎◌, ℕ, arith, List, [], ◌∷◌, ◌++◌, append_assoc, length, length-append, refl, ap, sym, ◌∙◌, inl, inr}
 use Rattle.std.proofs.lemmas.List.{append-nil}
 use Rattle.std.specs.List.{flat_map}
@@ -35,7 +35,7 @@ two_ways (x ∷ a) b (y ∷ c) d is =
     let halves = same_first x y (a ++ b) (c ++ d) is in
     one_more x y a b c d halves.0 (two_ways a b c d halves.1)
 
--- If a byte string occurs within another one of the same size, the two are equal.
+-- If a byte string occurs within another byte string of the same size, the two are equal.
 is_whole : (whole front text rest : List ℕ) → whole ≡ front ++ (text ++ rest) → length whole ≡ length text → text ≡ whole
 is_whole whole [] text [] is size = sym (is ∙ append-nil text)
 is_whole whole [] text (x ∷ rest) is size = absurd (omega (arith, ap length is, length-append text (x ∷ rest), size))
@@ -57,7 +57,7 @@ behind_first text first digests none astride = record {
 }
 
 -- If a byte string starts within the first digest of a list and ends after it, and is not in the
--- list, it spans two neighbours of the list. The byte string and the digests have the same size.
+-- list, it spans two neighbouring digests. The byte string and the digests have the same size.
 next_begins : (text first front : List ℕ) (x y : ℕ) (end beginning : List ℕ) (digests : List (List ℕ)) (back : List ℕ) → (IsAmong text (first ∷ digests) → ⊥) → HaveSize (length text) digests → first ≡ front ++ x ∷ end → text ≡ (x ∷ end) ++ y ∷ beginning → joined digests ≡ (y ∷ beginning) ++ back → IsAstride text (first ∷ digests)
 next_begins text first front x y end beginning [] back none sizes is spelled stands = absurd (has_first y (beginning ++ back) (sym stands))
 next_begins text first front x y end beginning (next ∷ digests) back none sizes is spelled stands = by (two_ways next (joined digests) (y ∷ beginning) back stands)

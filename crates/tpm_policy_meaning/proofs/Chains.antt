@@ -68,11 +68,12 @@ unless_broken (inr broken) next = inr broken
 
 -- ---- chains of steps
 
--- the digest of a chain of steps (latest first); and the inputs that are hashed for these steps
+-- the digest of a chain of steps (latest first)
 abbrev pub chain : HashAlg → List (List ℕ) → List ℕ
 chain hash [] = zeros hash
 chain hash (step ∷ earlier) = hash_of hash (chain hash earlier ++ step)
 
+-- the inputs that are hashed for the digest of a chain of steps (both latest first)
 abbrev pub chain_texts : HashAlg → List (List ℕ) → List (List ℕ)
 chain_texts hash [] = []
 chain_texts hash (step ∷ earlier) = (chain hash earlier ++ step) ∷ chain_texts hash earlier
@@ -124,7 +125,7 @@ abbrev pub all_steps : List Said → List (List ℕ)
 all_steps [] = []
 all_steps (said ∷ earlier) = steps_of said.0 said.1 ++ all_steps earlier
 
--- whether an encoding is that of TPM2_PolicySecret, the only command with a policyRef
+-- whether an encoding begins with the code of TPM2_PolicySecret, the only command with a policyRef
 abbrev pub is_secret : List ℕ → Bool
 is_secret text = bytes_eq (take 4 text) (to_be_bytes w32 0x151)
 

@@ -1,4 +1,4 @@
--- The digests of the example policies.
+-- The example policies have the digests that are defined for them.
 use Rattle.std.proofs.Common.{refl}
 use Rattle.sha1.specs.Sha1 as one
 use Rattle.sha2.specs.Sha256 as two

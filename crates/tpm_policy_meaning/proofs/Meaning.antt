@@ -1,5 +1,5 @@
--- If a policy session's digest is that of a policy, either the session made the assertions that the
--- policy requires, or the hash is broken.
+-- If a policy session's digest equals the digest of a policy, either the session made the
+-- assertions that the policy requires, or the hash is broken.
 use Rattle.std.proofs.Common.{◌≡◌, ◌≢◌, ◌⊎◌, ℕ, List, [], ◌∷◌, ◌++◌, append_assoc, length, refl, ap, sym, subst, ◌∙◌, inl, inr}
 use Rattle.tpm_mac.specs.Digest.{digest_size}
 use Rattle.tpm_mac.specs.declared.algorithm.HashAlg.{HashAlg}

@@ -67,7 +67,7 @@ IsAsserted assertions written =
 -- ---- properties of assertions that a session accepted
 
 -- The values of an assertion have the right sizes: a PCR digest is as long as a digest of the
--- session's hash algorithm, a command code fits in 32 bits, and an offset in 16.
+-- session's hash algorithm, a command code fits in 32 bits, and an offset fits in 16 bits.
 abbrev pub HasWidths : HashAlg → Assertion → Type 0
 HasWidths hash (assertion.Pcr parts) = length parts.digest ≡ digest_size hash
 HasWidths hash (assertion.CommandCode number) = number < 2 ^ 32
@@ -113,13 +113,14 @@ abbrev pub digest_before : HashAlg → Assertion → (earlier : List Assertion) 
 digest_before hash (assertion.Or digests) earlier = zeros hash
 digest_before hash _ earlier = session_digest hash earlier
 
--- the inputs that a session hashed, and the session's digests (both latest first)
+-- the inputs that a session hashed, latest first
 abbrev pub session_texts : HashAlg → List Assertion → List (List ℕ)
 session_texts hash [] = []
 session_texts hash (latest ∷ earlier) =
     texts_after hash (digest_before hash latest earlier) (update_by hash latest)
     ++ session_texts hash earlier
 
+-- the digests that a session had, latest first. The last entry is its digest before any assertion
 abbrev pub session_digests : HashAlg → List Assertion → List (List ℕ)
 session_digests hash [] = session_digest hash [] ∷ []
 session_digests hash (latest ∷ earlier) =
@@ -127,8 +128,8 @@ session_digests hash (latest ∷ earlier) =
 
 -- ---- laws of the digest of a session
 
--- A policy session's digest is the hash of the latest input that it hashed, or zeros if there is
--- none.
+-- A policy session's digest is the hash of the latest input that it hashed, or zeros if it has
+-- hashed no input.
 abbrev pub SessionHashesTexts : Type 0
 SessionHashesTexts =
     (hash : HashAlg) (assertions : List Assertion)

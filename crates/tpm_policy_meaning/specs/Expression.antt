@@ -5,23 +5,26 @@ use Rattle.std.specs.Prelude.{ℕ, Bool, List}
 use Rattle.tpm_types.specs.declared.operation.Operation.{Operation}
 use Rattle.tpm_types.specs.declared.pcr_selection.BankSelection.{BankSelection}
 
--- One assertion, and what it requires of a use of the entity. PolicyPcr: the values of the selected
--- PCRs have this digest. PolicyAuthValue: the HMAC key includes the entity's authorization value.
--- PolicyPassword: the entity's authorization value is sent as a password. PolicyCommandCode: the
--- command has this code. PolicyLocality: the command comes from one of these localities, bit n for
--- locality n. PolicyCpHash: the command has this cpHash. PolicyNvWritten: the entity is a written
--- NV index, or an unwritten one. PolicySecret: the entity with this Name authorized a
--- TPM2_PolicySecret with this policyRef. PolicyNv: the data of the NV index with this Name, from
--- this offset on, was compared with this operand, and the comparison held.
+-- One assertion, and what it requires of a use of the entity.
 pub data PolicyAssertion : Type 0 where
+  -- the values of the selected PCRs have this digest
   PolicyPcr : (selection : List BankSelection) → (digest : List ℕ) → PolicyAssertion
+  -- the HMAC key includes the entity's authorization value
   PolicyAuthValue : PolicyAssertion
+  -- the entity's authorization value is sent as a password
   PolicyPassword : PolicyAssertion
+  -- the command has this code
   PolicyCommandCode : (number : ℕ) → PolicyAssertion
+  -- the command comes from one of these localities; bit n stands for locality n
   PolicyLocality : (localities : ℕ) → PolicyAssertion
+  -- the command has this cpHash
   PolicyCpHash : (cp_hash : List ℕ) → PolicyAssertion
+  -- the entity is an NV index, and is written or unwritten, as required
   PolicyNvWritten : (is_written : Bool) → PolicyAssertion
+  -- the entity with this Name authorized a TPM2_PolicySecret with this policyRef
   PolicySecret : (name reference : List ℕ) → PolicyAssertion
+  -- the data of the NV index with this Name, from this offset on, was compared with this operand,
+  -- and the comparison held
   PolicyNv : (name operand : List ℕ) → (offset : ℕ) → (operation : Operation) → PolicyAssertion
 
 -- A policy: the empty policy, which requires nothing; a policy followed by an assertion; or a

@@ -1,7 +1,7 @@
 -- The meaning of a policy session's digest. TPM 2.0 Library, Part 1, section 19.7. If a session's
--- digest is that of a policy, either the session made the assertions that the policy requires, on
--- one branch at each TPM2_PolicyOR; or the policy and the session determine inputs that break the
--- hash.
+-- digest equals the digest of a policy, either the session made the assertions that the policy
+-- requires, on one branch at each TPM2_PolicyOR; or the policy and the session determine inputs
+-- that break the hash.
 use Rattle.std.specs.Prelude.{◌≡◌, ◌≢◌, ◌⊎◌, ◌<◌, ◌^◌, ℕ, List, [], ◌∷◌, ◌++◌, length}
 use Rattle.tpm_mac.specs.Digest.{digest_size, hash_of}
 use Rattle.tpm_mac.specs.declared.algorithm.HashAlg.{HashAlg}
@@ -28,7 +28,7 @@ abbrev mutual
   IsOneMet P (Branch policy branches) = IsMet P policy ⊎ IsOneMet P branches
 
 -- An assertion of a policy expression can be encoded: a PCR digest is as long as a digest of the
--- policy's hash algorithm, a command code fits in 32 bits, and an offset in 16.
+-- policy's hash algorithm, a command code fits in 32 bits, and an offset fits in 16 bits.
 abbrev pub IsPolicyAssertion : HashAlg → PolicyAssertion → Type 0
 IsPolicyAssertion hash (PolicyPcr selection digest) = length digest ≡ digest_size hash
 IsPolicyAssertion hash (PolicyCommandCode number) = number < 2 ^ 32
@@ -60,8 +60,8 @@ abbrev mutual
   lists_within hash (Branch policy branches) =
       branch_lists hash policy ++ lists_within hash branches
 
--- `text` is not in this list, but spans two neighbours in it: `text` consists of the end of one and
--- the start of the next.
+-- `text` is not in this list, but spans two neighbours in it: `text` consists of the end of a byte
+-- string in the list and the start of the next byte string.
 pub record IsAstride (text : List ℕ) (texts : List (List ℕ)) : Type 0 where
   pub before : List (List ℕ)
   pub front : List ℕ
@@ -75,28 +75,29 @@ pub record IsAstride (text : List ℕ) (texts : List (List ℕ)) : Type 0 where
   pub has_beginning : beginning ≢ []
   pub is_none : IsAmong text texts → ⊥
 
--- The policy and the session's assertions determine inputs that break the hash. Collision: two
--- different inputs have the same hash; one was hashed for the policy, the other by the session.
--- HashOfZeros: the hash of an input is all zeros, the initial digest of a session. AstrideBranches:
--- a digest of the session spans the digests of two neighbouring branches of a TPM2_PolicyOR in the
--- policy. TPM2_PolicyOR hashes the concatenation of its digests without their sizes, so a session
--- may pass the same bytes split at other offsets.
+-- The policy and the session's assertions determine inputs that break the hash.
 pub data BreaksHash (hash : HashAlg) (policy : PolicyExpression) (assertions : List Assertion)
     : Type 0
   where
+    -- an input that was hashed for the policy and a different input that was hashed by the session
+    -- have the same hash
     Collision : (text other : List ℕ) → IsAmong text (policy_texts hash policy)
         → IsAmong other (session_texts hash assertions) → text ≢ other
         → hash_of hash text ≡ hash_of hash other → BreaksHash hash policy assertions
+    -- the hash of an input is all zeros, the initial digest of a session
     HashOfZeros : (text : List ℕ)
         → IsAmong text (policy_texts hash policy) ⊎ IsAmong text (session_texts hash assertions)
         → hash_of hash text ≡ zeros hash → BreaksHash hash policy assertions
+    -- a digest of the session spans the digests of two neighbouring branches of a TPM2_PolicyOR in
+    -- the policy. TPM2_PolicyOR hashes the concatenation of its digests without their sizes, so a
+    -- session may pass the same bytes split at other offsets
     AstrideBranches : (digest : List ℕ) (digests : List (List ℕ))
         → IsAmong digest (session_digests hash assertions)
         → IsAmong digests (branch_lists hash policy) → IsAstride digest digests
         → BreaksHash hash policy assertions
 
--- If a policy session's digest is that of a policy, either the session made the assertions that the
--- policy requires, or the hash is broken.
+-- If a policy session's digest equals the digest of a policy, either the session made the
+-- assertions that the policy requires, or the hash is broken.
 abbrev pub DigestMeans : Type 0
 DigestMeans =
     (hash : HashAlg) (policy : PolicyExpression) (assertions : List Assertion)

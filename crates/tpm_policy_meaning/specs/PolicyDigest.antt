@@ -20,12 +20,15 @@ use Rattle.tpm_policy_meaning.specs.Expression.{PolicyNv}
 use Rattle.tpm_policy_meaning.specs.Expression.{PolicyExpression, Nothing, Then, PolicyOr}
 use Rattle.tpm_policy_meaning.specs.Expression.{PolicyBranches, NoBranch, Branch}
 
--- what an assertion contributes to the digest: its command code, its data, its policyRef (if any),
--- and each input whose hash is part of the data (`apart`)
+-- what an assertion contributes to the digest
 pub record PolicyUpdate : Type 0 where
+  -- the assertion's command code
   pub code : CommandCode
+  -- the assertion's data
   pub about : List ℕ
+  -- the assertion's policyRef, if it has one
   pub reference : Option (List ℕ)
+  -- each input whose hash is part of the assertion's data
   pub apart : List (List ℕ)
 
 abbrev pub plain_update : CommandCode → (about : List ℕ) → PolicyUpdate
@@ -35,7 +38,7 @@ plain_update code about = record { code = code; about = about; reference = None;
 abbrev pub or_update : (digests : List (List ℕ)) → PolicyUpdate
 or_update digests = plain_update command.PolicyOr (flat_map (λ digest. digest) digests)
 
--- the update of TPM2_PolicySecret, which always has a policyRef, although this may be empty
+-- the update of TPM2_PolicySecret. It always has a policyRef, which may be empty
 abbrev pub secret_update : (name reference : List ℕ) → PolicyUpdate
 secret_update name reference =
     record (plain_update command.PolicySecret name) { reference = Some reference }
@@ -75,8 +78,8 @@ update_of hash (PolicyNv name operand offset operation) =
 abbrev pub update_text : PolicyUpdate → List ℕ
 update_text update = to_be_bytes w32 (code_number update.code) ++ update.about
 
--- the hash input of an assertion; if the assertion has a policyRef, also a second input: the hash
--- of the first, then policyRef
+-- the hash input of an assertion. If the assertion has a policyRef, there is also a second input:
+-- the hash of the first input, then policyRef
 abbrev pub with_reference : HashAlg → Option (List ℕ) → (text : List ℕ) → List (List ℕ)
 with_reference hash None text = text ∷ []
 with_reference hash (Some reference) text = (hash_of hash text ++ reference) ∷ text ∷ []
@@ -91,13 +94,13 @@ abbrev pub zeros : HashAlg → List ℕ
 zeros hash = replicate (digest_size hash) 0
 
 -- the digest after these inputs were hashed (latest first): the hash of the latest input, or zeros
--- if there is none
+-- if no input was hashed
 abbrev pub digest_after : HashAlg → (texts : List (List ℕ)) → List ℕ
 digest_after hash [] = zeros hash
 digest_after hash (text ∷ earlier) = hash_of hash text
 
--- the inputs that are hashed for a policy and for its branches (latest first); the input of
--- TPM2_PolicyOR starts from zeros again
+-- the inputs that are hashed for a policy and for its branches (latest first). The input of a
+-- TPM2_PolicyOR starts with zeros
 abbrev mutual
   pub policy_texts : HashAlg → PolicyExpression → List (List ℕ)
   policy_texts hash Nothing = []

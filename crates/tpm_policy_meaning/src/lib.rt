@@ -1,7 +1,7 @@
 #![tactic(auto)]
 
 //! The meaning of a policy session's digest: written policies, their digests, and what follows if a
-//! session's digest equals that of a policy.
+//! session's digest equals the digest of a policy.
 //!
 //! The crate uses the definitions of tpm_policy. It does not refer to sessions, entities or
 //! histories. Each law is the contract of a function that has no effect at run time.
@@ -12,7 +12,7 @@ ghost use Rattle.tpm_policy_meaning.specs.Examples.{ComputesDigests};
 ghost use Rattle.tpm_policy_meaning.specs.Meaning.{DigestMeans};
 ghost use Rattle.tpm_policy_meaning.specs.Trial.{TrialComputes};
 
-/// If a policy session's digest equals that of a policy, one of two things holds. Either the
+/// If a policy session's digest equals the digest of a policy, one of two things holds. Either the
 /// session made the assertions that the policy requires, on one branch at each TPM2_PolicyOR; or
 /// the hash is broken in one of three ways. The inputs that break it can be computed from the
 /// policy and the session's assertions.
@@ -30,8 +30,8 @@ pub fn trial_laws()
 
 /// Laws of a session's digest. If a policy session accepts a TPM2_PolicyOR, the session's digest at
 /// that time is in the list. A session's digest is the hash of the latest input that it hashed, or
-/// zeros if there is none. If TPM2_PolicyAuthValue or TPM2_PolicyPassword was asserted, the session
-/// requires the authorization value, in an HMAC key or as a password.
+/// zeros if it has hashed no input. If TPM2_PolicyAuthValue or TPM2_PolicyPassword was asserted,
+/// the session requires the authorization value, in an HMAC key or as a password.
 #[inline(always)]
 pub fn session_laws()
     ensures find { AcceptedFindDigest }
@@ -39,8 +39,8 @@ pub fn session_laws()
     ensures demand { DemandsValue }
 {}
 
-/// Examples of policies with their digests. Some digests are published; others were computed by
-/// another program.
+/// Examples of policies with their digests. Some digests are published; another program computed
+/// the other digests.
 #[inline(always)]
 pub fn example_laws()
     ensures { ComputesDigests }

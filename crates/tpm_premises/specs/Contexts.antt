@@ -15,26 +15,30 @@ use Rattle.tpm_completion.specs.Saving.{binding_of, counted, next_number}
 use Rattle.tpm_completion.specs.declared.completion.Completion.{Completion}
 use Rattle.tpm_premises.specs.Placed.{first_transient, saved_object}
 
--- a started device without the object; below, a device with it, and a device without a free slot
+-- a started device without the object
 abbrev pub without_object : Record
 without_object = tried 1 0 0
 
+-- this device with one more copy of the object
 abbrev pub one_more : Record → Record
 one_more r = placed r saved_object
 
+-- a device with the object
 abbrev pub with_object : Record
 with_object = one_more without_object
 
 abbrev pub four_more : Record → Record
 four_more r = one_more (one_more (one_more (one_more r)))
 
+-- a device without a free slot: each slot contains a copy of the object
 abbrev pub full : Record
 full = four_more (four_more without_object)
 
--- the completing layer at its start; below, after its first context
+-- the completing layer at its start
 abbrev pub first_layer : Completion
 first_layer = new_completion 1
 
+-- the completing layer after its first context
 abbrev pub later_layer : Completion
 later_layer = counted first_layer 1
 

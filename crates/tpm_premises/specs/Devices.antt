@@ -1,4 +1,4 @@
--- Two devices with the same history, and two that differ in secrets.
+-- Examples of two devices with the same history, and of two devices that differ only in secrets.
 use Rattle.std.specs.Prelude.{◌≢◌, ℕ, true, [], ◌∷◌, replicate}
 use Rattle.tpm_record.specs.Record.{Record, manufactured}
 use Rattle.tpm_row_secrecy.specs.Secrecy.{DifferInSecrets, of_data}

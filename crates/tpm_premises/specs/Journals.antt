@@ -18,10 +18,11 @@ given_command = record {
   random = zeros;
 }
 
--- the step of `given_command` on a device on which the index exists; below, the command's effect
+-- the step of `given_command` on a device on which the index exists
 abbrev pub refusal_step : Stepped
 refusal_step = step (tried 0 0 0) (wrong_after 0)
 
+-- the effect of `given_command` on that device
 abbrev pub effect : Seen
 effect = record {
   step = refusal_step;

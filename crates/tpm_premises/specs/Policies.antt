@@ -15,8 +15,9 @@ use Rattle.tpm_policy_meaning.specs.Meaning.{IsPolicyExpression}
 abbrev pub IsWrittenAfter : HashAlg → PolicyExpression → PolicyAssertion → Type 0
 IsWrittenAfter hash before assertion = IsPolicyExpression hash (Then before assertion)
 
--- Each assertion can be added to a policy: a PCR digest is as long as a digest of the policy's
--- hash, a command code fits in 32 bits, and an offset in 16.
+-- Each assertion can be added to a policy, if its arguments have the right sizes: a PCR digest is
+-- as long as a digest of the policy's hash, a command code fits in 32 bits, and an offset fits in
+-- 16 bits.
 pub record WritesEach (hash : HashAlg) (before : PolicyExpression) : Type 0 where
   pub pcr : (selection : List BankSelection) (digest : List ℕ) → length digest ≡ digest_size hash
       → IsWrittenAfter hash before (PolicyPcr selection digest)

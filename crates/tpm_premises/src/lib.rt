@@ -6,7 +6,7 @@
 //!
 //! A law whose premise can never be satisfied says nothing. Each example here satisfies one
 //! premise, by computation. Each law is the contract of a function that does nothing at run time.
-//! No crate depends on this one.
+//! No crate depends on this crate.
 
 ghost use Rattle.tpm_premises.specs.Contexts.{HasSavedObject};
 ghost use Rattle.tpm_premises.specs.Devices.{AreTwoDevices, AreTwoSecrets};

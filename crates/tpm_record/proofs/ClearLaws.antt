@@ -21,8 +21,7 @@ rest_cleared : (b : Bool) (p : Option Object) (ps qs : List (Option Object)) →
 rest_cleared true p ps qs = refl
 rest_cleared false p ps qs = refl
 
--- If the first i slots are cleared and then the next one, the result is that of clearing the first
--- i + 1 slots.
+-- If the first i slots are cleared and then the next slot, the first i + 1 slots are cleared.
 pub cleared_in_turn : (places : List (Option Object)) (i : ℕ) → cond (is_place_cleared (at_place (cleared_up_to i places) i)) (slice_set (cleared_up_to i places) i None) (cleared_up_to i places) ≡ cleared_up_to (suc i) places
 cleared_in_turn [] zero = refl
 cleared_in_turn [] (suc i) = refl
@@ -108,8 +107,8 @@ cleared_few (p ∷ ps) =
     let old = sum_by-cons counted p ps in
     omega (arith, new, old, one_cleared p, cleared_few ps)
 
--- If the object in a slot has a property and clearing does not remove the object, it still has the
--- property afterwards.
+-- If the object in a slot has a property and clearing does not remove the object, the object still
+-- has the property.
 kept_in : (Is : Object → Type 0) (cell : Option Object) → IfSome cell Is → IfSome (cleared_place cell) Is
 kept_in Is None is = tt
 kept_in Is (Some x) is = by (is_cleared x.hierarchy)

@@ -1,5 +1,5 @@
--- The transient and persistent objects of a record together: adding one, removing one, and finding
--- the next handle in use. TPM 2.0 Library, Part 1, sections 15.6 (transient objects) and 37.3
+-- How a transient or persistent object is added to a record or removed from it, and which handle of
+-- an object comes next. TPM 2.0 Library, Part 1, sections 15.6 (transient objects) and 37.3
 -- (persistent objects).
 use Rattle.tpm_types.specs.Limits.{object_limit, persistent_limit}
 use Rattle.std.specs.Prelude.{◌≡◌, ℕ, zero, suc, ◌&&◌, nat_le, Bool, is_some, if◌then◌else◌, List, Option, Some, None, option_map, Result}
@@ -35,7 +35,7 @@ without_object_of r handle =
 
 -- ---- the next handle that belongs to an object
 
--- the first value if there is one, and otherwise the second
+-- the first value, or the second value if the first is absent
 abbrev pub or_else : {X : Type 0} → Option X → Option X → Option X
 or_else (Some x) other = Some x
 or_else None other = other
@@ -55,7 +55,7 @@ abbrev pub next_transient : List (Option Object) → ℕ → Option ℕ
 next_transient objects number =
     option_map (number_of 0x80) (least_below (is_from objects number) object_limit)
 
--- the lowest handle of an object at or above this number; transient handles are below persistent
--- ones
+-- the lowest handle of an object at or above this number. Every transient handle is below every
+-- persistent handle
 abbrev pub next_object : Record → ℕ → Option ℕ
 next_object r number = or_else (next_transient r.objects number) (next_persistent r.persistent number)

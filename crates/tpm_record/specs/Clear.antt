@@ -1,6 +1,6 @@
--- The effect of TPM2_Clear on transient and persistent objects: it removes those in the owner and
--- endorsement hierarchies. TPM 2.0 Library, Part 3, section 24.6. The effect on the hierarchies is
--- defined in Hierarchy, and the effect on NV indices in tpm_nv/Clear.
+-- The effect of TPM2_Clear on transient and persistent objects: it removes the objects in the owner
+-- and endorsement hierarchies. TPM 2.0 Library, Part 3, section 24.6. The effect on the hierarchies
+-- is defined in Hierarchy, and the effect on NV indices in tpm_nv/Clear.
 use Rattle.std.specs.Prelude.{◌≡◌, ◌≤◌, ℕ, Bool, true, false, not, List, Option, Some, None, map, if◌then◌else◌}
 use Rattle.tpm_containers.specs.SortedMap.{Entries, kept_entries}
 use Rattle.tpm_object.specs.Object.{transient_byte}
@@ -47,8 +47,8 @@ pub record ClearingLaws : Type 0 where
       → at_number transient_byte places number ≡ Some object
       → is_cleared object.hierarchy ≡ false
       → at_number transient_byte (cleared_objects places) number ≡ Some object
-  -- if there was no object with this handle, there is still none, and the number of slots in use
-  -- does not increase
+  -- if there was no object with this handle, there is still no such object. The number of slots in
+  -- use does not increase
   pub absent : (places : List (Option Object)) (number : ℕ)
       → at_number transient_byte places number ≡ None
       → at_number transient_byte (cleared_objects places) number ≡ None

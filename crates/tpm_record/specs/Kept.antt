@@ -1,4 +1,4 @@
--- The record whose parts are stored in containers of any kind.
+-- How containers of any kind store the record of a device.
 use Rattle.std.specs.Prelude.{List, Option}
 use Rattle.tpm_containers.specs.SortedMap.{Entries}
 use Rattle.tpm_nv.specs.Index.{NvContents}

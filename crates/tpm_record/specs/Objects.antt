@@ -19,10 +19,11 @@ objects_of places objects = places objects.places
 unfoldable pub object_at : List (Option Object) → Handle → Option Object
 object_at places handle = at_number transient_byte places handle.number
 
--- the handle of the object in a slot, and the handle that the next added object gets
+-- the handle of the object in a slot
 abbrev pub object_handle : ℕ → Handle
 object_handle place = record { number = number_of 0x80 place }
 
+-- the handle that the next added object gets, or None if no slot is free
 abbrev pub next_handle : List (Option Object) → Option Handle
 next_handle places = option_map object_handle (lowest_free places)
 
@@ -34,8 +35,8 @@ with_object places place object = slice_set places place (Some object)
 unfoldable pub without_object : List (Option Object) → Handle → List (Option Object)
 without_object places handle = without_number transient_byte places handle.number
 
--- An object was put into the lowest free slot, or adding it was refused because all slots were in
--- use or an allocation failed.
+-- On success, the object was put into the lowest free slot. On failure, nothing changed: all slots
+-- were taken, or an allocation failed.
 abbrev pub Adds : Bool → List (Option Object) → Object
     → Result Handle SlotFault → List (Option Object) → Type 0
 Adds can old object (Ok handle) new =

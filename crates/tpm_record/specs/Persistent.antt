@@ -18,7 +18,8 @@ no_persistent = []
 abbrev pub persistent_at : Entries Object → Handle → Option Object
 persistent_at objects handle = at_key objects handle.number
 
--- the persistent objects after one was added (`with_persistent`) or removed (`without_persistent`)
+-- the persistent objects after an object was added (`with_persistent`) or removed
+-- (`without_persistent`)
 abbrev pub with_persistent : Entries Object → Handle → Object → Entries Object
 with_persistent objects handle object = with_key objects handle.number object
 
@@ -29,8 +30,8 @@ without_persistent objects handle = without_key objects handle.number
 abbrev pub next_persistent : Entries Object → ℕ → Option ℕ
 next_persistent objects number = key_from objects number
 
--- whether objects in a hierarchy can be made persistent: not those in the null hierarchy, whose
--- secrets are replaced at each TPM Reset
+-- whether objects in a hierarchy can be made persistent. Objects in the null hierarchy cannot,
+-- because its secrets are replaced at each TPM Reset
 abbrev pub can_persist : HierarchyHandle → Bool
 can_persist hierarchy.Owner = true
 can_persist hierarchy.Endorsement = true

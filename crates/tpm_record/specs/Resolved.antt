@@ -21,10 +21,11 @@ abbrev pub found_by : Resolved → Found
 found_by resolved =
     record { handle = resolved.handle; entity = entity_seen resolved.entity }
 
--- The entity that the code found for this handle is the one in the record.
+-- The entity that the code found for this handle is the entity that the handle names in the record.
 abbrev pub IsFound : Record → Resolved → Type 0
 IsFound r resolved = entity_seen resolved.entity ≡ entity_at r resolved.handle
 
--- The entities that the code found for these handles are those in the record.
+-- The entities that the code found for these handles are the entities that the handles name in the
+-- record.
 abbrev pub AreFound : Record → List Resolved → List Handle → Type 0
 AreFound r resolved handles = map found_by resolved ≡ entities_at r handles

@@ -8,11 +8,13 @@ use Rattle.tpm_types.specs.declared.startup_type.StartupType.TheVariants as type
 use Rattle.tpm_record.specs.declared.saved.SavedKind.{SavedKind}
 use Rattle.tpm_record.specs.declared.saved.SavedKind.TheVariants as kind
 
--- the saved state: nothing, if there was no TPM2_Shutdown or its state was discarded; for a
--- shutdown with CLEAR, only the fact that it happened; for one with STATE, the values of the PCRs
+-- the state that TPM2_Shutdown saved
 pub data SavedState : Type 0 where
+  -- there was no TPM2_Shutdown, or the state that it saved was discarded
   Nothing : SavedState
+  -- a shutdown with CLEAR, which saves only the fact that it happened
   Clear : SavedState
+  -- a shutdown with STATE, which saves the values of PCRs
   State : SavedValues → SavedState
 
 -- the state that a TPM2_Shutdown of this type saves

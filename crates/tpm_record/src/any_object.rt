@@ -20,7 +20,8 @@ pub fn add_object<K: Keep>(keep: &mut K, object: Object) -> Result<Handle, SlotF
     keep.objects_mut().add(object)
 }
 
-/// Adds a persistent object with this handle. Returns an error if the handle is taken.
+/// Adds a persistent object with this handle. Returns an error if the handle is taken, if the
+/// number of objects is at its limit, or if an allocation fails.
 pub fn add_persistent<K: Keep>(keep: &mut K, handle: Handle, object: Object) -> Result<(), KeyFault>
     requires named { is_persistent handle ≡ true }
     requires owned { can_persist object.hierarchy ≡ true }
@@ -43,7 +44,7 @@ pub fn remove_object<K: Keep>(keep: &mut K, handle: Handle) -> bool
     }
 }
 
-/// The lowest handle of a transient or persistent object, at or above this one.
+/// The lowest handle of a transient or persistent object, at or above this handle.
 pub fn next_object<K: Keep>(keep: &K, from: Handle) -> Option<u32>
     ensures { result ≡ next_object (K.record_of keep.now) from.number }
 {
@@ -53,7 +54,7 @@ pub fn next_object<K: Keep>(keep: &K, from: Handle) -> Option<u32>
     }
 }
 
-/// The lowest handle of a transient object, at or above this one.
+/// The lowest handle of a transient object, at or above this handle.
 #[tactic(auto, using(crate::proofs::Searching::none_more, crate::proofs::Searching::found_least))]
 fn next_transient<K: Keep>(keep: &K, from: Handle) -> Option<u32>
     ensures { result ≡ next_transient (K.record_of keep.now).objects from.number }

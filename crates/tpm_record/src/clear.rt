@@ -43,8 +43,8 @@ fn clear_place<O: Slots<Object, OBJECT_LIMIT>>(places: &mut O, place: usize)
     }
 }
 
-/// Selects the persistent objects that TPM2_Clear does not remove: those that are neither in the
-/// owner nor in the endorsement hierarchy.
+/// Selects the persistent objects that TPM2_Clear does not remove: the objects outside the owner
+/// and endorsement hierarchies.
 pub(crate) enum Outlasting {}
 
 impl Choice<Object> for Outlasting {

@@ -6,8 +6,8 @@
 //! [`keep::Keep`] is the trait. [`kept::Kept`] implements it with any kind of containers, for
 //! example [`kept::ListKeep`] with growable lists; tpm_slots contains the type with fixed-size
 //! storage, which allocates no memory. [`fixed::Fixed`] is the part of fixed size, which includes
-//! the state that a shutdown saved ([`saved::Saved`]). [`objects::Objects`] are the transient
-//! objects and [`persistent::PersistentObjects`] the persistent ones; NV indices are in tpm_nv.
+//! the state that a shutdown saved ([`saved::Saved`]). [`objects::Objects`] contains the transient
+//! objects, and [`persistent::PersistentObjects`] the persistent objects; NV indices are in tpm_nv.
 //! [`tick::tick`] and [`cycle::power_cycle`] change a record independently of commands, and
 //! [`entity`] looks up the entity of a handle. The crate uses `tpm_lockout`, `tpm_pcr`,
 //! `tpm_session`, `tpm_object` and `tpm_nv`. It uses `tpm_containers` for the slots of sessions and

@@ -129,7 +129,7 @@ pub fn object_laws()
 }
 
 /// TPM2_Clear removes the transient objects in the owner and endorsement hierarchies, and does not
-/// change the others. A proof only: it has no effect at run time.
+/// change the other transient objects. A proof only: it has no effect at run time.
 #[tactic(auto, using(crate::proofs::ClearLaws::are_cleared))]
 pub fn clearing_laws()
     ensures { ClearingLaws }

@@ -41,11 +41,12 @@ pub trait PersistentObjects: Drop + Sized {
     fn get(&self, handle: Handle) -> Option<&Object>
         ensures { option_copied result ≡ persistent_at (entries self.now) handle };
 
-    /// The lowest handle of an object, at or above this one.
+    /// The lowest handle of an object, at or above this handle.
     fn next(&self, handle: Handle) -> Option<u32>
         ensures { result ≡ next_persistent (entries self.now) handle.number };
 
-    /// Adds an object with this handle. Returns an error if the handle is taken.
+    /// Adds an object with this handle. Returns an error if the handle is taken, if the number of
+    /// objects is at its limit, or if an allocation fails.
     fn add(&mut self, handle: Handle, object: Object) -> Result<(), KeyFault>
         requires named { is_persistent handle ≡ true }
         requires owned { can_persist object.hierarchy ≡ true }

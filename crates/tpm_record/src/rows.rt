@@ -2,7 +2,7 @@
 //! ([`call::Call`]), its answer ([`answer::Answer`]), the reading of parameters ([`reading`]), the
 //! refusals ([`refusals`]), and the NV index that a command acts on ([`target`]).
 //!
-//! The crates of the commands use these: tpm_actions_device, tpm_actions_policy,
+//! The crates of the commands use these parts: tpm_actions_device, tpm_actions_policy,
 //! tpm_actions_object, tpm_actions_capability and tpm_nvactions. Each call equals its definition in
 //! `specs/`. `Acts`, also defined there, is the contract of every row: a success returns the row's
 //! answer and changes the record as the row says. A refusal is the row's refusal, and does not

@@ -64,7 +64,7 @@ impl Saved {
         }
     }
 
-    /// The saved values, if the last TPM2_Shutdown was one with STATE.
+    /// The saved values, if the saved state is that of a TPM2_Shutdown with STATE.
     pub fn values(&self) -> Option<&SavedPcrs>
         ensures { option_copied result ≡ values_of self.now }
     {
@@ -74,7 +74,7 @@ impl Saved {
         }
     }
 
-    /// The kind of the TPM2_Shutdown that saved this state.
+    /// The kind of the saved state.
     pub fn kind(&self) -> SavedKind
         ensures { result ≡ kind_of self.now }
     {

@@ -1,4 +1,4 @@
--- Lemmas that compare two rows step by step, and show that their results look the same.
+-- If two rows look the same at each step, their results look the same.
 use Rattle.std.proofs.Common.{ap, refl, subst, sym, ◌∙◌}
 use Rattle.std.proofs.lemmas.Bool.{false≢true}
 use Rattle.std.specs.Prelude.{Bool, Err, None, Ok, Option, Result, Some, false, is_ok, ok_or, option_map, true, ◌&&◌, ◌≡◌}
@@ -101,8 +101,8 @@ refused_alike {E = E} see (Err e) (Err h) alike refused = subst (λ (k : E). Ali
     fault (Ok c) = e
     fault (Err k) = k
 
--- If the conjunction of two conditions is false, at least one of them is. For example, a command
--- that reads no secret either names no secret object or is refused.
+-- If the conjunction of two conditions is false, at least one of the conditions is false. For
+-- example, a command that reads no secret either names no secret object or is refused.
 pub either_free : {P : Type 0} (a b : Bool) → (a && b) ≡ false → (a ≡ false → P) → (b ≡ false → P) → P
 either_free false b free unread refused = unread refl
 either_free true b free unread refused = refused free

@@ -1,5 +1,5 @@
--- Properties of a device with its secrets erased. Erasing the secrets twice is the same as erasing
--- them once. Two such devices are equal if all their parts are equal.
+-- Erasing the secrets of a device twice is the same as erasing them once. Two devices with their
+-- secrets erased are equal if all their parts are equal.
 use Rattle.std.proofs.Common.{ap, refl, sym, ◌∙◌}
 use Rattle.std.proofs.lemmas.Bool.{false≢true}
 use Rattle.std.specs.Prelude.{Bool, List, None, Option, Some, [], false, option_map, true, ℕ, ◌≡◌}

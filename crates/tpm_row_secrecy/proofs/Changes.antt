@@ -1,6 +1,6 @@
--- Changes of NV indices after some secrets were erased. Each change is refused as on the device
--- with its secrets, or has the same result except for secrets. This does not hold for a counter
--- with a secret value.
+-- After secrets were erased, each change of an NV index is refused as on the device with its
+-- secrets, or has the same result except for secrets. The only exception is a counter with a secret
+-- value.
 use Rattle.std.proofs.Common.{ap, refl, subst, sym, ◌∙◌}
 use Rattle.std.proofs.lemmas.Bool.{false≢true}
 use Rattle.std.proofs.lemmas.List.Folds.{fold-map}

@@ -1,4 +1,5 @@
--- Maps and slots after a function was applied to each of their values.
+-- If a function is applied to each value of a map or of slots, a lookup returns the function's
+-- result for the old value.
 use Rattle.std.proofs.Common.{ap, eqb, leb, refl, sym, ◌∙◌}
 use Rattle.std.specs.List.{prefix_len}
 use Rattle.std.specs.Option.{option_map_or}

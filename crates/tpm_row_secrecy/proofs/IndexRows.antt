@@ -1,5 +1,5 @@
 -- The rows for NV indices reveal nothing about secrets, except the row of an accepted TPM2_NV_Read,
--- and that of TPM2_NV_Increment of a counter.
+-- and the row of TPM2_NV_Increment on a counter.
 use Rattle.std.proofs.Common.{ap, refl, sym, ◌∙◌}
 use Rattle.std.specs.Int.{w64}
 use Rattle.std.specs.Prelude.{Bool, List, Ok, Result, false, is_ok, is_some, length, nat_lt, not, ℕ, ◌==◌, ◌≡◌}

@@ -245,8 +245,8 @@ module _ (s : Secrecy) (r : Record) (q : Request) where
       same_object s r handle f g (λ o found.
       subst (λ (x : Object). Same s (f x) (g o)) (sym (data_shown o (sym (ap (λ (x : Option Object). option_map_or (has_secret_data s) x false) found) ∙ sym (ap (handle_passes (names_secret_object s r)) named) ∙ shown))) (more o)))
 
-  -- If only the fact that a row succeeded is visible, it is enough to compare the rows for each
-  -- object and for the same object with its secrets erased.
+  -- If only the success of a row is visible, it is enough to compare the rows for each object and
+  -- for the same object with its secrets erased.
   any_object : (f g : Object → Result Success Refused) → ((o : Object) → Alike success (f (bare_object s o)) (g o)) → Alike success (first_handle q.handles >>= λ handle. loaded_at (without_secrets s r) handle >>= f) (first_handle q.handles >>= λ handle. loaded_at r handle >>= g)
   any_object f g more =
       alike_step success (first_handle q.handles) _ _ (λ handle.

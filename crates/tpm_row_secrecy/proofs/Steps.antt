@@ -95,7 +95,7 @@ target_bare s r q = target_by (first_handle q.handles) (second_handle q.handles)
 pub same_target : (s : Secrecy) (r : Record) (q : Request) (f g : Target → Result Success Refused) → ((t : Target) → Same s (f t) (g t)) → Same s (target_of (without_secrets s r) q >>= f) (target_of r q >>= g)
 same_target s r q f g more = same_both s _ _ f g (target_bare s r q) more
 
--- The index of a command's target is the one that the second handle names.
+-- The index of a command's target is the index that the second handle names.
 handle_of_target : (b : Handle) (x : Result NvAttributes Refused) (a : Handle) (t : Target) → (x >>= λ c. let y : Result Target Refused = Ok (record { auth_handle = a; handle = b; attributes = c }) in y) ≡ Ok t → b ≡ t.handle
 handle_of_target b (Err e) a t is = absurd cc
 handle_of_target b (Ok c) a t is = ap (λ (x : Result Target Refused). target_handle x) is

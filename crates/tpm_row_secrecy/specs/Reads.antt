@@ -29,11 +29,11 @@ handle_passes test (Err e) = false
 abbrev pub names_secret_object : Secrecy → Record → Handle → Bool
 names_secret_object s r handle = option_map_or (has_secret_data s) (object_of r handle) false
 
--- whether the data of an NV index is secret; and whether the index is a counter with a secret
--- value
+-- whether the data of an NV index is secret
 abbrev pub is_secret_index : Secrecy → NvIndex → Bool
 is_secret_index s i = s.index_data i.public.nv_index.number
 
+-- whether an NV index is a counter with a secret value
 abbrev pub is_secret_counter : Secrecy → NvIndex → Bool
 is_secret_counter s i = is_secret_index s i && is_of i.public.attributes type.Counter
 
@@ -46,12 +46,12 @@ abbrev pub names_policy_session : Record → Handle → Bool
 names_policy_session r handle =
     option_map_or (λ (x : Session). not (is_trial x.kind)) (session_at r.sessions handle) false
 
--- Whether an authorized command reads secret data. TPM2_Unseal and TPM2_HMAC with an object, and
--- TPM2_NV_Read of an NV index, read it if they are accepted, and reveal nothing if they are
--- refused. TPM2_PolicyNV on a policy session compares the data of its index, and a failed
--- comparison also reveals something about the data. TPM2_NV_Increment reads the value of the
--- counter, because the command is refused at the largest number. It may also raise the largest
--- value that any counter ever had, which is not secret. No other command reads secret data.
+-- Whether an authorized command reads secret data. If TPM2_Unseal or TPM2_HMAC is accepted, it
+-- reads the data of its object. If TPM2_NV_Read is accepted, it reads the data of its NV index. If
+-- they are refused, they reveal nothing. TPM2_PolicyNV on a policy session compares the data of its
+-- index, and a failed comparison also reveals something about the data. TPM2_NV_Increment reads the
+-- value of the counter, because the command is refused at the largest number. It may also raise the
+-- largest value that any counter ever had, which is not secret. No other command reads secret data.
 abbrev pub reads_secret : Secrecy → Record → CommandCode → Request → Bool
 reads_secret s r command.Unseal q =
     handle_passes (names_secret_object s r) (first_handle q.handles) && is_ok (unseal_row r q)

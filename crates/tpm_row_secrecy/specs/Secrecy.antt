@@ -29,13 +29,14 @@ pub record Secrecy : Type 0 where
   pub index_data : ℕ → Bool
   -- for each public area, whether the sealed data or HMAC key of a KEYEDHASH object is secret
   pub object_data : Public → Bool
-  -- the NV indices, the objects, and the hierarchies (or lockout) whose authorization value is
-  -- secret
+  -- for each handle number, whether the authorization value of the NV index is secret
   pub index_values : ℕ → Bool
+  -- for each public area, whether the authorization value of the object is secret
   pub object_values : Public → Bool
+  -- for each hierarchy and for lockout, whether its authorization value is secret
   pub hierarchy_values : HierarchyAuth → Bool
-  -- the Names of entities whose bound sessions have secret keys, because the key is derived from
-  -- the authorization value
+  -- for each Name, whether the keys of the sessions that were bound to this entity are secret. Such
+  -- a key is derived from the entity's authorization value
   pub bound_names : List ℕ → Bool
 
 -- the bytes, or no bytes if they are secret
@@ -94,8 +95,8 @@ has_secret_key s binding = option_map_or (λ (b : Binding). s.bound_names b.name
 abbrev pub bare_binding : Secrecy → Binding → Binding
 bare_binding s b = record b { auth_value = unless (s.bound_names b.name) b.auth_value }
 
--- a session with its secrets erased: its key, and the authorization value of the entity to which
--- it was bound
+-- a session with its secrets erased. The secrets are its key, and the authorization value of the
+-- entity to which it was bound
 abbrev pub bare_session : Secrecy → Session → Session
 bare_session s x = record x {
   key = unless (has_secret_key s x.binding) x.key;
@@ -105,7 +106,8 @@ bare_session s x = record x {
 -- ---- erasing the secrets of a device
 
 -- the record with its secrets erased. Everything else is unchanged: the entities with their public
--- areas and Names, the sessions and their policies, the PCRs, the number of failed tries, the seeds
+-- areas and Names, the sessions and their policies, the PCRs, the number of failed tries, and the
+-- seeds
 abbrev pub without_secrets : Secrecy → Record → Record
 without_secrets s r = record {
   fixed = bare_fixed s r.fixed;

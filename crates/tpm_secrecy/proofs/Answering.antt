@@ -83,8 +83,9 @@ module _ (s : Secrecy) (covers : CoversKeys s) where
   encryption_asked direction.Decrypt e is = ap (λ (b : Bool). b || encrypts e) is
   encryption_asked direction.Encrypt e is = or_second (decrypts e) (encrypts e) is
 
-  -- Suppose that two devices differ only in secrets. If the session of an entry that encrypts uses
-  -- no secret, the entry's authorization value is the same on both.
+  -- Suppose that two devices differ only in secrets. If the session of an entry that encrypts or
+  -- decrypts a parameter uses no secret, the entry's authorization value is the same on both
+  -- devices.
   value_same : (r : Record) (x : Session) (e : Entry) (g : Option Grant) → session_uses s r x e g ≡ false → uses_encryption e ≡ true → granted_value (without_secrets s r) g ≡ granted_value r g
   value_same r x e None free asked = refl
   value_same r x e (Some g) free asked = by (has_secret_value s r g.handle) refl
@@ -96,7 +97,7 @@ module _ (s : Secrecy) (covers : CoversKeys s) where
           absurd (true≢false (sym (or_second (is_hmac_session x.kind || demands_value (Some g)) (uses_encryption e) asked) ∙ not_second _ _ parts.1 is))
 
   -- Suppose that two devices differ only in secrets. If an entry uses no secret, a value that is
-  -- computed from the entry's session is the same on both.
+  -- computed from the entry's session is the same on both devices.
   of_session : {X : Type 0} (r : Record) (e : Entry) (g : Option Grant) (none : X) (f h : Session → X) → uses_secret s r e g ≡ false → ((x : Session) → session_uses s r x e g ≡ false → f x ≡ h x) → option_map_or f (session_of (without_secrets s r) e) none ≡ option_map_or h (session_of r e) none
   of_session {X} r e g none f h free same =
       ap (λ (found : Option Session). option_map_or f found none) (session_at_bare s r.sessions e.session) ∙ by (session_of r e) (λ x is. session_unused s r e g x free is)

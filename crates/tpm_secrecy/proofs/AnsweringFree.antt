@@ -1,5 +1,5 @@
 -- The answer to an accepted command uses no secret, if the command's entries used no secret before
--- its effect.
+-- the command's effect.
 use Rattle.std.proofs.Common.{ap, inl, inr, refl, subst, sym, ◌∙◌}
 use Rattle.std.proofs.lemmas.Bool.{cases_Bool, false≢true}
 use Rattle.std.proofs.lemmas.Option.{same_Some}
@@ -79,7 +79,7 @@ granted_used : (r : Record) (c : Whole) (locality place : ℕ) (e : Entry) (g : 
 unfolding grant
 granted_used r c locality place e g is = ok_at (IsUsed (slice_get (authorized c) place)) (grant_by (session_kind e.session) r c locality (place + 1) (slice_get (authorized c) place) e) g (used_by (session_kind e.session) r c locality (place + 1) (slice_get (authorized c) place) e) is
 
--- whether this number is at most one, as is the number of handles that a command authorizes
+-- whether this number is at most one; every command has at most one handle that needs authorization
 at_most_one : ℕ → Bool
 at_most_one zero = true
 at_most_one (suc zero) = true

@@ -1,4 +1,5 @@
--- The commands that read sealed data on a device with an unknown history.
+-- On a device with an unknown history, only an accepted command that reads sealed data reveals
+-- anything about the data.
 use Rattle.std.proofs.Common.{ap, arith, inl, inr, refl, subst, sym, ◌∙◌}
 use Rattle.std.proofs.lemmas.Bool.{and_parts, cases_Bool, false≢true}
 use Rattle.std.proofs.lemmas.Slice.Eq.{bytes_eq-Decides}

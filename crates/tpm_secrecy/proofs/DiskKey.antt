@@ -1,4 +1,4 @@
--- A disk's key stays secret until its policy is satisfied.
+-- A disk's key stays secret until its policy is satisfied, unless the hash is broken.
 use Rattle.tpm_types_object.specs.ObjectAttributes.{has}
 use Rattle.std.proofs.Common.{ap, inl, inr, refl, subst, sym, ◌∙◌}
 use Rattle.std.specs.List.{concat, flat_map}

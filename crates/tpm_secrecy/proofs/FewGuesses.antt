@@ -1,4 +1,5 @@
--- Wrong guesses reveal nothing, and the number of failed tries is limited.
+-- Wrong guesses reveal nothing. If recoveryTime is not 0 and nothing resets failedTries, the number
+-- of failed tries is limited.
 use Rattle.std.specs.Prelude.{true}
 use Rattle.tpm_step.proofs.FewTries.{fails_within}
 use Rattle.tpm_secrecy.proofs.Data.{covers}

@@ -1,5 +1,5 @@
--- The authorization of a command in which every guess is assumed to be wrong equals the real
--- authorization if every guess is wrong.
+-- If every guess of a command is wrong, the device authorizes the command exactly as if every guess
+-- were assumed to be wrong.
 use Rattle.std.proofs.Common.{ap, arith, length-append, refl, subst, sym, ◌∙◌}
 use Rattle.std.proofs.lemmas.Bool.{true≢false}
 use Rattle.std.specs.List.{list_any}

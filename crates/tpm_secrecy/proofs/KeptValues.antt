@@ -1,4 +1,4 @@
--- If the entity that a command authorizes has a secret value after the command's effect, it had a
+-- If the entity of a command's first handle has a secret value after the command's effect, it had a
 -- secret value before.
 use Rattle.std.proofs.Common.{ap, inl, inr, refl, subst, sym, ◌∙◌}
 use Rattle.std.proofs.lemmas.Bool.{cases_eq, eqb-true, false≢true, or_cases}
@@ -73,8 +73,8 @@ use Rattle.tpm_types.specs.declared.handle.HierarchyHandle.TheVariants as hierar
 abbrev number_in : NvIndex → ℕ
 number_in i = i.public.nv_index.number
 
--- Each handle has an index if and only if it had one before, with the same number in its public
--- area.
+-- Each handle has an index if and only if it had an index before, with the same number in its
+-- public area.
 abbrev KeepsNumbers : NvContents → NvContents → Type 0
 KeepsNumbers old new = (h : Handle) → option_map number_in (index_at new h) ≡ option_map number_in (index_at old h)
 

@@ -1,5 +1,6 @@
--- Sealed data and keys leave a device only through accepted commands that satisfied the objects'
--- policies.
+-- A device reveals sealed data and keys only through an accepted TPM2_Unseal or TPM2_HMAC of the
+-- object. If the object has a policy and no userWithAuth, the policy was satisfied, unless the hash
+-- is broken.
 use Rattle.tpm_types_object.specs.ObjectAttributes.{has}
 use Rattle.std.proofs.Common.{ap, inl, inr, refl, subst, sym, ◌∙◌}
 use Rattle.std.proofs.lemmas.Bool.{cases_Bool, false≢true}

@@ -161,7 +161,7 @@ module _ (s : Secrecy) (covers : CoversKeys s) where
 
   -- ---- the response
 
-  -- The answer to an accepted command uses no secret.
+  -- When the answer to an accepted command is computed, no entry uses a secret.
   abbrev Quiet : List ℕ → Accepted → Type 0
   Quiet random a = NoneUses s (answering a random) (granted_entries a.command a.grants)
 
@@ -174,7 +174,7 @@ module _ (s : Secrecy) (covers : CoversKeys s) where
       ok_bind _ (authorize r c locality) _ (λ grants.
       ok_bind _ (row_of r c.code (request_in r c grants locality random)) _ (λ success. refl))
 
-  -- If the command in a buffer is accepted, it reveals no secrets.
+  -- The accepted command reveals no secrets (`KeepsSecrets`).
   abbrev KeepsIts : Record → (locality : ℕ) → (random : List ℕ) → Accepted → Type 0
   KeepsIts r locality random a = KeepsSecrets s r a.command locality random
 

@@ -54,9 +54,10 @@ uses_encryption e = decrypts e || encrypts e
 
 -- Whether an entry of this session uses a secret. It does if the session's key is secret, because
 -- of the entity to which the session was bound. It also does if the entry authorizes an entity with
--- a secret value, and this value is part of the entry's HMAC key, is required by its policy, or is
--- part of the key that encrypts a parameter. Encryption uses the value even if the policy does not
--- require it, and the value is not compared with anything.
+-- a secret value, and one of these holds: the session is an HMAC session, so that the HMAC key
+-- contains the value; the policy requires the value; or the session encrypts or decrypts a
+-- parameter. The key for a parameter contains the value even if the policy does not require the
+-- value.
 abbrev pub session_uses : Secrecy → Record → Session → Entry → Option Grant → Bool
 session_uses s r x e granted =
     has_secret_key s x.binding
@@ -88,7 +89,8 @@ demand_uses s r handle x e (Ok d) =
     session_uses s r x e (Some (record { handle = handle; demand = d }))
 demand_uses s r handle x e (Err refused) = false
 
--- whether the session of entry n, which has to authorize this handle or none, uses a secret
+-- whether the session of entry n uses a secret; the entry has to authorize this handle, or no
+-- handle if it is None
 abbrev pub session_guesses : Secrecy → Record → Whole → (locality n : ℕ) → Option Handle → Entry
     → Session → Bool
 session_guesses s r c locality n None e x = session_uses s r x e None
@@ -103,16 +105,17 @@ guesses_by kind.Session s r c locality n used e =
     option_map_or (session_guesses s r c locality n used e) (session_of r e) false
 guesses_by kind.Other s r c locality n used e = false
 
--- whether the entry at this position of a command, counted from 0, is a guess: its password or its
--- HMAC is compared with a value computed from a secret; or it encrypts or decrypts a parameter with
--- a key computed from a secret, and nothing is compared
+-- whether the entry at this position of a command, counted from 0, is a guess. In a guess, the
+-- password or the HMAC is compared with a value computed from a secret. An entry is also a guess if
+-- it encrypts or decrypts a parameter with a key computed from a secret, although the key is not
+-- compared with anything
 abbrev pub is_guess : Secrecy → Record → Whole → (locality place : ℕ) → Entry → Bool
 is_guess s r c locality place e =
     guesses_by (session_kind e.session) s r c locality (place + 1)
     (slice_get (authorized c) place) e
 
--- Every guess among the entries of a command is refused. This includes entries after the first
--- refused one, which the device does not examine.
+-- Every guess among the entries of a command is refused. This includes the entries after the first
+-- refused entry, although the device does not examine them.
 abbrev pub GuessesFail : Secrecy → Record → Whole → (locality : ℕ) → Type 0
 GuessesFail s r c locality =
     (place : ℕ) (e : Entry) → slice_get c.entries place ≡ Some e
@@ -120,7 +123,7 @@ GuessesFail s r c locality =
     → is_ok (grant r c locality (place + 1) (slice_get (authorized c) place) e) ≡ false
 
 -- If an entity has the Name to which a session with a secret key is bound, it has the protection
--- that the bound entity had. This can fail only if two different entities have the same Name: two
+-- that the bound entity had. This can fail only if two different entities have the same Name. Two
 -- objects, or two indices, with the same public area have the same noDA, and equal handles name the
 -- same entity.
 abbrev pub BindingHolds : Secrecy → Record → Session → Type 0

@@ -62,8 +62,8 @@ TellsNothingSealed objects can old event x =
     → EventsAlike (sealed objects) event also
     → (y : Stepped) × Steps can other also y × TellsNothing (sealed objects) x y
 
--- On a device that follows a history, each execution reveals nothing about sealed data, unless it
--- is recorded as an accepted command that reads it.
+-- On a device that follows a history, an execution reveals nothing about sealed data, unless the
+-- history records it as an accepted command that reads the data.
 abbrev pub FollowedDataNeedPolicy : Type 0
 FollowedDataNeedPolicy =
     (objects : Public → Bool) (can : Bool) (old : Record) (history : History)
@@ -72,8 +72,8 @@ FollowedDataNeedPolicy =
     ⊎ (c : AcceptedCommand) × (recorded old event x.row.check history ≡ Done c ∷ history)
     × ReadsSealed objects history c
 
--- After any executions since a device was manufactured, each execution reveals nothing about
--- sealed data, unless it is recorded as an accepted command that reads it.
+-- After any executions since a device was manufactured, an execution reveals nothing about sealed
+-- data, unless the history records it as an accepted command that reads the data.
 abbrev pub SealedDataNeedPolicy : Type 0
 SealedDataNeedPolicy =
     (objects : Public → Bool) (can : Bool) (random : List ℕ) (executions : List Execution)
@@ -142,8 +142,8 @@ disk_policy hash selection values name reference =
     (Branch (Then Nothing (PolicySecret name reference)) NoBranch))
 
 -- The command is an accepted TPM2_Unseal of the disk's key. Unless the hash is broken, its session
--- proves that the PCRs had these values and the PIN, which is the key's authorization value, was
--- presented; or that the recovery secret was presented.
+-- proves one of two things. Either the PCRs had these values, and the PIN, which is the key's
+-- authorization value, was presented; or the recovery secret was presented.
 pub record OpensDiskKey (public : Public) (selection : List BankSelection)
     (values name reference : List ℕ) (history : History) (c : AcceptedCommand) : Type 0
   where
@@ -166,9 +166,9 @@ pub record IsDiskKey (public : Public) (objects : Public → Bool) (selection : 
         (disk_policy public.name_alg selection values name reference)
     pub one : (other : Public) → objects other ≡ true → other ≡ public
 
--- On a device that follows a history, nothing reveals the disk's key until a command is accepted
--- for which one of these holds: the PCRs have their values and the PIN is presented; the recovery
--- secret is presented; or the hash is broken.
+-- On a device that follows a history, nothing reveals the disk's key until a TPM2_Unseal of the key
+-- is accepted. For this command, one of these holds: the PCRs have their values and the PIN is
+-- presented; the recovery secret is presented; or the hash is broken.
 abbrev pub FollowedDiskKeyStaysSecret : Type 0
 FollowedDiskKeyStaysSecret =
     (public : Public) (objects : Public → Bool) (selection : List BankSelection)
@@ -180,8 +180,8 @@ FollowedDiskKeyStaysSecret =
     → StaySealed objects can old executions new
 
 -- After any executions since a device was manufactured, nothing reveals the disk's key until a
--- command is accepted for which one of these holds: the PCRs have their values and the PIN is
--- presented; the recovery secret is presented; or the hash is broken.
+-- TPM2_Unseal of the key is accepted. For this command, one of these holds: the PCRs have their
+-- values and the PIN is presented; the recovery secret is presented; or the hash is broken.
 abbrev pub DiskKeyStaysSecret : Type 0
 DiskKeyStaysSecret =
     (public : Public) (objects : Public → Bool) (selection : List BankSelection)

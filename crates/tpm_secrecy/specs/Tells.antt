@@ -125,7 +125,7 @@ pub record RunsAlike (s : Secrecy) (one other : Record) (events others : Attempt
   pub after : DifferInSecrets s (after_all one events) (after_all other others)
 
 -- Two devices that differ only in secret data return the same responses and report the same rows
--- for all events before the first one that reads the data.
+-- for all events before the first event that reads the data.
 abbrev pub RunTellsNothing : Type 0
 RunTellsNothing =
     (indices : ℕ → Bool) (objects : Public → Bool) (one other : Record) (events others : Attempts)
@@ -153,8 +153,8 @@ EventKeepsSecrets s r (Placed object) = Unit {0}
 
 -- Suppose that two devices differ only in secrets. An event reveals nothing about the secrets if
 -- all guesses of an authorization value fail on both devices, and neither reads secret data. The
--- condition names both devices because a guess that is wrong on one may be right on the other.
--- Objects that the two devices place may differ in secrets.
+-- condition names both devices because a guess that is wrong on one device may be right on the
+-- other device. Objects that the two devices place may differ in secrets.
 abbrev pub WrongGuessesTellNothing : Type 0
 WrongGuessesTellNothing =
     (s : Secrecy) → CoversKeys s → (one other : Record) (refused : Bool) (event also : PlainEvent)
@@ -170,7 +170,8 @@ AllKeepSecrets s r (e ∷ es) =
     EventKeepsSecrets s r e.1 × AllKeepSecrets s (step_where e.0 r e.1).after es
 
 -- Two devices that differ only in secrets return the same responses and report the same rows for
--- all events, as long as every guess fails on both devices and no event reads secret data.
+-- all events. This holds as long as every guess fails on both devices and no event reads secret
+-- data.
 abbrev pub RunOfWrongGuessesTellsNothing : Type 0
 RunOfWrongGuessesTellsNothing =
     (s : Secrecy) → CoversKeys s → (one other : Record) (events others : Attempts)

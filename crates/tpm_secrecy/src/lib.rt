@@ -2,11 +2,11 @@
 
 //! What the answers of a device reveal about its secrets.
 //!
-//! The secrets are the data of NV indices, the data that objects seal, HMAC keys, and
-//! authorization values. The laws compare two devices that are equal once their secrets are
-//! erased. They are laws of tpm_step's definitions, over any record; each is the contract of a
-//! function that has no effect at run time. They also hold for what tpm_machine executes, because
-//! each of its calls executes an event as the step defines it.
+//! The secrets are the data of NV indices, the data that objects seal, HMAC keys, and authorization
+//! values. The laws compare two devices that are equal once their secrets are erased. The laws are
+//! about tpm_step's definitions, and hold for every record. Each law is the contract of a function
+//! that has no effect at run time. The laws also hold for what tpm_machine executes, because each
+//! call of tpm_machine executes an event as the step defines it.
 
 ghost use Rattle.tpm_secrecy.specs.AnyDevice.{SealedDataNeedDigest};
 ghost use Rattle.tpm_secrecy.specs.SealedData.{DiskKeyStaysSecret, FollowedDataNeedPolicy};
@@ -30,11 +30,11 @@ pub fn secrecy_laws()
 {}
 
 /// After any executions since a device was manufactured, an execution reveals nothing about the
-/// sealed data or the key of an object, unless it is an accepted TPM2_Unseal or TPM2_HMAC with that
-/// object. If the object has a policy and no userWithAuth, the policy was satisfied unless the hash
-/// is broken. For example, nothing reveals a disk's key until a TPM2_Unseal of it is accepted.
-/// Then, unless the hash is broken, either the PCRs had their values and the PIN was presented, or
-/// the recovery secret was presented.
+/// sealed data or the key of an object. The only exception is an accepted TPM2_Unseal or TPM2_HMAC
+/// with that object. If the object has a policy and no userWithAuth, the policy was satisfied
+/// unless the hash is broken. For example, nothing reveals a disk's key until a TPM2_Unseal of it
+/// is accepted. Then, unless the hash is broken, either the PCRs had their values and the PIN was
+/// presented, or the recovery secret was presented.
 #[inline(always)]
 pub fn sealed_data_laws()
     ensures each { SealedDataNeedPolicy }
@@ -43,8 +43,8 @@ pub fn sealed_data_laws()
 {}
 
 /// The laws of `sealed_data_laws` also hold for every device that follows a history: a manufactured
-/// device; one that is opened from an image, a state text or a journal of a device with a history;
-/// and one that is served over connections. The policy was satisfied in that history.
+/// device; a device that is opened from an image, a state text or a journal of a device with a
+/// history; and a device that is served over connections. The policy was satisfied in that history.
 #[inline(always)]
 pub fn followed_data_laws()
     ensures each { FollowedDataNeedPolicy }
@@ -52,20 +52,20 @@ pub fn followed_data_laws()
     ensures disk_key { FollowedDiskKeyStaysSecret }
 {}
 
-/// On any device, even one opened from an image with an unknown history, an execution reveals
-/// nothing about the sealed data or the key of an object, unless it is an accepted TPM2_Unseal or
-/// TPM2_HMAC with that object. An object without userWithAuth was then used through a policy
-/// session whose policyDigest is the object's authPolicy.
+/// On any device, an execution reveals nothing about the sealed data or the key of an object,
+/// unless it is an accepted TPM2_Unseal or TPM2_HMAC with that object. This holds even if the
+/// device was opened from an image with an unknown history. If the object has no userWithAuth, the
+/// command was authorized by a policy session whose policyDigest is the object's authPolicy.
 #[inline(always)]
 pub fn any_device_laws()
     ensures { SealedDataNeedDigest }
 {}
 
 /// Suppose that two devices differ only in authorization values and other secrets. An event reveals
-/// nothing about them if it reads no secret data and if, on both devices, every guess of a secret
-/// value fails. The same holds for a list of events. If recoveryTime is not 0 and the list contains
-/// no reset of failedTries, at most maxTries tries fail, plus one for each recoveryTime that
-/// passes. An entry that encrypts with a secret value counts as a guess, although nothing is
+/// nothing about the secrets if it reads no secret data and if, on both devices, every guess of a
+/// secret value fails. The same holds for a list of events. If recoveryTime is not 0 and the list
+/// contains no reset of failedTries, at most maxTries tries fail, plus one for each recoveryTime
+/// that passes. An entry that encrypts with a secret value counts as a guess, although nothing is
 /// compared. The number of guesses that are not tries is not limited.
 #[inline(always)]
 pub fn guess_laws()

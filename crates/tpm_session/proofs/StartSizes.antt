@@ -1,4 +1,4 @@
--- The hash of a new session allows the sizes of its nonceTPM, key and policy digest.
+-- The hash algorithm of a new session allows the sizes of its nonceTPM, key and policy digest.
 use Rattle.std.proofs.Common.{◌≡◌, true, List, ℕ, length, Option, refl}
 use Rattle.std.proofs.lemmas.Bool.{eq-eqb}
 use Rattle.tpm_mac.specs.declared.algorithm.HashAlg.{HashAlg}

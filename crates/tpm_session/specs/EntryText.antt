@@ -34,7 +34,7 @@ abbrev pub entry_text : (hash newer older decrypt encrypt : List ℕ) → Sessio
 entry_text hash newer older decrypt encrypt attributes =
     hash ++ newer ++ older ++ decrypt ++ encrypt ++ attributes.octet ∷ []
 
--- the data that the HMAC of a command's entry covers; the caller's nonce is the newer one
+-- the data that the HMAC of a command's entry covers. The caller's nonce is nonceNewer
 abbrev pub command_text : Session → EntryParts → List ℕ
 command_text session p =
     entry_text p.hash p.nonce_caller session.nonce_tpm p.decrypt_nonce p.encrypt_nonce p.attributes
@@ -43,8 +43,8 @@ unfoldable pub command_mac_of : Session → (auth_value : List ℕ) → EntryPar
 command_mac_of session auth_value parts =
     hmac_of session.hash (entry_key session auth_value) (command_text session parts)
 
--- the data that the HMAC of a response's entry covers; the TPM's nonce is the newer one, and nonces
--- of other sessions are not included
+-- the data that the HMAC of a response's entry covers. The TPM's nonce is nonceNewer, and nonces of
+-- other sessions are not included
 abbrev pub response_text : Session → (hash nonce_caller : List ℕ) → SessionAttributes → List ℕ
 response_text session hash nonce_caller attributes =
     entry_text hash session.nonce_tpm nonce_caller [] [] attributes

@@ -9,16 +9,18 @@ use Rattle.tpm_types.specs.declared.symmetric.SymmetricDefinition.{SymmetricDefi
 use Rattle.tpm_session.specs.Key.{is_nonce_size, key_size}
 use Rattle.tpm_session.specs.declared.session.Binding.{Binding}
 
--- a session: its type, hash algorithm and symmetric definition; the last nonce that the device
--- sent; the key; the entity to which the session is bound; and its policy state, which never
--- changes in an HMAC session
+-- an authorization session
 pub record Session : Type 0 where
+  -- the session's type
   pub kind : SessionType
   pub hash : HashAlg
   pub symmetric : SymmetricDefinition
+  -- the last nonce that the device sent: nonceTPM
   pub nonce_tpm : List ℕ
   pub key : List ℕ
+  -- the entity to which the session is bound, if there is one
   pub binding : Option Binding
+  -- the policy state after the assertions so far. In an HMAC session it never changes
   pub policy : Policy
 
 -- a session with nonceTPM replaced

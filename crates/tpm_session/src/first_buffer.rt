@@ -1,4 +1,4 @@
-//! The size of the sized buffer at the start of the parameters. A session may encrypt its contents.
+//! Finds the sized buffer at the start of the parameters, whose contents a session may encrypt.
 
 ghost use Rattle.tpm_session.specs.FirstBuffer.{FindsFirst};
 

@@ -89,8 +89,8 @@ impl<S: Slots<Session, SESSION_LIMIT>> Sessions<S> {
         }
     }
 
-    /// Starts a session in the lowest free slot and returns its handle. The device's nonce must
-    /// be as long as the caller's.
+    /// Starts a session in the lowest free slot and returns its handle. The device's nonce must be
+    /// as long as the caller's nonce.
     pub fn start(&mut self, start: Start) -> Result<Handle, StartFault>
         requires { length start.nonce_tpm ≡ length start.nonce_caller.now }
         ensures { Starts S.can_refuse (places_of S.places self.old) start.entry result
@@ -149,7 +149,7 @@ impl<S: Slots<Session, SESSION_LIMIT>> Sessions<S> {
         self.slots.clear();
     }
 
-    /// Replaces the nonceTPM of the session with this handle by one of the same size; returns
+    /// Replaces the nonceTPM of the session with this handle by a nonce of the same size; returns
     /// whether the session existed.
     #[tactic(auto, unfolding(crate::specs::Sessions::rolled, crate::specs::Sessions::session_at))]
     pub fn roll(&mut self, handle: Handle, nonce: Nonce) -> bool

@@ -8,7 +8,8 @@ use Rattle.tpm_step.specs.EntryHmacs.{cp_hash_in}
 use Rattle.tpm_step.specs.History.{AcceptedCommand, History}
 use Rattle.tpm_step.specs.PolicyReviews.{IsUsedBySession, UsesObject}
 
--- An object whose policy is a single TPM2_PolicyCpHash is used only by a command with that cpHash.
+-- Unless the hash is broken, an object without userWithAuth whose policy is a single
+-- TPM2_PolicyCpHash is used only by commands with that cpHash.
 abbrev pub NeedsCpHash : History → AcceptedCommand → Type 0
 NeedsCpHash history c =
     (place : ℕ) (public : Public) (cp_hash : List ℕ)

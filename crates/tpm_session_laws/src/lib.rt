@@ -3,8 +3,8 @@
 //! Laws of sessions, based on what a device accepted: which events discard a policy session's
 //! assertions, which command a cpHash policy allows, and which nonces a session had.
 //!
-//! These are laws about tpm_step's definitions. Each is the contract of a function that has no
-//! effect at run time. No crate depends on this one.
+//! These are laws about tpm_step's definitions. Each law is the contract of a function that has no
+//! effect at run time. No crate depends on this crate.
 
 ghost use Rattle.tpm_session_laws.specs.Assertions.{NoneStandsThrough};
 ghost use Rattle.tpm_session_laws.specs.CpHash.{NeedsCpHash};

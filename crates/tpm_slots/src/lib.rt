@@ -4,9 +4,9 @@
 //! have. It allocates no memory, so it never runs out of memory.
 //!
 //! [`SlotKeep`] contains the whole state; no operation on it can fail for lack of memory
-//! ([`laws`]). Its containers ([`sessions`], [`objects`], [`persistent`], [`indices`]) are those of
-//! the crates that this one uses, under new names. Therefore, proofs about a device with this state
-//! do not have to expand the containers' implementations.
+//! ([`laws`]). Its containers ([`sessions`], [`objects`], [`persistent`], [`indices`]) are
+//! containers of other crates, with new names. Therefore, proofs about a device with this state do
+//! not have to expand the containers' implementations.
 
 pub mod indices;
 pub mod keep;

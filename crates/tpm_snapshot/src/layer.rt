@@ -5,17 +5,10 @@ ghost use Rattle.std.specs.List.{All};
 ghost use Rattle.tpm_state_text.specs.Layer.{IsLayer};
 ghost use Rattle.tpm_snapshot.specs.Layer.{completion_of, layer_of};
 
+use crate::sequences::{sequences_of, with_width};
 use tpm_completion::Completion;
 use tpm_state_text::Layer;
 use tpm_types::SESSION_LIMIT;
-
-/// Returns a number unchanged. The contract adds that the number fits in 64 bits.
-fn with_width(number: u64) -> u64
-    ensures same { result ≡ number }
-    ensures fits { result < 2 ^ 64 }
-{
-    number
-}
 
 fn sessions_of(sessions: &[u64; 16]) -> [u64; 16]
     ensures value { result ≡ sessions.now }
@@ -35,10 +28,12 @@ pub fn layer_of(completion: &Completion) -> Layer
     ensures is_layer { IsLayer result }
 {
     let sessions = sessions_of(&completion.sessions);
+    let sequences = sequences_of(&completion.sequences);
     Layer {
         start: with_width(completion.start),
         count: with_width(completion.count),
         sessions,
+        sequences,
     }
 }
 
@@ -51,9 +46,11 @@ pub fn completion_of(layer: Option<&Layer>) -> Completion
         return Completion::new();
     };
     let sessions = layer.sessions;
+    let sequences = layer.sequences;
     Completion {
         start: layer.start,
         count: layer.count,
         sessions,
+        sequences,
     }
 }

@@ -14,6 +14,7 @@
 
 pub mod laws;
 mod layer;
+mod sequences;
 mod snapshot;
 
 pub use layer::{completion_of, layer_of};

@@ -31,7 +31,7 @@ const POLICY_DIGEST: Field = Field {
     end: 1_671,
 };
 
-/// Replaces this sized field of the state text by one with `size` zero bytes, and corrects the
+/// Replaces this sized field of the state text by a field with `size` zero bytes, and corrects the
 /// text's length and digest.
 fn sized(alloc: Global, text: &[u8], field: Field, size: u8) -> Result<Vec<u8>, Fail> {
     if text.len() != 1_733 || field.start < 10 || field.end < field.start || field.end > 1_701 {

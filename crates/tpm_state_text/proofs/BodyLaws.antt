@@ -23,13 +23,12 @@ use Rattle.tpm_image_text.proofs.ImageLaws.{kept_is}
 use Rattle.tpm_image_text.proofs.ObjectLaws.{object_fields_spelled}
 use Rattle.tpm_state_text.specs.Banks.{bank_in, bank_text, banks_in, banks_text}
 use Rattle.tpm_state_text.specs.Body.{IsWholeState, WholeState, body_in, body_text, device_in, device_text, is_lockout_time, lockout_time_in, resumed_in, state_of_body, volatile_text}
-use Rattle.tpm_state_text.specs.Layer.{layer_text}
+use Rattle.tpm_state_text.specs.Layer.{layer_part_text}
 use Rattle.tpm_state_text.specs.declared.layer.Layer.{Layer}
 use Rattle.tpm_state_text.specs.Objects.{transients_in, transients_text}
-use Rattle.tpm_state_text.specs.Places.{optional_text}
 use Rattle.tpm_state_text.specs.Sessions.{sessions_text}
-use Rattle.tpm_state_text.proofs.LayerLaws.{all_spelled, layer_spelled}
-use Rattle.tpm_state_text.proofs.PlaceLaws.{optional_spelled, places_spelled}
+use Rattle.tpm_state_text.proofs.LayerLaws.{all_spelled, layer_part_spelled}
+use Rattle.tpm_state_text.proofs.PlaceLaws.{places_spelled}
 use Rattle.tpm_state_text.proofs.SessionLaws.{sessions_spelled}
 
 -- ---- the banks
@@ -127,8 +126,8 @@ state_of f = record { device = f.0; layer = f.1 }
 body_spelled : Spelled body_text IsWholeState body_in
 unfolding body_in body_text
 body_spelled =
-    respelled (first device_spelled (then (optional_spelled layer_spelled) (all_read state_fields state_of (λ _. refl) (λ _. refl))))
-    (λ s. two_texts (device_text s.device) (optional_text layer_text s.layer))
+    respelled (first device_spelled (then layer_part_spelled (all_read state_fields state_of (λ _. refl) (λ _. refl))))
+    (λ s. two_texts (device_text s.device) (layer_part_text s.layer))
     (λ s is. record { device = is.0; layer = is.1.0 })
     (λ s is. (is.device, (is.layer, tt)))
 

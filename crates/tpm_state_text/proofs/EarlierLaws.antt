@@ -26,7 +26,7 @@ use Rattle.tpm_state_text.specs.Sizes.{earlier_layer_size, state_text_size}
 use Rattle.tpm_state_text.specs.declared.earlier.EarlierLayer.{EarlierLayer}
 use Rattle.tpm_state_text.specs.declared.earlier.Held.{Held}
 use Rattle.tpm_state_text.proofs.BodyLaws.{device_spelled}
-use Rattle.tpm_state_text.proofs.LayerLaws.{all_spelled, n64}
+use Rattle.tpm_state_text.proofs.LayerLaws.{all_spelled, free_are, n64}
 use Rattle.tpm_state_text.proofs.Loops.{length_set}
 use Rattle.tpm_state_text.proofs.PlaceLaws.{optional_spelled}
 use Rattle.tpm_state_text.proofs.SizeLaws.{contexts_small, device_small, each_small, optional_small}
@@ -169,7 +169,7 @@ device_is r (Some layer) is =
 layer_is : (layer : Option EarlierLayer) → IfSome layer IsEarlierLayer → IfSome (option_map layer_of layer) IsLayer
 layer_is None is = tt
 layer_is (Some layer) is =
-    record { start = is.start; count = is.count; sessions = is.sessions; each_session = is.each_session }
+    record { start = is.start; count = is.count; sessions = is.sessions; each_session = is.each_session; sequences = refl; each_sequence = free_are.1 }
 
 pub current_is : (state : EarlierState) → IsEarlierState state → IsWholeState (current state)
 current_is state is = record { device = device_is state.device state.layer is.device; layer = layer_is state.layer is.layer }

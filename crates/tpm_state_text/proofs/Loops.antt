@@ -141,6 +141,6 @@ one_fits size i length start few below room is =
     let up_to : size * (i + 1) ≤ size * 24 = mul-le-mul_left size (omega (arith, below)) in
     (omega (arith, few), omega (arith, up_to, room, is))
 
--- writing three encodings one after another writes their concatenation
-pub three_written : (t a b c p q r : List ℕ) → a ≡ t ++ p → b ≡ a ++ q → c ≡ b ++ r → c ≡ t ++ (p ++ (q ++ r))
-three_written t a b c p q r first second third = rw (third, second, first) (simp append_assoc refl)
+-- writing four encodings one after another writes their concatenation
+pub four_written : (t a b c d p q r s : List ℕ) → a ≡ t ++ p → b ≡ a ++ q → c ≡ b ++ r → d ≡ c ++ s → d ≡ t ++ (p ++ q ++ r ++ s)
+four_written t a b c d p q r s first second third fourth = rw (fourth, third, second, first) (simp append_assoc refl)

@@ -22,14 +22,14 @@ each_of_all Is (value ∷ values) all = (all 0, each_of_all Is values (λ place.
 
 module _ {A : Type 0} {text : A → List ℕ} {Is : A → Type 0} {at : List ℕ → Result (A × List ℕ) Malformed} (law : Spelled text Is at) where
   -- the encoding of an optional value, after the byte that says whether there is one
-  abbrev after : Option A → List ℕ
+  abbrev pub after : Option A → List ℕ
   after None = []
   after (Some x) = text x
 
-  abbrev IsOne : Bool → Option A → Type 0
+  abbrev pub IsOne : Bool → Option A → Type 0
   IsOne is_there value = IfSome value Is × (is_some value ≡ is_there)
 
-  after_spelled : (is_there : Bool) → Spelled after (IsOne is_there) (optional_after at is_there)
+  pub after_spelled : (is_there : Bool) → Spelled after (IsOne is_there) (optional_after at is_there)
   after_spelled false = only None refl (tt, refl) none
     where
       none : (value : Option A) → IsOne false value → value ≡ None

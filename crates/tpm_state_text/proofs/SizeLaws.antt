@@ -1,5 +1,5 @@
 -- The largest sizes of the parts of a state text.
-use Rattle.std.proofs.Common.{◌≡◌, ℕ, ◌+◌, ◌*◌, ◌^◌, ◌<◌, ◌≤◌, Bool, List, [], ◌∷◌, length, Option, Some, None, IfSome, arith, length-append}
+use Rattle.std.proofs.Common.{◌≡◌, ℕ, ◌+◌, ◌*◌, ◌^◌, ◌<◌, ◌≤◌, Bool, true, false, cond, List, [], ◌∷◌, length, Option, Some, None, IfSome, arith, length-append}
 use Rattle.std.specs.Int.{w32, w64, to_be_bytes}
 use Rattle.std.specs.List.{All, AllByRecursion, flat_map}
 use Rattle.std.proofs.lemmas.List.Elements.{recursion_from_All}
@@ -10,6 +10,10 @@ use Rattle.tpm_pcr.specs.Values.{BankValues, IsBank, IsBanks}
 use Rattle.tpm_policy.specs.State.{IsPolicy, Policy}
 use Rattle.tpm_record.specs.IsRecord.{IsRecord}
 use Rattle.tpm_record.specs.Record.{Record}
+use Rattle.tpm_sequence.specs.declared.object.SequenceObject.{SequenceObject}
+use Rattle.tpm_sequence_text.specs.Sizes.{slot_size}
+use Rattle.tpm_sequence_text.specs.Slot.{IsSlot, slot_text}
+use Rattle.tpm_sequence_text.proofs.SizeLaws.{stays_small}
 use Rattle.tpm_session.specs.Session.{IsBinding, IsSession}
 use Rattle.tpm_session.specs.declared.session.Binding.{Binding}
 use Rattle.tpm_session.specs.declared.session.Session.{Session}
@@ -26,13 +30,14 @@ use Rattle.tpm_image_text.proofs.BodyLaws.{body_small}
 use Rattle.tpm_image_text.proofs.ImageLaws.{kept_is}
 use Rattle.tpm_state_text.specs.Banks.{bank_text, banks_text}
 use Rattle.tpm_state_text.specs.Body.{IsWholeState, WholeState, body_text, device_text, volatile_text}
-use Rattle.tpm_state_text.specs.Layer.{IsLayer, layer_text}
+use Rattle.tpm_state_text.specs.Layer.{IsLayer, layer_part_text, layer_text}
 use Rattle.tpm_state_text.specs.declared.layer.Layer.{Layer}
 use Rattle.tpm_state_text.specs.Objects.{transients_text}
 use Rattle.tpm_state_text.specs.Places.{optional_text, places_text}
 use Rattle.tpm_state_text.specs.Policies.{policy_text}
+use Rattle.tpm_state_text.specs.Sequences.{has_sequence, sequence_slots, slots_text}
 use Rattle.tpm_state_text.specs.Sessions.{binding_text, session_text, sessions_text}
-use Rattle.tpm_state_text.specs.Sizes.{banks_size, layer_size, policy_size, session_size, sessions_size, state_text_size, transients_size, volatile_size}
+use Rattle.tpm_state_text.specs.Sizes.{banks_size, layer_size, policy_size, session_size, sessions_size, slots_size, state_text_size, transients_size, volatile_size}
 use Rattle.tpm_state_text.proofs.PlaceLaws.{each_of_all}
 
 -- ---- optional values, and lists
@@ -101,10 +106,26 @@ contexts_small sessions all =
     let IsContext : ℕ → Type 0 = λ n. n < 2 ^ 64 in
     each_small (to_be_bytes w64) IsContext 8 (λ n _. omega arith) sessions (recursion_from_All IsContext sessions all)
 
+slots_small : (slots : List (Option SequenceObject)) → length slots ≡ sequence_slots → All IsSlot slots → length (slots_text slots) ≤ slots_size
+unfolding slots_text
+slots_small slots size all = by (has_sequence slots)
+  where
+    each : length (flat_map slot_text slots) ≤ slot_size * length slots
+    each = each_small slot_text IsSlot slot_size stays_small slots (recursion_from_All IsSlot slots all)
+
+    by : (is_used : Bool) → length (cond is_used (flat_map slot_text slots) []) ≤ slots_size
+    by true = omega (arith, each, size)
+    by false = omega arith
+
 layer_small : (l : Layer) → IsLayer l → length (layer_text l) ≤ layer_size
 unfolding layer_text
 layer_small l is =
-    simp length-append (omega (arith, is.sessions, contexts_small l.sessions is.each_session))
+    simp length-append (omega (arith, is.sessions, contexts_small l.sessions is.each_session, slots_small l.sequences is.sequences is.each_sequence))
+
+layer_part_small : (layer : Option Layer) → IfSome layer IsLayer → length (layer_part_text layer) ≤ 1 + layer_size
+unfolding layer_part_text
+layer_part_small None is = omega arith
+layer_part_small (Some layer) is = omega (arith, layer_small layer is)
 
 -- ---- the whole body
 
@@ -128,5 +149,5 @@ device_small r is =
 pub whole_small : (state : WholeState) → IsWholeState state → length (body_text state) + 42 ≤ state_text_size
 unfolding body_text
 whole_small s is =
-    let layer = optional_small layer_text IsLayer layer_size layer_small s.layer is.layer in
+    let layer = layer_part_small s.layer is.layer in
     simp length-append (omega (arith, device_small s.device is.device, layer))

@@ -15,8 +15,7 @@ use Rattle.tpm_image_text.specs.declared.version.Version.TheVariants as image
 use Rattle.tpm_state_text.specs.Body.{IsWholeState, WholeState, body_text, device_text, state_of_body, volatile_text}
 use Rattle.tpm_state_text.specs.Frame.{framed_state, state_format}
 use Rattle.tpm_state_text.specs.Earlier.{EarlierState, IsEarlierState, current, earlier_body_text, earlier_state_of_body}
-use Rattle.tpm_state_text.specs.Layer.{layer_text}
-use Rattle.tpm_state_text.specs.Places.{optional_text}
+use Rattle.tpm_state_text.specs.Layer.{layer_part_text}
 use Rattle.tpm_state_text.specs.Sizes.{state_text_size}
 use Rattle.tpm_state_text.specs.State.{Encodes, HasBehindHead, current_state_of_text, earlier_text, state_in_body, state_of_text, state_text}
 use Rattle.tpm_state_text.specs.Version.{is_earlier, state_version_number, state_version_numbered}
@@ -157,7 +156,7 @@ unfolding state_text body_text device_text
 body_in_state state =
     let image = image_body_text image.Two (kept_of state.device) in
     let volatile = volatile_text state.device in
-    let layer = optional_text layer_text state.layer in
+    let layer = layer_part_text state.layer in
     let digest = hash_of Sha256 (head_in state_format Two (head_bytes + length (image ++ volatile ++ layer) + digest_bytes) ++ (image ++ volatile ++ layer)) in
     ap (take (length image)) (let parts : image ++ volatile ++ layer ++ digest ≡ image ++ (volatile ++ (layer ++ digest)) = simp append_assoc refl in parts)
     ∙ front_is image (volatile ++ (layer ++ digest))

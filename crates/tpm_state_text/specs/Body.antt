@@ -13,10 +13,9 @@ use Rattle.tpm_lockout.specs.Lockout.{milliseconds}
 use Rattle.tpm_record.specs.IsRecord.{IsRecord}
 use Rattle.tpm_record.specs.Record.{Record}
 use Rattle.tpm_state_text.specs.Banks.{banks_in, banks_text}
-use Rattle.tpm_state_text.specs.Layer.{IsLayer, layer_in, layer_text}
+use Rattle.tpm_state_text.specs.Layer.{IsLayer, layer_part_in, layer_part_text}
 use Rattle.tpm_state_text.specs.declared.layer.Layer.{Layer}
 use Rattle.tpm_state_text.specs.Objects.{transients_in, transients_text}
-use Rattle.tpm_state_text.specs.Places.{optional_in, optional_text}
 use Rattle.tpm_state_text.specs.Sessions.{sessions_in, sessions_text}
 
 -- the whole state of a device: its record, and the state of the completing layer, if it has one
@@ -99,14 +98,14 @@ device_in text = do
 
 -- ---- the body
 
--- the encoding of a body: the encoded device, followed by the encoded layer, if there is one
+-- the encoding of a body: the encoded device, followed by the encoded layer, or no layer
 unfoldable pub body_text : WholeState → List ℕ
-body_text state = device_text state.device ++ optional_text layer_text state.layer
+body_text state = device_text state.device ++ layer_part_text state.layer
 
 unfoldable pub body_in : List ℕ → Result (WholeState × List ℕ) Malformed
 body_in text = do
   device ← device_in text
-  layer ← optional_in layer_in device.1
+  layer ← layer_part_in device.1
   Ok (record { device = device.0; layer = layer.0 }, layer.1)
 
 -- the state that a body encodes; bytes after it are malformed

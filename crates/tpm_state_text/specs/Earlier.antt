@@ -18,6 +18,7 @@ use Rattle.tpm_record.specs.Record.{Record}
 use Rattle.tpm_types.specs.Limits.{object_limit, session_limit}
 use Rattle.tpm_state_text.specs.Body.{WholeState, device_in, device_text}
 use Rattle.tpm_state_text.specs.Places.{optional_in, optional_text}
+use Rattle.tpm_state_text.specs.Sequences.{free_sequences}
 use Rattle.tpm_state_text.specs.declared.earlier.EarlierLayer.{EarlierLayer}
 use Rattle.tpm_state_text.specs.declared.earlier.Held.{Held}
 use Rattle.tpm_state_text.specs.declared.layer.Layer.{Layer}
@@ -116,10 +117,14 @@ device_of device (Some layer) =
 device_of device None = device
 
 -- the parts of the layer that version 2 also contains: its start number, its count and the contexts
--- of sessions
+-- of sessions. A layer of version 1 has no sequence objects
 abbrev pub layer_of : EarlierLayer → Layer
-layer_of layer =
-    record { start = layer.start; count = layer.count; sessions = layer.sessions }
+layer_of layer = record {
+  start = layer.start;
+  count = layer.count;
+  sessions = layer.sessions;
+  sequences = free_sequences;
+}
 
 -- the state to which a state text of version 1 decodes
 abbrev pub current : EarlierState → WholeState

@@ -4,6 +4,7 @@ pub mod Sessions
 pub mod Objects
 pub mod Banks
 pub mod Version
+pub mod Sequences
 pub mod Layer
 pub mod Body
 pub mod Earlier

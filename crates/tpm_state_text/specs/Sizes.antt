@@ -2,7 +2,9 @@
 -- device.
 use Rattle.std.specs.Prelude.{ℕ, ◌+◌, ◌*◌}
 use Rattle.tpm_image_text.specs.Sizes.{body_size, object_fields_size}
+use Rattle.tpm_sequence_text.specs.Sizes.{slot_size}
 use Rattle.tpm_types.specs.Limits.{object_limit, session_limit}
+use Rattle.tpm_state_text.specs.Sequences.{sequence_slots}
 
 -- the largest sizes of a policy, of a session with its policy, and of all sessions; one byte for
 -- each slot says whether there is a session
@@ -27,13 +29,17 @@ banks_size = 24 * 20 + 24 * 32 + 8
 abbrev pub volatile_size : ℕ
 volatile_size = 25 + banks_size + sessions_size + transients_size
 
--- the size of an encoded layer; below, in version 1
+-- the largest size of the slots of sequence objects
+abbrev pub slots_size : ℕ
+slots_size = sequence_slots * slot_size
+
+-- the largest size of an encoded layer; below, the size in version 1
 abbrev pub layer_size : ℕ
-layer_size = 16 + session_limit * 8
+layer_size = 16 + session_limit * 8 + slots_size
 
 abbrev pub earlier_layer_size : ℕ
-earlier_layer_size = layer_size + object_limit * 16
+earlier_layer_size = 16 + session_limit * 8 + object_limit * 16
 
--- the largest size of a state text, including the 10-byte head and the 32-byte digest: 36,195
+-- the largest size of a state text, including the 10-byte head and the 32-byte digest: 36,930
 abbrev pub state_text_size : ℕ
 state_text_size = 10 + (body_size + volatile_size + 1 + layer_size) + 32

@@ -8,7 +8,7 @@ ghost use Rattle.tpm_state_text.specs.Body.{body_text, device_in, device_text, s
 ghost use Rattle.tpm_state_text.specs.Filling.{FillsState, state_of};
 ghost use Rattle.tpm_state_text.specs.Sizes.{layer_size, volatile_size};
 
-use crate::layer::{Layer, read_optional_layer, write_optional_layer};
+use crate::layer::{Layer, read_layer_part, write_layer_part};
 use crate::volatile::{read_volatile, write_volatile};
 use tpm_bytes::Cursor;
 use tpm_image_text::{FillFault, Text, Version, read_kept, write_body_at};
@@ -32,7 +32,7 @@ pub fn read_body<K: Keep>(keep: &mut K, body: &[u8]) -> Result<Option<Layer>, Fi
 {
     let mut text = Cursor::new(body);
     read_device(keep, &mut text)?;
-    let Ok(layer) = read_optional_layer(&mut text) else {
+    let Ok(layer) = read_layer_part(&mut text) else {
         return Err(FillFault::Malformed);
     };
     if !text.is_empty() {
@@ -60,5 +60,5 @@ pub fn write_body<K: Keep>(keep: &K, layer: Option<&Layer>, text: &mut Text)
     ensures small { length text.new ≤ body_size + (volatile_size + 1 + layer_size) }
 {
     write_device(keep, text);
-    write_optional_layer(layer, text);
+    write_layer_part(layer, text);
 }

@@ -132,7 +132,7 @@ fn remove_waiting<O: Slots<Object, OBJECT_LIMIT>>(objects: &mut Objects<O>, held
     }
 }
 
-/// The parts of a layer of version 1 that version 2 also contains.
+/// The parts of a layer of version 1 that version 2 also contains, and no sequence objects.
 fn layer_of(layer: &EarlierLayer) -> Layer
     ensures { result ≡ layer_of layer.now }
 {
@@ -141,6 +141,7 @@ fn layer_of(layer: &EarlierLayer) -> Layer
         start: layer.start,
         count: layer.count,
         sessions,
+        sequences: [None; 3],
     }
 }
 

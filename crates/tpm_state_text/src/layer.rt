@@ -7,12 +7,13 @@ ghost use Rattle.tpm_bytes.specs.Many.{many_at};
 ghost use Rattle.tpm_bytes.specs.Reading.{Reads};
 ghost use Rattle.tpm_image_text.specs.Fields.{number_in};
 ghost use Rattle.tpm_image_text.specs.Sizes.{text_size};
-ghost use Rattle.tpm_state_text.specs.Layer.{layer_in, layer_text};
-ghost use Rattle.tpm_state_text.specs.Places.{optional_in, optional_text};
+ghost use Rattle.tpm_state_text.specs.Layer.{kind_in, kind_named, kind_number, kind_of, layer_in, layer_part_in, layer_part_text, layer_text};
 ghost use Rattle.tpm_state_text.specs.Sizes.{layer_size};
 
+use crate::sequences::{has_sequence, read_sequences, write_sequences};
 use tpm_bytes::Cursor;
-use tpm_image_text::{Malformed, Text, read_bool, read_u64, write_bool, write_u64};
+use tpm_image_text::{Malformed, Text, read_u8, read_u64, write_u64};
+use tpm_sequence::SequenceObject;
 use tpm_types::SESSION_LIMIT;
 
 /// The state of the completing layer.
@@ -25,6 +26,65 @@ pub struct Layer {
     /// The number of the context in which each session was saved, by slot; 0 if the session is
     /// loaded.
     pub sessions: [u64; 16],
+    /// The sequence objects, by slot.
+    pub sequences: [Option<SequenceObject>; 3],
+}
+
+/// What a state text contains of the completing layer.
+#[derive(Clone, Copy, PartialEq, Eq)]
+pub enum LayerKind {
+    /// The device has no layer.
+    Absent,
+    /// The layer has no sequence object.
+    Plain,
+    /// The layer has a sequence object.
+    WithSequences,
+}
+
+fn kind_number(kind: LayerKind) -> u8
+    ensures { result ≡ kind_number kind }
+{
+    match kind {
+        LayerKind::Absent => 0,
+        LayerKind::Plain => 1,
+        LayerKind::WithSequences => 2,
+    }
+}
+
+fn kind_named(number: u8) -> Option<LayerKind>
+    ensures { result ≡ kind_named number }
+{
+    match number {
+        0 => Some(LayerKind::Absent),
+        1 => Some(LayerKind::Plain),
+        2 => Some(LayerKind::WithSequences),
+        _ => None,
+    }
+}
+
+#[tactic(auto, unfolding(crate::specs::Layer::kind_in))]
+fn read_kind(text: &mut Cursor) -> Result<LayerKind, Malformed>
+    ensures { Reads (λ kind. kind) (kind_in text.old) text.old result text.new }
+{
+    let mut ahead = Cursor::new(text.rest());
+    let Some(kind) = kind_named(read_u8(&mut ahead)?) else {
+        return Err(Malformed);
+    };
+    *text = ahead;
+    Ok(kind)
+}
+
+fn kind_of(layer: Option<&Layer>) -> LayerKind
+    ensures { result ≡ kind_of (option_copied layer.entry) }
+{
+    let Some(layer) = layer else {
+        return LayerKind::Absent;
+    };
+    if has_sequence(&layer.sequences) {
+        LayerKind::WithSequences
+    } else {
+        LayerKind::Plain
+    }
 }
 
 /// Reads the context numbers of all sessions.
@@ -42,31 +102,35 @@ pub fn read_sessions(text: &mut Cursor) -> Result<[u64; 16], Malformed>
     Ok(sessions)
 }
 
+/// Reads a layer, with sequence objects if `is_used` is true.
 #[tactic(auto, unfolding(crate::specs::Layer::layer_in))]
-fn read_layer(text: &mut Cursor) -> Result<Layer, Malformed>
-    ensures { Reads (λ layer. layer) (layer_in text.old) text.old result text.new }
+fn read_layer(is_used: bool, text: &mut Cursor) -> Result<Layer, Malformed>
+    ensures { Reads (λ layer. layer) (layer_in is_used text.old) text.old result text.new }
 {
     let mut ahead = Cursor::new(text.rest());
     let start = read_u64(&mut ahead)?;
     let count = read_u64(&mut ahead)?;
     let sessions = read_sessions(&mut ahead)?;
+    let sequences = read_sequences(is_used, &mut ahead)?;
     *text = ahead;
     Ok(Layer {
         start,
         count,
         sessions,
+        sequences,
     })
 }
 
 /// Reads the state of the layer, if the device has the layer.
-pub fn read_optional_layer(text: &mut Cursor) -> Result<Option<Layer>, Malformed>
-    ensures { Reads (λ layer. layer) (optional_in layer_in text.old) text.old result text.new }
+#[tactic(auto, unfolding(crate::specs::Layer::layer_part_in))]
+pub fn read_layer_part(text: &mut Cursor) -> Result<Option<Layer>, Malformed>
+    ensures { Reads (λ layer. layer) (layer_part_in text.old) text.old result text.new }
 {
     let mut ahead = Cursor::new(text.rest());
-    let layer = if read_bool(&mut ahead)? {
-        Some(read_layer(&mut ahead)?)
-    } else {
-        None
+    let layer = match read_kind(&mut ahead)? {
+        LayerKind::Absent => None,
+        LayerKind::Plain => Some(read_layer(false, &mut ahead)?),
+        LayerKind::WithSequences => Some(read_layer(true, &mut ahead)?),
     };
     *text = ahead;
     Ok(layer)
@@ -91,19 +155,18 @@ fn write_layer(layer: &Layer, text: &mut Text)
     write_u64(layer.start, text);
     write_u64(layer.count, text);
     write_sessions(&layer.sessions, text);
+    write_sequences(&layer.sequences, text);
 }
 
 /// Writes the state of the layer, if the device has the layer.
-pub fn write_optional_layer(layer: Option<&Layer>, text: &mut Text)
+#[tactic(auto, unfolding(crate::specs::Layer::layer_part_text))]
+pub fn write_layer_part(layer: Option<&Layer>, text: &mut Text)
     requires { length text.old + (1 + layer_size) ≤ text_size }
-    ensures written { text.new ≡ text.old ++ optional_text layer_text (option_copied layer.entry) }
+    ensures written { text.new ≡ text.old ++ layer_part_text (option_copied layer.entry) }
     ensures small { length text.new ≤ length text.old + (1 + layer_size) }
 {
-    match layer {
-        Some(layer) => {
-            write_bool(true, text);
-            write_layer(layer, text);
-        }
-        None => write_bool(false, text),
+    text.append_u8(kind_number(kind_of(layer)));
+    if let Some(layer) = layer {
+        write_layer(layer, text);
     }
 }

@@ -28,6 +28,7 @@ mod objects;
 mod optional;
 mod policies;
 mod restoring;
+mod sequences;
 mod session;
 mod sessions;
 mod snapshot;

@@ -15,7 +15,7 @@ use tpm_mac::{HashAlg, digest_parts};
 use tpm_record::Keep;
 
 /// The largest size of a state text.
-pub const STATE_TEXT_LIMIT: usize = 36_195;
+pub const STATE_TEXT_LIMIT: usize = 36_930;
 
 /// The body of a state text that is being written, followed by the digest.
 pub type StateBody = Text;

@@ -184,9 +184,9 @@ module _ (r : Record) (c : AcceptedCommand) (history : History) (are : AreIndice
 
   -- ---- the assertion of an accepted command
 
-  -- If an accepted command makes an assertion on a policy session that is not a trial session, the
-  -- assertion that the history determines for the command meets its condition on the session's
-  -- policy.
+  -- Suppose that an accepted command makes an assertion on a policy session that is not a trial
+  -- session. Then the assertion that the history determines for the command meets its condition on
+  -- the session's policy.
   abbrev pub FindsItsOwn : Code → Type 0
   FindsItsOwn code =
       (handle : Handle) (s : Session) (told : Assertion) → session_handle code q.handles ≡ Ok handle

@@ -1,4 +1,4 @@
--- Each assertion of every live policy session met its condition.
+-- Each assertion of every live policy session met its condition when the session accepted it.
 use Rattle.std.proofs.Common.{◌≡◌, ◌⊎◌, ◌≤◌, ℕ, true, false, List, [], ◌∷◌, length, Option, Some, None, option_map, Result, Ok, Err, refl, ap, sym, subst, ◌∙◌, inl, inr}
 use Rattle.std.proofs.lemmas.Option.{same_Some}
 use Rattle.tpm_mac.specs.declared.algorithm.HashAlg.{HashAlg}
@@ -32,7 +32,8 @@ module _ (r : Record) (a : Accepted) (locality : ℕ) (random : List ℕ) (histo
   abbrev c : AcceptedCommand
   c = command_of r a
 
-  -- If a session still exists after a command, its assertions met their conditions.
+  -- If a policy session existed before a command and still exists after it, each of its assertions
+  -- met its condition.
   stayed_find : (handle : Handle) (old mid : LiveSession) → sessions_of history handle ≡ Some old → mid.kind ≡ type.Policy → Keeps old mid → AllFind mid.hash mid.assertions
   stayed_find handle old mid lived policy keeps = by keeps.asserted
     where

@@ -25,7 +25,7 @@ use Rattle.tpm_step.proofs.Views.{views_tell}
 use Rattle.tpm_step.specs.Alike.{AuthorizeAlike}
 use Rattle.tpm_step.proofs.AuthorizeAlike.{authorize_same}
 
--- A device's session can be rebuilt from the facts that the history determines.
+-- If two devices have sessions with the same facts (`SessionFacts`), the sessions are the same.
 unbound : Bound → Binding
 unbound b = record { name = b.name; auth_value = b.auth_value; protection = b.protection }
 

@@ -89,8 +89,8 @@ module _ (r : Record) (c : AcceptedCommand) (history : History) (viewed : c.view
         makes = λ trial policy. ap (λ (parts : PcrParts). policy_with s.hash trial (Pcr parts) policy) (pcr_same p s);
       })
 
-  -- An assertion that depends only on the command's parameters is the one that the history
-  -- determines.
+  -- If an assertion depends only on the command's parameters, the history determines the same
+  -- assertion.
   by_reading : (X : Type 0) (code : Code) (read : Result X Refused) (make : X → Assertion) → ((s : Session) → assertion_by code c history s.hash s.nonce_tpm ≡ (read >>= λ x. Ok (make x))) → IfOk (read >>= λ x. Ok (λ (s : Session). make x)) (IsAsserted c history code)
   by_reading X code read make told =
       ok_bind_is _ read _ (λ x found. λ s. record {

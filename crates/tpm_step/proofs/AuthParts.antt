@@ -1,4 +1,4 @@
--- The authorization values of a record after one of its parts changed.
+-- Says which authorization values of a record change when one part of the record changes.
 use Rattle.std.proofs.Common.{arith, ◌≡◌, ◌≢◌, ◌⊎◌, ℕ, Bool, true, false, cond, List, [], Option, Some, None, option_map, ◌==◌, refl, sym, ap, ◌∙◌, inl, inr}
 use Rattle.std.specs.Option.{option_map_or}
 use Rattle.std.proofs.lemmas.Bool.{cases_eq, cond-false, cond-true, eq-eqb, eqb-true, ne_eqb}
@@ -43,7 +43,7 @@ pub object_kept : (old new : Option Object) → (new ≡ old) ⊎ (new ≡ None)
 object_kept old new found = found_kept (λ (object : Object). object.auth_value) old new found
 
 -- If this handle has an authorization value in the new record, it had the same value in the old
--- one.
+-- record.
 abbrev pub Keeps : (old new : Record) → Handle → Type 0
 Keeps old new handle = Kept (auth_seen old handle) (auth_seen new handle)
 

@@ -70,7 +70,7 @@ unfolding persistent_handle_at
 wanted_named text = search (rules, only_holds, ok_bind, ok_bind_is, asked)
 
 -- In the parameters of TPM2_NV_DefineSpace, the authorization value does not end in a zero byte,
--- and the handle is that of an NV index.
+-- and the handle has the type of an NV index.
 pub record IsDefinition (p : definition.Parameters) : Type 0 where
   pub value : IsTrimmed p.auth_value
   pub named : is_nv_index p.public.nv_index ≡ true

@@ -1,5 +1,5 @@
--- Each row sets the authorization values that the history determines for its command, and no
--- others.
+-- Each row sets the authorization values that the history determines for its command, and no other
+-- authorization values.
 use Rattle.std.proofs.Common.{arith, rules, ◌≡◌, ◌≢◌, ◌⊎◌, ℕ, ◌/◌, ◌^◌, ◌<◌, Bool, true, false, List, [], length, is_some, not, Option, Some, None, option_map, Result, Ok, Err, IfOk, nat_le, nat_lt, ◌==◌, ◌||◌, refl, sym, ap, subst, ◌∙◌, inl, inr}
 use Rattle.std.specs.Option.{option_map_or}
 use Rattle.std.proofs.lemmas.Bool.{cases_Bool, cond_both, eq-eqb, eqb-true, false≢true, or_cases}

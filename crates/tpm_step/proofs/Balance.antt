@@ -1,5 +1,5 @@
--- The passing of time, failed tries and power cycles satisfy `Pays`. After them, less than one
--- recoveryTime counts towards the next decrement of failedTries.
+-- The passing of time, failed tries and power cycles satisfy the inequality of `Pays`. After each
+-- of them, no decrement of failedTries is overdue (`IsForgiving`).
 use Rattle.std.proofs.Common.{arith, ◌≡◌, ◌≢◌, ◌⊎◌, ℕ, ◌+◌, ◌*◌, ◌/◌, ◌%◌, ◌-◌, ◌<◌, ◌≤◌, Bool, true, false, cond, refl, sym, ap, ◌∙◌, inl, inr}
 use Rattle.std.specs.Prelude.{not, ◌&&◌, ◌==◌, nat_le}
 use Rattle.std.proofs.lemmas.Bool.{cases_eq, cases_lt, cond_both, leb-false, ne_eqb}
@@ -16,8 +16,8 @@ use Rattle.tpm_step.specs.Tries.{is_try}
 
 -- ---- changes that leave the failed tries unchanged
 
--- Two states are equal, except that lockoutAuth may be disabled in one of them and enabled in the
--- other.
+-- Two states are equal, except that one state may have lockoutAuth disabled, and the other state
+-- enabled.
 abbrev pub SameTries : LockoutState → LockoutState → Type 0
 SameTries old new =
     (new.fields.recovery_time ≡ old.fields.recovery_time) × (new.fields.max_tries ≡ old.fields.max_tries)

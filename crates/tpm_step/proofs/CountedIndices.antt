@@ -41,7 +41,8 @@ use Rattle.tpm_step.proofs.HandleMap.{at_other, at_same}
 use Rattle.tpm_step.proofs.IndexChanges.{CountsUp, incremented_counts}
 use Rattle.tpm_step.proofs.Indices.{OthersStay, changed_each, cleared_each, defined_each, removed_each, started_each}
 
--- If the index is a counter, it has the value that `at` has for this handle.
+-- If the index is a counter, it has the value that `at` has for this handle, and no startup clears
+-- it.
 abbrev Counts : (Handle → Option ℕ) → Handle → NvIndex → Type 0
 Counts at handle index = IsCounter index → IsCounted index (at handle)
 
@@ -79,8 +80,8 @@ auth_counted old new c made are =
 
 -- ---- incrementing a counter
 
--- The next value of a counter is one more than its value or, if it has none, one more than the
--- largest value.
+-- The next value of a counter is one more than the counter's value. If the counter has no value,
+-- its next value is one more than `most`, the largest value.
 next_by : (b : Bool) (most n : ℕ) → next_count most (cond b (Some n) None) ≡ cond b n most + 1
 next_by true most n = refl
 next_by false most n = refl

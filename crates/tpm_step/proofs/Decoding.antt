@@ -24,7 +24,7 @@ use Rattle.tpm_record.specs.Record.{Record}
 use Rattle.tpm_step.specs.General.{both_or_neither, body_of, general, in_header, is_startup, present_handle_at, present_handles_at, sessions_pass}
 use Rattle.tpm_step.proofs.Binding.{checked_ok, ok_at, ok_bind, ok_bind_is, ok_checked, ok_in_command, ok_then}
 
--- The handle's number is encoded at the start of the bytes.
+-- The bytes begin with the handle's number, and the second part of the pair is the bytes after it.
 abbrev IsNumber : ℕ → List ℕ → Handle × List ℕ → Type 0
 IsNumber n text x = or_fault (number_at w32 text) (handle_fault n code.Insufficient) ≡ Ok (x.0.number, x.1)
 

@@ -132,8 +132,7 @@ module _ (r : Record) (h : Handle) where
   seen_by false false true is kept = object_there (object_at r.objects h) (kept refl)
   seen_by false false false is kept = ap (λ (found : Option Object). Some (entity_auth_value r h (option_map_or AnObject found Permanent))) (sym (none_transient is))
 
-  -- the authorization value of an object or an index is the one that `auth_seen` finds at its
-  -- handle
+  -- `auth_seen` finds the authorization value of an object or an index at its handle
   pub kept_seen : is_kept (entity_at r h) ≡ true → auth_seen r h ≡ Some (auth_value_of r h)
   unfolding auth_value_of entity_at object_of
   kept_seen kept = seen_by (is_nv_index h) (is_persistent h) (is_transient h) refl (λ there. kept)

@@ -268,7 +268,7 @@ module _ (r : Record) (c : AcceptedCommand) (history : History) (locality : ℕ)
       by kind.Session is = with_session (λ g. Ground history c place e) place (Some handle) e (λ s l lives same. session_ground place handle e at s l lives same)
       by kind.Other is = tt
 
-  -- an entry with an HMAC session has the right HMAC, even if it authorizes no handle
+  -- an accepted entry that names a session but authorizes no handle has the right HMAC
   other_hmac : (place : ℕ) (e : Entry) (l : LiveSession) → used_in c.command place ≡ None → session_kind e.session ≡ kind.Session → sessions_of history e.session ≡ Some l → IfOk (grant r c.command locality (place + 1) None e) (λ g. HasHmac history c place e l)
   unfolding grant session_grant
   other_hmac place e l none is lives =

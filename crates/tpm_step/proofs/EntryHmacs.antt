@@ -136,8 +136,8 @@ module _ (r : Record) (c : AcceptedCommand) (history : History) (viewed : c.view
         by (Some b) = refl
         by None = refl
 
-    -- the key contains the authorization value that the history determines, if this demand requires
-    -- a value in the key exactly when the session's policy does
+    -- the key contains the authorization value that the history determines, if the demand and the
+    -- session's policy agree on whether the key has to contain a value
     pub value_told : (handle : Handle) (demand : Demand) → used_in c.command place ≡ Some handle → ((is_bound : Bool) → has_value_in_key s.kind is_bound demand ≡ has_value_in_key s.kind is_bound s.policy.demand) → used_auth_value r s (Some (record { handle = handle; demand = demand })) ≡ value_in_key history c place l (used_in c.command place)
     unfolding used_auth_value takes_value
     value_told handle demand at alike =

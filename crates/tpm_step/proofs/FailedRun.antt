@@ -1,4 +1,4 @@
--- The example of a run with failed tries, computed step by step.
+-- Computes the example of a run with failed tries, step by step.
 use Rattle.std.proofs.Common.{arith, ◌≡◌, ◌≢◌, ◌<◌, ◌^◌, ℕ, false, [], ◌∷◌, length, refl, sym, ap, subst}
 use Rattle.std.proofs.lemmas.Bool.{false≢true}
 use Rattle.tpm_lockout.specs.Recovery.{opened_after}

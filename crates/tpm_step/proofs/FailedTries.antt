@@ -1,6 +1,6 @@
--- An event is a failed try if and only if its authorization is refused with AUTH_FAIL for an entry
--- that is checked with the authorization value of a protected entity other than lockout. The
--- response reports this refusal.
+-- An entry touches the entity whose authorization value is used to check it. An event is a failed
+-- try if and only if its authorization is refused with AUTH_FAIL for an entry that touches a
+-- protected entity other than lockout. The response reports this refusal.
 use Rattle.std.proofs.Common.{arith, rules, ◌≡◌, ℕ, ◌+◌, Bool, true, false, List, [], ◌∷◌, ◌++◌, append_assoc, length, length-append, slice_get, Option, Some, None, option_map, Result, Ok, Err, IfErr, refl, sym, ap, subst, ◌∙◌}
 use Rattle.std.specs.Prelude.{not, nat_lt, ◌&&◌, ◌||◌, is_none}
 use Rattle.std.specs.List.{list_any}
@@ -93,14 +93,14 @@ err_other Q check (Err rc) other h = h rc other
 abbrev is_failure : Refused → Bool
 is_failure e = is_try e.counted || is_auth_fail e.rc.code
 
--- The refusal is that of entry n, which has to authorize the handle `used`, if any. The password or
--- the HMAC is wrong, and the entity whose authorization value is used to check the entry is not
--- locked out.
+-- The command is refused because entry n, which has to authorize the handle `used` (if it is not
+-- None), has a wrong password or HMAC. The entity whose authorization value is used to check the
+-- entry is not locked out.
 record FailsAt (r : Record) (c : Whole) (locality n : ℕ) (used : Option Handle) (entry : Entry) (e : Refused) : Type 0 where
   unlocked : is_locked_out r.fixed.lockout (touched r c locality n used entry) ≡ false
   is : e ≡ failure (check_for used) n (touched r c locality n used entry)
 
--- If the refusal increments failedTries or is AUTH_FAIL, it is the refusal of entry n.
+-- If the refusal increments failedTries or is AUTH_FAIL, entry n has failed as `FailsAt` says.
 abbrev IfFailsAt : Record → Whole → (locality n : ℕ) → Option Handle → Entry → Refused → Type 0
 IfFailsAt r c locality n used entry e = is_failure e ≡ true → FailsAt r c locality n used entry e
 
@@ -164,7 +164,7 @@ entry_at r c locality n used e = kind_at (session_kind e.session) r c locality n
 
 -- ---- all entries of a command
 
--- The refusal is that of the entry at this position, whose password or HMAC is wrong.
+-- The command is refused because the entry at this position has a wrong password or HMAC.
 record FailsIn (r : Record) (c : Whole) (locality : ℕ) (e : Refused) : Type 0 where
   place : ℕ
   entry : Entry
@@ -278,7 +278,7 @@ try_of r buffer locality random = by (accepted r buffer locality random) (accept
     by (Ok a) holds tries = absurd (false≢true tries)
     by (Err e) holds tries = holds tries
 
--- the refusal of a failed try is that of the entry with the wrong password or HMAC
+-- a failed try is refused because of the entry with the wrong password or HMAC
 module _ {r : Record} {locality : ℕ} {buffer : List ℕ} (f : FailsTry r locality buffer) where
   failure_of : FailsAt r f.command locality (f.place + 1) (used_in f.command f.place) f.entry f.refused
   failure_of = failed_in r f.command locality f.place f.entry f.refused f.there f.is f.fails

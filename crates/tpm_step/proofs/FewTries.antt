@@ -1,5 +1,5 @@
--- In a sequence of events without a reset of failedTries, the number of failed tries is within its
--- bound.
+-- If recoveryTime is not 0, the number of failed tries in a sequence of events without a reset of
+-- failedTries is within its bound.
 use Rattle.std.proofs.Common.{arith, ◌≡◌, ◌≢◌, ◌⊎◌, ℕ, ◌+◌, Bool, true, false, cond, List, [], ◌∷◌, ◌++◌, Result, Ok, Err, IfOk, refl, sym, subst, ap, ◌∙◌, inl, inr}
 use Rattle.std.specs.List.{AllByRecursion}
 use Rattle.std.proofs.lemmas.Bool.{false≢true}
@@ -43,7 +43,7 @@ answer_pays false r (Err e) locality random counts unlocked is quiet = refusal_p
 answer_pays true r (Err e) locality random counts unlocked is quiet = refusal_pays r.fixed.lockout e.refused.counted counts unlocked
 
 -- An event does not change recoveryTime. If the later events satisfy the bound on failed tries,
--- this event together with the later ones satisfies it.
+-- this event and the later events together satisfy the bound.
 pub record PaysFor (old new : LockoutState) (fails : Bool) (elapsed : ℕ) : Type 0 where
   pub recovery_time : new.fields.recovery_time ≡ old.fields.recovery_time
   pub more : (failed rest : ℕ) → IsPaid new failed rest → IsPaid old (cond fails 1 0 + failed) (elapsed + rest)

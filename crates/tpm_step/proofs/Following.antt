@@ -1,5 +1,5 @@
--- If a device follows a history, then after an event it follows the same history, to which the
--- event is added if it was accepted.
+-- If a device follows a history, then after an event it follows the history with this event added.
+-- An event that was not accepted is not added.
 use Rattle.std.proofs.Common.{arith, ◌≡◌, ◌≤◌, ℕ, Bool, true, false, cond, List, [], ◌∷◌, length, drop, map, Option, Some, None, option_map, Result, Ok, Err, IfOk, Bor, refl, ap, sym, subst, ◌∙◌}
 use Rattle.std.specs.Fn.{Mut}
 use Rattle.tpm_lockout.specs.Lockout.{LockoutState}
@@ -285,8 +285,8 @@ stretch_follows can old executions new history leads follows =
 
 -- ---- runs, with their history
 
--- Executions of the events lead from the old record to the new one, and a closure was called with
--- each outcome.
+-- Executions of the events lead from the old record to the new record, and a closure was called
+-- with each outcome.
 abbrev RunLeads : {F : Type 0} → Mut F (Bor Outcome × Unit {0}) (Unit {0}) → Bool → Record → F → List PlainEvent → Record → F → Type 0
 RunLeads g can old p events new q =
     (executions : List Execution) × (map (λ (one : Execution). one.event) executions ≡ events)

@@ -1,5 +1,4 @@
--- Less than one recoveryTime counts towards the next decrement of failedTries, whatever a device
--- accepts and refuses.
+-- No decrement of failedTries is overdue (`IsForgiving`), whatever a device accepts and refuses.
 use Rattle.std.proofs.Common.{arith, ◌≡◌, ◌≢◌, ℕ, Bool, true, false, List, IfOk, refl, sym, ap, subst}
 use Rattle.std.proofs.lemmas.Bool.{false≢true}
 use Rattle.tpm_lockout.specs.Lockout.{LockoutState}

@@ -1,4 +1,5 @@
--- The value of a map at each handle after one value was set.
+-- After a value was set at one handle, the map has this value there, and its old values at all
+-- other handles.
 use Rattle.std.proofs.Common.{◌≡◌, ◌≢◌, ap, refl}
 use Rattle.std.proofs.lemmas.Bool.{eq-eqb, ne_eqb}
 use Rattle.tpm_types.specs.Handle.{numbered}

@@ -1,4 +1,4 @@
--- The value of a counter after an increment.
+-- After an increment, a counter has its next value.
 use Rattle.std.proofs.Common.{◌≡◌, ℕ, ◌+◌, ◌<◌, ◌^◌, Some, IfOk, refl}
 use Rattle.std.specs.Prelude.{nat_le}
 use Rattle.std.specs.Int.{w64, to_be_bytes}

@@ -88,7 +88,7 @@ absent places handle not = by (at_place places (place_of handle.number))
     by None = refl
     by (Some s) = rw (of_kind s.kind handle not) refl
 
--- ending the session at a handle changes nothing if the handle is not that of a session
+-- ending the session at a handle changes nothing if there is no session at the handle
 pub none_ended_live : (places : List (Option Session)) (handle : Handle) (live : LiveSessions) → is_session handle ≡ false → AreLive places live → AreLive places (without_session handle live)
 none_ended_live places handle live not are =
     replaced places places handle None live (ap (option_map session_facts) (absent places handle not)) (λ other apart. refl) are

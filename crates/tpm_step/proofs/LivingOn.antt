@@ -76,7 +76,7 @@ keeps_then a b c first then = record { continues = continues_then a b c first.co
     by (inr none) (inl same) = inr (same ∙ none)
 
 -- There was a session before the event, and the relation R holds between that session and the new
--- one.
+-- session.
 abbrev pub Was : (LiveSession → LiveSession → Type 0) → Option LiveSession → LiveSession → Type 0
 Was R found new = (old : LiveSession) × (found ≡ Some old) × R old new
 
@@ -183,8 +183,8 @@ rolls_kept live (e ∷ es) left handle new some is =
 
 -- ---- entries that name the session
 
--- The nonce that a session had before a command is one of the session's earlier nonces after the
--- command.
+-- The session existed before the command, and the command kept it (`Keeps`). The nonce that the
+-- session had before the command is now one of its earlier nonces.
 abbrev Renewed : Option LiveSession → LiveSession → Type 0
 Renewed found new = (old : LiveSession) × (found ≡ Some old) × Keeps old new × IsAmong old.nonce_tpm new.earlier_nonces
 
@@ -239,9 +239,9 @@ module _ (c : AcceptedCommand) (history : History) (some : 1 ≤ length (rolled_
 
 -- ---- the effects of a command's row
 
--- The origin of the session at a handle, after a command's row took effect: the command started it,
--- without assertions; or it existed before, and has the same assertions or none; or the command
--- added an assertion to it.
+-- The origin of the session at a handle, after a command's row took effect. Either the command
+-- started the session, without assertions. Or the session existed before, and has the same
+-- assertions as before, or none. Or the command added an assertion to the session.
 pub data Came (code : CommandCode) (c : AcceptedCommand) (history : History) (found : Option LiveSession) (handle : Handle) (new : LiveSession) : Type 0 where
   Begun : starts_under code c.answer.handle handle ≡ true → new.assertions ≡ [] → Came code c history found handle new
   Stayed : Was Keeps found new → Came code c history found handle new

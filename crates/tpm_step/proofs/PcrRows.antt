@@ -198,8 +198,8 @@ restored_at : (s : SavedValues) (values : PcrValues) (banks : BankValues) → Ar
 restored_at s values banks is alg.Sha1 n = front_or s.sha1 banks.sha1 n (values alg.Sha1 n) (is.sixteen alg.Sha1) (is.each alg.Sha1 n)
 restored_at s values banks is alg.Sha256 n = front_or s.sha256 banks.sha256 n (values alg.Sha256 n) (is.sixteen alg.Sha256) (is.each alg.Sha256 n)
 
--- After a startup of this type, PCRs have the values that the history determines, and the update
--- counter is 0.
+-- After a startup of this type, the PCRs have the values that the history determines, and the
+-- update counter is 0.
 abbrev Begins : StartupType → PcrValues → BankValues → BankValues → Type 0
 Begins t saved old new =
     ((bank : HashAlg) (n : ℕ) → pcr_value new bank n ≡ resumed (Ok t) n (saved bank n) (pcr_value old bank n))

@@ -92,8 +92,8 @@ all_at P one (other ∷ assertions) all (inr among) = all_at P one assertions al
 
 -- ---- the command of each assertion
 
--- If the assertion is one of TPM2_PolicySecret or TPM2_PolicyNV, it was made by this command, and
--- contains the Name of the entity that the command's handle names.
+-- If TPM2_PolicySecret or TPM2_PolicyNV makes the assertion, this command is that command, and the
+-- assertion contains the Name of the entity that the command's handle names.
 abbrev IsOf : Code → AcceptedCommand → Assertion → Type 0
 IsOf code c (assertion.Secret parts) = (code ≡ command.PolicySecret) × (name_in c.views 0 ≡ parts.name)
 IsOf code c (assertion.Nv parts) = (code ≡ command.PolicyNv) × (name_in c.views 1 ≡ parts.name)

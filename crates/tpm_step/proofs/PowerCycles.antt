@@ -1,5 +1,5 @@
--- A power cycle is the execution of an event. Two sequences of executions make one if the second
--- begins with the record that the first left.
+-- A power cycle is the execution of an event. Two sequences of executions make one sequence if the
+-- second begins with the record that the first left.
 use Rattle.std.proofs.Common.{arith, ◌≡◌, ◌≢◌, ℕ, zero, suc, Bool, false, List, [], ◌∷◌, ◌++◌, length, refl, subst}
 use Rattle.std.proofs.lemmas.Bool.{false≢true}
 use Rattle.std.proofs.lemmas.List.{length-map, length-replicate}

@@ -56,8 +56,8 @@ use Rattle.tpm_step.proofs.LivingOn.{Asserted, Begun, Came, Keeps, Stayed, entri
 
 -- ---- a TPM2_PolicyPCR after an earlier one
 
--- If a session is not a trial session and recorded an update counter, the device has the same
--- counter.
+-- If the session that the first handle names is not a trial session, and recorded an update
+-- counter, the device has the same counter.
 abbrev Agrees : Record → Request → Type 0
 Agrees r q =
     (handle : Handle) (s : Session) → first_handle q.handles ≡ Ok handle → session_at r.sessions handle ≡ Some s
@@ -216,7 +216,8 @@ module _ (r : Record) (a : Accepted) (locality : ℕ) (random : List ℕ) (histo
   updates_add command.Startup is = absurd cc
   updates_add _ is = refl
 
-  -- If a command updates no PCR, the assertions about PCRs that held before it still hold after it.
+  -- If a command is quiet (`IsQuiet`), a session's assertions about PCRs that held before the
+  -- command still hold after it.
   holds_more : (handle : Handle) (s : LiveSession) → has_pcrs (Done c ∷ history) handle ≡ true → IsQuiet (Done c) → HoldsPcrs handle history s → HoldsPcrs handle (Done c ∷ history) s
   holds_more handle s now quiet holds = record {
     quiet = one_more handle (Done c) history now quiet holds.quiet;

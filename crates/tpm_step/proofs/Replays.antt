@@ -138,8 +138,8 @@ module _ (buffer : List ℕ) (before : History) (first : AcceptedCommand) (betwe
       let same : second.command ≡ first.command = ap (λ (x : Whole × List ℕ). x.0) (ok_is {E = Rc} (second.command, []) (first.command, []) (sym replay.spelled_second ∙ replay.spelled_first)) in
       ap (λ (c : Whole). slice_get c.entries place) same ∙ replay.entry
 
-  -- At the second event the session has the same type, hash and size of nonces as at the first, and
-  -- the nonce of the first event is among its earlier nonces.
+  -- At the second event, the session has the same type, hash and size of nonces as at the first
+  -- event. The nonce of the first event is among the session's earlier nonces.
   abbrev IsLater : LiveSession → Type 0
   IsLater t = (sessions_of after e.session ≡ Some t) × Continues s t × IsAmong s.nonce_tpm t.earlier_nonces
 

@@ -1,4 +1,5 @@
--- If two accepted events of a run have the same buffer, they are a replay in the run's history.
+-- If two accepted events of a run are a replay (`IsRunReplay`), their commands are a replay in the
+-- run's history. Therefore a nonce or an HMAC repeats.
 use Rattle.std.proofs.Common.{◌≡◌, ℕ, Bool, List, [], ◌∷◌, ◌++◌, Some, Result, Ok, Err, IfOk, slice_get, refl, ap, sym, subst, ◌∙◌}
 use Rattle.tpm_bytes.proofs.Fields.{ok_is}
 use Rattle.tpm_types.specs.declared.rc.Rc.{Rc}

@@ -1,4 +1,4 @@
--- What follows for a session's policy if the session authorized an accepted command.
+-- If a session authorizes an accepted command, the session's policy passes the checks of this use.
 use Rattle.std.proofs.Common.{◌≡◌, ◌≢◌, ℕ, zero, suc, ◌<◌, arith, Bool, true, false, List, [], Option, Some, None, IfOk, refl, ap, subst}
 use Rattle.std.specs.Prelude.{◌==◌, ◌&&◌, ◌||◌, not, IfSome}
 use Rattle.std.specs.Int.{bit_at}

@@ -14,8 +14,8 @@ use Rattle.tpm_step.specs.Sessions.{LiveSession, sessions_of}
 
 -- The assertion meets its condition, given the policy before it. The digests of TPM2_PolicyOR
 -- contain the policy's digest. A command code, a cpHash or a written state was not recorded before,
--- or was recorded with the same value. A command code has 32 bits. The bytes that TPM2_PolicyNV
--- compares could be read.
+-- or was recorded with the same value; this includes the cpHash of a TPM2_PolicySecret. A command
+-- code has 32 bits. The bytes that TPM2_PolicyNV compares could be read.
 abbrev pub Finds : Assertion → Policy → Type 0
 Finds (assertion.Or digests) p = IsAmong p.digest digests
 Finds (assertion.CommandCode number) p =

@@ -1,5 +1,6 @@
--- Two devices that follow the same history. TPM 2.0 Library, Part 1, section 19 (authorizations),
--- and Part 3, section 5.6 (authorization checks).
+-- Two devices that follow the same history, and also show the same public data and have the same
+-- lockout state, authorize each command alike. TPM 2.0 Library, Part 1, section 19
+-- (authorizations), and Part 3, section 5.6 (authorization checks).
 use Rattle.std.specs.Prelude.{◌≡◌, ℕ}
 use Rattle.tpm_types.specs.declared.handle.Handle.{Handle}
 use Rattle.tpm_types_command.specs.Command.{Whole}

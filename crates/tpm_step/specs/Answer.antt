@@ -59,7 +59,7 @@ pub record Written : Type 0 where
 abbrev pub written_of : AnswerParts → Written
 written_of a = record { handle = a.handle; parameters = answer_body_text a.body; drawn = a.drawn }
 
--- the code's `Answer` as a plain value
+-- the code's `Answer`, with its parameters as encoded bytes
 abbrev pub text_of : Answer → Written
 text_of a = record { handle = a.handle; parameters = a.parameters; drawn = a.drawn }
 

@@ -1,6 +1,6 @@
 -- Authorization values, computed from the history alone. TPM 2.0 Library, Part 1, section 19.6.4,
 -- and Part 3, sections 9.3, 12.2, 24.1, 24.6, 24.8, 28.3, 28.5, 31.3 and 31.15 (the commands that
--- set one).
+-- set an authorization value).
 use Rattle.std.specs.Prelude.{ℕ, List, [], ◌∷◌, Option, Result, Ok, Err, ok_or}
 use Rattle.tpm_bytes.specs.Reading.{◌>>=◌}
 use Rattle.tpm_types.specs.AuthValue.{auth_value_at, trimmed}
@@ -51,8 +51,8 @@ created_value q made = do
   p ← creation.parameters_in q.parameters
   Ok (handle, trimmed p.given.user_auth)
 
--- The authorization value in the sensitive area, without trailing zeros, becomes that of the handle
--- that TPM2_Load returns.
+-- The authorization value in the sensitive area, without trailing zeros, becomes the authorization
+-- value of the handle that TPM2_Load returns.
 abbrev pub loaded_value : Option Sensitive → (made : Option Handle)
     → Result (Handle × List ℕ) Refused
 loaded_value area made = do
@@ -88,8 +88,8 @@ cleared_values values =
 
 -- the authorization values after an accepted command, given its request, the handle that it
 -- returned, and the sensitive area that it loaded. A command that removes an object or an index
--- changes no value: the handle then names no entity, and the next entity with this handle gets a
--- value of its own
+-- does not change the value at its handle. The handle then names no entity, and the next entity
+-- with this handle gets a value of its own
 abbrev pub values_by : CommandCode → Request → (made : Option Handle) → Option Sensitive
     → AuthValues → AuthValues
 values_by command.HierarchyChangeAuth q made area values = with_value (changed_value q) values

@@ -51,8 +51,8 @@ defined_handle text = do
   Ok p.public.nv_index
 
 -- the counters after an accepted command. A command that removes an index, such as
--- TPM2_NV_UndefineSpace or TPM2_Clear, changes nothing here: the handle names no counter until an
--- index is defined with it again, and this index begins without a value
+-- TPM2_NV_UndefineSpace or TPM2_Clear, changes nothing here. The handle then names no counter until
+-- an index is defined with it again, and this index begins without a value
 abbrev pub counters_by : CommandCode → Request → Counters → Counters
 counters_by command.NvIncrement q c = by_handle (second_handle q.handles) counted_at c
 counters_by command.NvDefineSpace q c = by_handle (defined_handle q.parameters) begun_at c
@@ -65,10 +65,11 @@ counters_of (Done c ∷ history) = counters_by c.command.code c.request (counter
 counters_of (PowerCycled ∷ history) = counters_of history
 counters_of (ObjectPlaced at object ∷ history) = counters_of history
 
--- all values that any counter ever had; and the value of the counter at a handle
+-- all values that any counter ever had in a history
 abbrev pub counts_of : History → List ℕ
 counts_of history = (counters_of history).all
 
+-- the value of the counter at a handle after a history
 abbrev pub count_at : History → Handle → Option ℕ
 count_at history handle = (counters_of history).at handle
 

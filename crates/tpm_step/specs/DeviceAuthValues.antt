@@ -1,4 +1,4 @@
--- The authorization values of a device, compared with those of its history.
+-- Defines when a device has the authorization values that its history determines.
 use Rattle.std.specs.Prelude.{◌≡◌, ℕ, List, if◌then◌else◌, Option, Some, option_map}
 use Rattle.tpm_nv.specs.Index.{NvIndex, index_at}
 use Rattle.tpm_object.specs.declared.object.Object.{Object}
@@ -26,7 +26,7 @@ index_auth found = option_map (λ (index : NvIndex). index.auth_value) found
 abbrev pub object_auth : Option Object → Option (List ℕ)
 object_auth found = option_map (λ (object : Object). object.auth_value) found
 
--- the authorization value of the entity that a handle names, if the entity exists; a handle that
+-- the authorization value of the entity that a handle names, if the entity exists. A handle that
 -- does not have the type of an index or an object always names an entity
 abbrev pub auth_seen : Record → Handle → Option (List ℕ)
 auth_seen r handle =

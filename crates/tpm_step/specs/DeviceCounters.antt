@@ -1,4 +1,4 @@
--- The NV counters of a device, compared with those of its history.
+-- Defines when a device has the NV counters that its history determines.
 use Rattle.std.specs.Prelude.{◌≡◌, ℕ, ◌≤◌, true, false, ◌∷◌, ◌++◌, Option, Some, None}
 use Rattle.tpm_types.specs.declared.handle.Handle.{Handle}
 use Rattle.tpm_types_nv.specs.declared.nv_attributes.NvAttribute.TheVariants as attribute

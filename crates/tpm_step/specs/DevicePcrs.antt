@@ -1,4 +1,4 @@
--- The PCRs of a device, compared with those of its history.
+-- Defines when a device has the PCRs that its history determines.
 use Rattle.std.specs.Prelude.{◌≡◌, ℕ, ◌<◌, List, length, slice_index_or, []}
 use Rattle.tpm_mac.specs.declared.algorithm.HashAlg.{HashAlg}
 use Rattle.tpm_mac.specs.declared.algorithm.HashAlg.TheVariants as alg

@@ -1,4 +1,4 @@
--- The sessions of a device, compared with those of its history.
+-- Defines when a device has the sessions that its history determines.
 use Rattle.std.specs.Prelude.{◌≡◌, ℕ, Bool, false, List, Option, Some, None, option_map}
 use Rattle.tpm_policy.specs.State.{Policy}
 use Rattle.tpm_session.specs.Sessions.{session_at}
@@ -45,7 +45,7 @@ session_facts s = record {
   policy = s.policy;
 }
 
--- For each handle, the device's session and the history's session have the same `SessionFacts`, or
+-- For each handle, the device and the history have sessions with the same `SessionFacts`, or
 -- neither has a session.
 abbrev pub AreLive : List (Option Session) → LiveSessions → Type 0
 AreLive places live =

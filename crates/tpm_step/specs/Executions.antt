@@ -29,10 +29,11 @@ power_cycle r = record { before = r; event = Cycled; seen = step r Cycled }
 abbrev pub placing : Record → Object → Execution
 placing r object = record { before = r; event = Placed object; seen = step r (Placed object) }
 
--- the history after one more execution; and the history after several executions, in order
+-- the history after one more execution
 abbrev pub with_execution : Execution → History → History
 with_execution one history = recorded one.before one.event one.seen.row.check history
 
+-- the history after several executions, in order
 abbrev pub history_after : History → List Execution → History
 history_after history [] = history
 history_after history (one ∷ executions) = history_after (with_execution one history) executions

@@ -42,11 +42,12 @@ pub record Shape (sessions : List (Option Session)) (objects : List (Option Obje
 -- A device follows a history: its counters, PCRs, authorization values and sessions are those that
 -- the history determines. In the history, each entry of an HMAC session had the right HMAC. A
 -- replay was accepted only if its nonceTPM or an HMAC repeated. The PCR update counters that
--- policies recorded are consistent with the history. Each use of a handle was authorized. The
--- assertions of policy sessions met their conditions. Therefore, unless the hash is broken, each
--- use by a policy session met every policy whose digest is the used entity's authPolicy. No
--- decrement of failedTries is overdue. The record has all its slots, and its persistent objects and
--- NV indices are sorted by handle. The fields of its sessions and NV indices have the right sizes.
+-- policies recorded are consistent with the history. Each use of a handle was authorized. Each
+-- recorded request has the handles of its command. The assertions of policy sessions met their
+-- conditions. Therefore, unless the hash is broken, each use by a policy session met every policy
+-- whose digest is the used entity's authPolicy. No decrement of failedTries is overdue. The record
+-- has all its slots, and its persistent objects and NV indices are sorted by handle. The fields of
+-- its sessions and NV indices have the right sizes.
 pub record Follows (r : Record) (history : History) : Type 0 where
   pub counters : HasCounters r history
   pub forgiving : IsForgiving r.fixed.lockout
@@ -74,11 +75,11 @@ After Holds old event x =
     → Holds x.after (recorded old event x.row.check history)
 
 -- If the device followed a history before this event, it now follows that history, extended by the
--- event if it was accepted: the history determines its counters, PCRs, authorization values and
--- sessions. In the history, every replay repeats a nonce or an HMAC, and every use of a handle that
--- needs authorization was authorized by a password, an HMAC session or a policy session. In the
--- last case, unless the hash is broken, the use satisfies each policy whose digest is the entity's
--- authPolicy.
+-- event if it was accepted. The history determines the device's counters, PCRs, authorization
+-- values and sessions. In the history, every replay repeats a nonce or an HMAC. Every use of a
+-- handle that needs authorization was authorized by a password, an HMAC session or a policy
+-- session. If a policy session authorized the use, then, unless the hash is broken, the use
+-- satisfies each policy whose digest is the entity's authPolicy.
 pub record FollowsOn (old : Record) (event : PlainEvent) (x : Stepped) : Type 0 where
   pub history : After Follows old event x
   pub counters : After HasCounters old event x
@@ -93,8 +94,10 @@ pub record FollowsOn (old : Record) (event : PlainEvent) (x : Stepped) : Type 0 
 
 -- The executions led from a device that follows a history to a device that follows the history
 -- after the executions. No NV counter went down unless an index was defined again with its handle.
--- The first value of a counter exceeds all earlier values of any counter. The number of failed
--- tries is within its bounds. Every replay repeats a nonce or an HMAC.
+-- If a counter had no value before the executions, its value after them exceeds all values that any
+-- counter had before them. If a counter was defined in the executions, its value exceeds all values
+-- that any counter had before this definition. The number of failed tries is within its bounds.
+-- Every replay repeats a nonce or an HMAC.
 pub record StretchFollows (can : Bool) (old : Record) (executions : List Execution) (new : Record)
     (history : History) : Type 0
   where

@@ -65,7 +65,7 @@ has_sessions NoSessions = false
 has_sessions Sessions = true
 
 -- Check G7: some commands may not have sessions, and a command with a handle that needs
--- authorization must have one.
+-- authorization must have a session.
 unfoldable pub sessions_pass : CommandCode → Tag → Result (Unit {0}) Refused
 sessions_pass c tag = do
   forbidden ← refused_if (has_sessions tag && (shape_of c).forbids_sessions)

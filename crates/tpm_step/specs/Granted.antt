@@ -1,4 +1,4 @@
--- The entries of a command with their grants.
+-- Pairs each entry of a command with its grant.
 use Rattle.std.specs.Prelude.{List, Option}
 use Rattle.std.specs.List.{zip}
 use Rattle.tpm_types_command.specs.AuthEntry.{Entry}

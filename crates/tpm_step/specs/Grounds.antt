@@ -63,8 +63,8 @@ NamesCommand role.Admin number = is_some number ≡ true
 -- entity accepts policies, and the session meets its authPolicy. Since the first TPM2_PolicyPCR no
 -- PCR was written and no TPM2_Clear was accepted; therefore every assertion about PCRs still holds.
 -- If the policy recorded a command code, it is this command's code; the role ADMIN requires a
--- recorded code. A recorded cpHash is that of this command, and a recorded written state is that of
--- this NV index. The command's locality is allowed.
+-- recorded code. A recorded cpHash is the cpHash of this command, and a recorded written state is
+-- the written state of this NV index. The command's locality is allowed.
 pub record MeetsPolicy (history : History) (c : AcceptedCommand) (place : ℕ) (e : Entry)
     (s : LiveSession) : Type 0 where
   pub allowed : allows_in means.Policy c place ≡ true

@@ -15,7 +15,8 @@ use Rattle.tpm_step.specs.Granted.{Granted}
 use Rattle.tpm_step.specs.declared.direction.Direction.{Direction}
 use Rattle.tpm_step.specs.declared.direction.Direction.TheVariants as direction
 
--- whether an entry asks its session to decrypt a parameter, or to encrypt one
+-- whether an entry asks its session to decrypt a parameter or, if the direction is Encrypt, to
+-- encrypt a parameter
 abbrev pub asks_for : Direction → Entry → Bool
 asks_for direction.Decrypt e = decrypts e
 asks_for direction.Encrypt e = encrypts e
@@ -28,14 +29,14 @@ abbrev pub session_bytes : Direction → Session → (value : List ℕ) → Entr
 session_bytes direction.Decrypt s value e = plain_parameter s value e.nonce s.nonce_tpm
 session_bytes direction.Encrypt s value e = encrypted_parameter s value s.nonce_tpm e.nonce
 
--- the parameters, with the first one decrypted or encrypted by the session of this entry
+-- the parameters, after the session of this entry decrypted or encrypted the first parameter
 unfoldable pub entry_parameters : Direction → Record → Option Grant → Entry → List ℕ → List ℕ
 entry_parameters d r grant e text =
     option_map_or (λ (s : Session).
     with_first_buffer (session_bytes d s (granted_value r grant) e) text) (session_of r e) text
 
--- the parameters, with the first one decrypted or encrypted by the session of the first entry that
--- asks for it; unchanged if no entry does
+-- the parameters, after the session of the first entry that asks for it decrypted or encrypted the
+-- first parameter; unchanged if no entry asks for it
 abbrev pub session_parameters : Direction → Record → List Granted → List ℕ → List ℕ
 session_parameters d r granted text =
     option_map_or (λ (g : Granted). entry_parameters d r g.1 g.0 text)

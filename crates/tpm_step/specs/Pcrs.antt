@@ -100,10 +100,11 @@ before_shutdown (Done c ∷ history) =
 before_shutdown (PowerCycled ∷ history) = before_shutdown history
 before_shutdown (ObjectPlaced at object ∷ history) = before_shutdown history
 
--- the values of the PCRs that a selection names, and the digest of all these values
+-- the values of the PCRs that a selection names in one bank
 abbrev pub values_in : History → BankSelection → List (List ℕ)
 values_in history bank = map (pcr_of history bank.hash) (selected_pcrs bank)
 
+-- the digest of the values of all selected PCRs
 abbrev pub digest_in : History → HashAlg → List BankSelection → List ℕ
 digest_in history hash selection = hash_of hash (concat (flat_map (values_in history) selection))
 
@@ -118,7 +119,7 @@ abbrev pub count_in : Result (List DigestValue) Refused → ℕ
 count_in (Ok digests) = length digests
 count_in (Err e) = 0
 
--- the number of PCR values that a command writes, over all banks; TPM2_Clear counts as one
+-- the number of PCR values that a command writes, over all banks; TPM2_Clear counts as one value
 abbrev pub writes : CommandCode → Request → ℕ
 writes command.PcrReset q = if_pcr q.handles 2
 writes command.PcrExtend q = if_pcr q.handles (count_in (only (digest_values_at q.parameters)))
@@ -130,7 +131,8 @@ abbrev pub updates_by : CommandCode → Request → ℕ → ℕ
 updates_by command.Startup q old = 0
 updates_by code q old = old + writes code q
 
--- the number of values written since the last startup; each accepted TPM2_Clear counts as one
+-- the number of PCR values written since the last startup or power cycle; each accepted TPM2_Clear
+-- counts as one value
 abbrev pub updates_of : History → ℕ
 updates_of [] = 0
 updates_of (Done c ∷ history) = updates_by c.command.code c.request (updates_of history)

@@ -92,8 +92,8 @@ pub record IsUsedBySession (history : History) (c : AcceptedCommand) (place : �
 
 -- ---- policies of any kind
 
--- Only policy sessions authorize a command to use an object without userWithAuth, and each use
--- meets the object's policy.
+-- If an object has no userWithAuth, only policy sessions authorize a command to use it. Each use
+-- meets the object's policy, unless the hash is broken.
 abbrev pub NeedsItsPolicy : History → AcceptedCommand → Type 0
 NeedsItsPolicy history c =
     (place : ℕ) (public : Public) (policy : PolicyExpression) → UsesObject c place public policy
@@ -106,15 +106,15 @@ NeedsItsPolicy history c =
 abbrev pub by_pcrs : HashAlg → List BankSelection → (values : List ℕ) → PolicyExpression
 by_pcrs hash selection values = Then Nothing (PolicyPcr selection (hash_of hash values))
 
--- After a history, the selected PCRs have these concatenated values, or different ones with the
+-- After a history, the selected PCRs have these concatenated values, or different values with the
 -- same hash.
 abbrev pub HavePcrValues : History → HashAlg → List BankSelection → (values : List ℕ) → Type 0
 HavePcrValues history hash selection values =
     let found : List ℕ = concat (flat_map (values_in history) selection) in
     (found ≡ values) ⊎ (found ≢ values) × (hash_of hash found ≡ hash_of hash values)
 
--- If an object's policy requires these values of PCRs, the object is used only while the PCRs have
--- them.
+-- Suppose that an object has no userWithAuth, and its policy requires these values of PCRs. Then,
+-- unless the hash is broken, the object is used only while the PCRs have these values.
 abbrev pub NeedsPcrs : History → AcceptedCommand → Type 0
 NeedsPcrs history c =
     (place : ℕ) (public : Public) (selection : List BankSelection) (values : List ℕ)
@@ -123,8 +123,9 @@ NeedsPcrs history c =
     → IsUsedBySession history c place public.name_alg policy
     (λ u. HavePcrValues history public.name_alg selection values)
 
--- If an object's policy requires these values of PCRs and the authorization value (a PIN), the
--- object is used only while the PCRs have these values, and only with the PIN.
+-- Suppose that an object has no userWithAuth, and its policy requires these values of PCRs and the
+-- authorization value (a PIN). Then, unless the hash is broken, the object is used only while the
+-- PCRs have these values, and only with the PIN.
 abbrev pub NeedsPcrsAndPin : History → AcceptedCommand → Type 0
 NeedsPcrsAndPin history c =
     (place : ℕ) (public : Public) (selection : List BankSelection) (values : List ℕ)
@@ -136,15 +137,16 @@ NeedsPcrsAndPin history c =
 
 -- ---- policies of a PIN or a recovery secret
 
--- the policy expression that requires either the authorization value of the entity itself or that
--- of the entity with this Name
+-- the policy expression that requires either the authorization value of the used entity, or the
+-- authorization value of the entity with this Name
 abbrev pub by_pin_or_secret : (name reference : List ℕ) → PolicyExpression
 by_pin_or_secret name reference =
     PolicyOr (Branch (Then Nothing PolicyAuthValue)
     (Branch (Then Nothing (PolicySecret name reference)) NoBranch))
 
--- An object with this policy is used only with its authorization value, or after an accepted
--- TPM2_PolicySecret that the entity with this Name authorized.
+-- Suppose that an object has this policy and no userWithAuth. Then, unless the hash is broken, the
+-- object is used only with its authorization value, or after an accepted TPM2_PolicySecret that the
+-- entity with this Name authorized.
 abbrev pub NeedsPinOrSecret : History → AcceptedCommand → Type 0
 NeedsPinOrSecret history c =
     (place : ℕ) (public : Public) (name reference : List ℕ)
@@ -155,8 +157,8 @@ NeedsPinOrSecret history c =
 
 -- ---- the policy of an index that is written once
 
--- If the policy of an NV index requires that WRITTEN is clear, commands write the index only while
--- WRITTEN is clear.
+-- Suppose that an NV index has no AUTHWRITE, and its policy requires that WRITTEN is clear. Then,
+-- unless the hash is broken, commands write the index only while WRITTEN is clear.
 abbrev pub IsWrittenOnce : History → AcceptedCommand → Type 0
 IsWrittenOnce history c =
     (place : ℕ) (public : NvPublic)
@@ -167,9 +169,9 @@ IsWrittenOnce history c =
 
 -- ---- the policy that a counter has reached a number
 
--- If an object's policy requires that a counter (the NV index with this Name) has reached a number,
--- the object is used only after an accepted TPM2_PolicyNV that compared the counter with the
--- number.
+-- Suppose that an object has no userWithAuth, and its policy requires that a counter (the NV index
+-- with this Name) has reached a number. Then, unless the hash is broken, the object is used only
+-- after an accepted TPM2_PolicyNV that compared the counter with the number.
 abbrev pub NeedsCount : History → AcceptedCommand → Type 0
 NeedsCount history c =
     (place : ℕ) (public : Public) (name number : List ℕ)

@@ -52,10 +52,11 @@ ShowsAuthValue u =
     × (value_in_key u.history u.command u.place u.session (Some u.handle)
     ≡ auth_of u.history u.handle)
 
--- A use of an entity meets this assertion of the entity's policy. The command code, the cpHash, the
--- locality and the written state that the assertion requires are those of the use (Part 3, sections
--- 23.11, 23.13, 23.8 and 23.20). TPM2_PolicySecret and TPM2_PolicyNV were accepted for the session
--- before the use.
+-- A use of an entity meets this assertion of the entity's policy. For TPM2_PolicyPCR, the PCRs have
+-- the required digest now. For TPM2_PolicyAuthValue and TPM2_PolicyPassword, the entry contains the
+-- authorization value. The command code, the cpHash, the locality and the written state that the
+-- assertion requires are those of the use (Part 3, sections 23.11, 23.13, 23.8 and 23.20).
+-- TPM2_PolicySecret and TPM2_PolicyNV were accepted for the session before the use.
 abbrev pub IsMetBy : PolicyUse → PolicyAssertion → Type 0
 IsMetBy u (PolicyPcr selection digest) = HasPcrsNow u selection digest
 IsMetBy u PolicyAuthValue = ShowsAuthValue u
@@ -80,9 +81,9 @@ pub record HasAuthPolicy (c : AcceptedCommand) (place : ℕ) (hash : HashAlg)
     pub auth_policy : policy_at c place
         ≡ Some (record { hash = hash; digest = policy_digest hash policy })
 
--- If a policy session authorizes a command to use an entity, then, unless the hash is broken
--- (`BreaksHash`), the use meets every policy whose digest is the entity's authPolicy, along one
--- branch at each TPM2_PolicyOR.
+-- Suppose that a policy session authorizes a command to use an entity. Then, unless the hash is
+-- broken (`BreaksHash`), the use meets every policy whose digest is the entity's authPolicy, along
+-- one branch at each TPM2_PolicyOR.
 abbrev pub MeetsPolicies : (history : History) (c : AcceptedCommand) (place : ℕ) → Handle
     → (e : Entry) → Ground history c place e → Type 0
 MeetsPolicies history c place handle e (ByPassword names takes has) = Unit {0}
@@ -108,8 +109,8 @@ UsesMeetPolicies history c =
     → (e : Entry) × (slice_get c.command.entries place ≡ Some e)
     × (ground : Ground history c place e) × MeetsPolicies history c place handle e ground
 
--- In each command of a history, each handle that needs authorization was authorized, and each use
--- by a policy session met the policies of the used entity, given the history before the command.
+-- In each command of a history, each handle that needs authorization was authorized, given the
+-- history before the command. Each use by a policy session met the policies of the used entity.
 abbrev pub AllMeetPolicies : History → Type 0
 AllMeetPolicies [] = Unit {0}
 AllMeetPolicies (Done c ∷ history) = UsesMeetPolicies history c × AllMeetPolicies history

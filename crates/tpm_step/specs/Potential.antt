@@ -12,15 +12,15 @@ abbrev pub credit : LockoutState → ℕ
 credit s = if s.fields.failed_tries == 0 then 0 else s.forgiving_time
 
 -- If recoveryTime is not 0, no decrement of failedTries is overdue: the time that counts towards
--- the next one is less than one recoveryTime.
+-- the next decrement is less than one recoveryTime.
 abbrev pub IsForgiving : LockoutState → Type 0
 IsForgiving s = s.fields.recovery_time ≢ 0 → s.forgiving_time < period s
 
 -- Between the old and the new state, this many tries failed, this many milliseconds passed, and the
 -- parameters did not change. Each try that was counted in the old state, or failed since, is still
--- counted or was forgiven. Each forgiven try consumed one recoveryTime of the elapsed milliseconds
--- plus those already credited in the old state. If a try failed, failedTries is at most maxTries
--- now.
+-- counted or was forgiven. Each forgiven try consumed one recoveryTime of the available
+-- milliseconds: the elapsed milliseconds, and the milliseconds credited in the old state. If a try
+-- failed, failedTries is at most maxTries now.
 pub record Pays (old new : LockoutState) (failed elapsed : ℕ) : Type 0 where
   pub recovery_time : new.fields.recovery_time ≡ old.fields.recovery_time
   pub max_tries : new.fields.max_tries ≡ old.fields.max_tries

@@ -17,11 +17,12 @@ use Rattle.tpm_step.specs.History.{AcceptedCommand, Done, History, ObjectPlaced,
 use Rattle.tpm_step.specs.Pcrs.{digest_in, updates_of, writes}
 use Rattle.tpm_step.specs.Sessions.{LiveSession, policy_in, sessions_of}
 
--- whether an assertion is by TPM2_PolicyPCR; and whether one of a session's assertions is
+-- whether TPM2_PolicyPCR made an assertion
 abbrev pub is_pcr : Assertion → Bool
 is_pcr (Pcr parts) = true
 is_pcr _ = false
 
+-- whether TPM2_PolicyPCR made any assertion of a session
 abbrev pub asserts_pcrs : LiveSession → Bool
 asserts_pcrs s = list_any is_pcr s.assertions
 
@@ -73,8 +74,8 @@ pub record HoldsPcrs (handle : Handle) (history : History) (s : LiveSession) : T
 
 -- ---- the update counter that a policy records
 
--- The update counter that the session recorded does not exceed that of the history. If the two are
--- equal, the assertions of the session about PCRs hold.
+-- The update counter that the session recorded does not exceed the history's counter. If the two
+-- counters are equal, the assertions of the session about PCRs hold.
 pub record RecordsUpdates (handle : Handle) (history : History) (s : LiveSession) : Type 0 where
   pub count : ℕ
   pub recorded : (policy_in s).update_count ≡ Some count

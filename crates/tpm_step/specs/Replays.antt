@@ -36,8 +36,9 @@ LivesThrough handle (event ∷ events) before =
 
 -- ---- a replay
 
--- The same buffer encodes two accepted commands, the first one and a later one. Their entry at this
--- position, counted from 0, has an HMAC and names an HMAC session, which survives in between.
+-- The same buffer encodes two accepted commands, `first` and, later, `second`. Their entry at this
+-- position, counted from 0, has an HMAC and names an HMAC session, which survives between the two
+-- commands.
 pub record IsReplay (buffer : List ℕ) (before : History) (first : AcceptedCommand)
     (between : History) (second : AcceptedCommand) (place : ℕ) (e : Entry) (s : LiveSession)
     : Type 0
@@ -65,8 +66,8 @@ HaveOneHmac before first after second place e s t =
     (text_in before first place e s ≢ text_in after second place e t)
     × (e.hmac ≡ hmac_in before first place e s) × (e.hmac ≡ hmac_in after second place e t)
 
--- At the second event of a replay, the session has the same hash as at the first. Its nonceTPM is
--- again that of the first event, or two different messages have the same HMAC.
+-- At the second event of a replay, the session has the same hash as at the first event. It also has
+-- the nonceTPM of the first event again, or two different messages have the same HMAC.
 pub record Repeats (before : History) (first : AcceptedCommand) (between : History)
     (second : AcceptedCommand) (place : ℕ) (e : Entry) (s : LiveSession) : Type 0 where
   pub now : LiveSession

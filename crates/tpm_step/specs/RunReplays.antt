@@ -27,9 +27,9 @@ Gives buffer (Given given locality elapsed random) = given ≡ buffer
 Gives buffer Cycled = ⊥
 Gives buffer (Placed object) = ⊥
 
--- Two accepted events, after these earlier ones and with others in between, have the same buffer.
--- An entry of the buffer's command has an HMAC, and names an HMAC session that survives from the
--- first event to the second.
+-- Two accepted events, `one` and `two`, have the same buffer. The events in `earlier` came before
+-- them, and the events in `meanwhile` between them. An entry of the buffer's command has an HMAC,
+-- and names an HMAC session that survives from the first event to the second.
 pub record IsRunReplay (history : History) (earlier : List Execution) (one : Execution)
     (meanwhile : List Execution) (two : Execution) (place : ℕ) (e : Entry) (s : LiveSession) : Type 0
   where

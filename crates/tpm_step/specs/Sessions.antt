@@ -45,9 +45,9 @@ pub record Bound : Type 0 where
   pub protection : Protection
 
 -- a live session. Its type, hash, symmetric algorithm, binding and key do not change after its
--- start. It contains the latest nonceTPM, and the earlier ones, the latest first. Its assertions,
--- the latest first, are those since its start, its latest TPM2_PolicyRestart, or its latest use for
--- authorization, whichever came last
+-- start. It contains the latest nonceTPM, and the earlier nonceTPMs, the latest first. Its
+-- assertions, the latest first, were made since its start, its latest TPM2_PolicyRestart, or its
+-- latest use for authorization, whichever came last
 pub record LiveSession : Type 0 where
   pub kind : SessionType
   pub hash : HashAlg
@@ -67,7 +67,7 @@ policy_in s = evaluated s.hash (is_trial s.kind) s.assertions
 abbrev pub LiveSessions : Type 0
 LiveSessions = Handle → Option LiveSession
 
--- the live sessions, with the session at this handle changed, if there is one
+-- the live sessions, after the session at this handle was changed, if there is a session
 abbrev pub changed_session : (LiveSession → LiveSession) → Handle → LiveSessions → LiveSessions
 changed_session change handle live = changed_at handle (option_map change) live
 
@@ -127,7 +127,7 @@ started c auth_values = started_by (parameters_in c.request.parameters)
 
 -- ---- what a command does to sessions, apart from its entries
 
--- the live sessions after TPM2_StartAuthSession, with a new one at the handle that the command
+-- the live sessions after TPM2_StartAuthSession, with a new session at the handle that the command
 -- returns
 abbrev pub with_started : AcceptedCommand → History → LiveSessions → LiveSessions
 with_started c history live =
@@ -150,8 +150,8 @@ abbrev pub restarted : LiveSession → LiveSession
 restarted s = record s { assertions = [] }
 
 -- the live sessions after a command with this code. TPM2_FlushContext ends a session, and
--- TPM2_PolicyRestart clears the assertions of one. Apart from these two, only TPM2_StartAuthSession
--- and the assertion commands change a session
+-- TPM2_PolicyRestart clears the assertions of a session. Apart from these two commands, only
+-- TPM2_StartAuthSession and the assertion commands change a session
 abbrev pub sessions_by : CommandCode → AcceptedCommand → History → LiveSessions → LiveSessions
 sessions_by command.StartAuthSession c history live = with_started c history live
 sessions_by command.FlushContext c history live =
@@ -186,7 +186,7 @@ abbrev pub with_nonce : List ℕ → LiveSession → LiveSession
 with_nonce nonce s =
     record s { nonce_tpm = nonce; earlier_nonces = s.nonce_tpm ∷ s.earlier_nonces }
 
--- the size of a session's next nonceTPM, which is the size of its latest one; 0 if there is no
+-- the size of a session's next nonceTPM, which is the size of the latest nonceTPM; 0 if there is no
 -- session
 abbrev pub nonce_size : Option LiveSession → ℕ
 nonce_size session = option_map_or (λ (s : LiveSession). length s.nonce_tpm) session 0
@@ -243,13 +243,15 @@ sessions_of (Done c ∷ history) handle =
 sessions_of (PowerCycled ∷ history) handle = None
 sessions_of (ObjectPlaced at object ∷ history) handle = sessions_of history handle
 
--- the latest nonceTPM, the key and the policy of the session at a handle
+-- the latest nonceTPM of the session at a handle
 abbrev pub nonce_of : History → Handle → Option (List ℕ)
 nonce_of history handle = option_map (λ (s : LiveSession). s.nonce_tpm) (sessions_of history handle)
 
+-- the key of the session at a handle
 abbrev pub key_of : History → Handle → Option (List ℕ)
 key_of history handle = option_map (λ (s : LiveSession). s.key) (sessions_of history handle)
 
+-- the policy of the session at a handle
 abbrev pub policy_of : History → Handle → Option Policy
 policy_of history handle = option_map policy_in (sessions_of history handle)
 

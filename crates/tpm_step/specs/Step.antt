@@ -174,12 +174,12 @@ step_where refused r (Placed object) =
 abbrev pub step : Record → PlainEvent → Stepped
 step r event = step_where false r event
 
--- x is the step of the command. In it, an allocation fails only if `can` is true.
+-- x is the step of the command when all allocations succeed or, if `can` is true, when they fail.
 abbrev pub Answers : Bool → Record → List ℕ → Result Accepted RefusedCommand → Stepped → Type 0
 Answers can r random a x =
     (refused : Bool) × (refused ≡ true → can ≡ true) × (x ≡ answer_where refused r random a)
 
--- x is the step of the event. In it, an allocation fails only if `can` is true.
+-- x is the step of the event when all allocations succeed or, if `can` is true, when they fail.
 abbrev pub Steps : Bool → Record → PlainEvent → Stepped → Type 0
 Steps can r event x =
     (refused : Bool) × (refused ≡ true → can ≡ true) × (x ≡ step_where refused r event)

@@ -74,7 +74,7 @@ touched_where r s handle (Ok demand) =
 touched_where r s handle (Err e) = protection.None
 
 -- the protection of the entity whose authorization value is used to check entry n, if the entry
--- names this session. The handle is the one that the entry has to authorize, if any
+-- names this session. The entry has to authorize this handle, or none if the handle is None
 abbrev pub touched_of_session : Record → Whole → (locality n : ℕ) → Option Handle → Session
     → Protection
 touched_of_session r c locality n (Some handle) s =
@@ -148,11 +148,11 @@ elapsed_of (Given buffer locality elapsed random) = elapsed
 elapsed_of Cycled = 0
 elapsed_of (Placed object) = 0
 
--- the milliseconds that pass in a sequence of events, and the number of failed tries among the
--- events
+-- the milliseconds that pass in a sequence of events
 abbrev pub elapsed_in : List Execution → ℕ
 elapsed_in executions = sum_by (λ (one : Execution). elapsed_of one.event) executions
 
+-- the number of failed tries in a sequence of events
 abbrev pub failures_in : List Execution → ℕ
 failures_in executions = count_by (λ (one : Execution). fails_try one.before one.event) executions
 

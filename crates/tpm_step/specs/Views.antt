@@ -30,7 +30,8 @@ view_policy (OfIndex public) =
 view_policy (OfHandle handle) = None
 
 -- the protection of an entity against dictionary attacks: an object is protected unless it has
--- noDA, an index unless it has TPMA_NV_NO_DA
+-- noDA, and an index unless it has TPMA_NV_NO_DA. The handle of any other entity determines its
+-- protection
 abbrev pub view_protection : View → Protection
 view_protection (OfObject public) =
     if has public.attributes attribute.NoDa then protection.None else protection.Tries
@@ -49,8 +50,9 @@ object_takes means.AuthValue public = has public.attributes attribute.UserWithAu
 object_takes means.Policy public = is_policy public.auth_policy
 
 -- whether an NV index accepts this means of authorization for a command that uses it in this way.
--- It accepts its authValue if it has AUTHREAD or AUTHWRITE, but never in the role ADMIN. If it has
--- a policy, it accepts the policy if it has POLICYREAD or POLICYWRITE, and always in the role ADMIN
+-- The authValue needs AUTHREAD for a read, and AUTHWRITE for a write. A policy must not be empty;
+-- it needs POLICYREAD for a read, and POLICYWRITE for a write. The role ADMIN accepts only the
+-- policy, and needs none of these attributes
 abbrev pub index_takes : Means → NvUse → NvPublic → Bool
 index_takes means.AuthValue does.Read public = index_has public.attributes mark.AuthRead
 index_takes means.AuthValue does.Write public = index_has public.attributes mark.AuthWrite
@@ -79,7 +81,8 @@ abbrev pub is_there : View → Bool
 is_there (OfHandle handle) = not (names_kept handle)
 is_there _ = true
 
--- The view shows what the record contains about this handle.
+-- The view and the record agree about the entity of this handle: about its Name, its policy, its
+-- protection, whether WRITTEN is set, and what can authorize the entity.
 pub record TellsOf (view : View) (r : Record) (handle : Handle) : Type 0 where
   pub name : view_name view ≡ name_of r handle
   pub policy : view_policy view ≡ policy_of r handle

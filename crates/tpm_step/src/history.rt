@@ -60,8 +60,8 @@ ghost use Rattle.tpm_step.specs.Views.{TellsOf};
 use crate::event::Outcome;
 
 /// A newly manufactured device follows the empty history. If a device follows a history, then after
-/// an event it follows the same history, to which the event is added if it was accepted. A power
-/// cycle is always added.
+/// an event it follows the history with this event added. An event that was not accepted is not
+/// added. A power cycle is always added.
 #[inline(always)]
 pub fn following_laws()
     ensures manufactured { (random : List ℕ) → Follows (manufactured random) [] }
@@ -72,9 +72,9 @@ pub fn following_laws()
 {}
 
 /// Laws about sequences of executions. A power cycle is a sequence by itself, and so is placing an
-/// object that satisfies the invariant of loaded objects. Two sequences make one if the second
-/// begins with the record that the first left. A sequence that is possible if no allocation can
-/// fail is also possible if allocations can fail.
+/// object that satisfies the invariant of loaded objects. Two sequences make one sequence if the
+/// second begins with the record that the first left. A sequence that is possible if no allocation
+/// can fail is also possible if allocations can fail.
 #[inline(always)]
 pub fn stretch_laws()
     ensures power_cycle { (can : Bool) (r : Record)
@@ -111,8 +111,8 @@ pub fn run_history_laws<F: FnMut(&Outcome)>()
 {}
 
 /// The view of a handle shows what the record contains: the Name, the policy, the protection, and
-/// the means that can authorize the entity. The views that a history records for a command are
-/// those before the command.
+/// the means that can authorize the entity. For each command, a history records the views that the
+/// command's handles had before the command.
 #[inline(always)]
 pub fn view_laws()
     ensures tell { (r : Record) (handle : Handle) → TellsOf (view_of r handle) r handle }
@@ -121,8 +121,8 @@ pub fn view_laws()
         → c.views ≡ map (view_of r) c.command.handles }
 {}
 
-/// The values that a history records as saved are those that the PCRs had at the last shutdown. A
-/// TPM Resume restores them for PCR 0 to 15.
+/// The PCR values that a history records as saved are the values that the PCRs had at the last
+/// shutdown. A TPM Resume restores them for PCR 0 to 15.
 #[inline(always)]
 #[tactic(auto, using(crate::proofs::DevicePcrs::saved_are))]
 pub fn shutdown_laws()
@@ -155,18 +155,19 @@ pub fn auth_value_laws()
         → trimmed (auth_of history handle) ≡ auth_of history handle }
 {}
 
-/// Laws about counters in histories, without a device. The first value of a counter exceeds every
-/// value that any counter had before. A counter does not go down until an index is defined again
-/// with its handle.
+/// These laws hold for the NV counters of every history, even if no device follows it. The first
+/// value of a counter exceeds every value that any counter had before. A counter does not go down
+/// until an index is defined again with its handle.
 #[inline(always)]
 #[tactic(auto, using(crate::proofs::CountLaws::count_laws))]
 pub fn count_laws()
     ensures { CountLaws }
 {}
 
-/// No counter of a device goes down until an index is defined again with its handle. The first
-/// value of a counter exceeds every value that any counter had before, whether the counter was
-/// defined before a sequence of events or in it.
+/// No counter of a device goes down until an index is defined again with its handle. If a counter
+/// has no value before a sequence of events, its value after the sequence exceeds every value that
+/// any counter had before the sequence. If a counter is defined in the sequence, its value exceeds
+/// every value that any counter had before this definition.
 #[inline(always)]
 pub fn counter_laws()
     ensures keeps { (old new : Record) (history meanwhile : History) (handle : Handle)
@@ -192,8 +193,9 @@ pub fn recorded_laws()
         → IsRecorded old (Given buffer locality elapsed random) x buffer }
 {}
 
-/// In every history of a device, each use of an entity was authorized by a password, an HMAC
-/// session, or a policy session whose conditions all hold, given the history before the use.
+/// In every history of a device, each use of an entity was authorized, given the history before the
+/// use. A password, an HMAC session, or a policy session whose conditions all hold authorized the
+/// use.
 #[inline(always)]
 pub fn grounds_laws()
     ensures { (can : Bool) (random : List ℕ) (executions : List Execution) (new : Record)
@@ -201,9 +203,9 @@ pub fn grounds_laws()
         → AllHaveGrounds (history_after [] executions) }
 {}
 
-/// If a buffer with an HMAC is accepted twice, and its HMAC session survives in between, then the
-/// session has the nonceTPM of the first event again, or two different messages have the same HMAC.
-/// Each of the two HMACs is computed with the key at its event.
+/// Suppose that a buffer with an HMAC is accepted twice, and that its HMAC session survives between
+/// the two events. Then the session has the nonceTPM of the first event again, or two different
+/// messages have the same HMAC. Each of the two HMACs is computed with the key at its event.
 #[inline(always)]
 pub fn replay_laws()
     ensures { (can : Bool) (random : List ℕ) (executions : List Execution) (new : Record)
@@ -224,9 +226,9 @@ pub fn policy_laws()
     ensures command { UsesItsCommand }
 {}
 
-/// An event is a failed try if and only if its authorization is refused with AUTH_FAIL for an entry
-/// that is checked with the authorization value of a protected entity other than lockout. The
-/// response is AUTH_FAIL for that entry.
+/// An entry touches the entity whose authorization value is used to check it. An event is a failed
+/// try if and only if its authorization is refused with AUTH_FAIL for an entry that touches a
+/// protected entity other than lockout. The response is AUTH_FAIL for that entry.
 #[inline(always)]
 pub fn failed_try_laws()
     ensures exactly { (old : Record) (event : PlainEvent)
@@ -270,9 +272,9 @@ pub fn few_tries_laws()
         → tries_at_most old executions ≡ tries_within old executions + 1 }
 {}
 
-/// If two devices follow the same history, show the same views of each handle, and have the same
-/// lockout state, they authorize each command with the same grants, or refuse it with the same
-/// refusal.
+/// Suppose that two devices follow the same history, show the same views of each handle, and have
+/// the same lockout state. Then they authorize each command with the same grants, or refuse it with
+/// the same refusal.
 #[inline(always)]
 pub fn alike_laws()
     ensures { AuthorizeAlike }

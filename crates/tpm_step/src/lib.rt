@@ -6,7 +6,7 @@
 //! [`event::Event`], its [`event::Outcome`], [`refused_command::RefusedCommand`], and
 //! [`direction::Direction`], which says whether a session decrypts or encrypts a parameter.
 //!
-//! The laws about all rows are in [`rows`], and those about histories in [`history`].
+//! The laws about all rows are in [`rows`], and the laws about histories in [`history`].
 //!
 //! The crate uses the definitions of the rows, in tpm_record and the crates of the commands, and
 //! the definitions of tpm_auth. tpm_machine is proved to compute the step. The laws are about

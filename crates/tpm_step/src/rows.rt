@@ -1,11 +1,12 @@
-//! Laws about the rows of all commands. Each is the contract of a function that does nothing. The
-//! laws say which part of the record a success changes, what the command's shape determines, that
-//! sessions still exist, and what no row refuses. The step renews or ends the sessions of entries
-//! only after the row. The fields of sessions keep the right sizes through the whole step.
+//! Laws about the rows of all commands. Each law is the contract of a function that does nothing.
+//! The laws say which part of the record a success changes, what the command's shape determines,
+//! that sessions still exist, and what no row refuses. The step renews or ends the sessions of
+//! entries only after the row. The fields of sessions keep the right sizes through the whole step.
 //!
-//! The laws are about the definitions of the step. All laws of a row are one record, which is
-//! proved once, so that theorems about histories do not unfold the rows. Each law about all
-//! commands is a field of these records.
+//! The laws are about the definitions of the step. One record contains all laws of a row
+//! (`RowLaws`). The record is proved once for each row, so that theorems about histories do not
+//! unfold the rows. The laws about the rows of all commands follow from the fields of these
+//! records.
 
 ghost use Rattle.std.specs.Prelude.{◌≡◌, ◌≢◌, ℕ, ◌+◌, ◌*◌, ◌≤◌, Bool, IfOk, List, [], ◌∷◌, Ok, Option};
 ghost use Rattle.std.specs.Prelude.{IfErr, false, length, true};
@@ -114,9 +115,9 @@ pub fn used_session_laws()
         → HaveSessions a.success.after c.entries }
 {}
 
-/// A row reveals no secret unless its command reads one. On the device and on the device without
-/// its secrets, the row refuses with the same refusal, or returns the same answer and leaves the
-/// same record except for the secrets.
+/// A row reveals no secret unless its command reads a secret. On the device and on the device
+/// without its secrets, the row refuses with the same refusal, or returns the same answer and
+/// leaves the same record except for the secrets.
 #[inline(always)]
 #[tactic(auto, using(crate::proofs::rows::Table::row_tells))]
 pub fn row_secrecy_laws()
@@ -183,8 +184,8 @@ pub fn row_memory_laws()
     ensures { (r : Record) (c : CommandCode) (q : Request) → Passes check.Memory (row_of r c q) }
 {}
 
-/// No step reports check M unless an allocation fails. No execution reports it unless an allocation
-/// can fail.
+/// No step reports check M unless an allocation fails. No execution reports check M unless an
+/// allocation can fail.
 #[inline(always)]
 #[tactic(auto, using(crate::proofs::rows::Memory::step_wants, crate::proofs::rows::Memory::execution_wants))]
 pub fn step_memory_laws()
@@ -207,7 +208,7 @@ pub fn granted_session_laws()
 
 /// A successful authorization returns a list with one element for each entry: a grant, or None. The
 /// first entries are granted the handles that need authorization, in order, and the other entries
-/// no handle.
+/// are granted no handle.
 #[inline(always)]
 #[tactic(auto, using(crate::proofs::rows::Grants::grants_fit))]
 pub fn grant_laws()
@@ -235,7 +236,8 @@ pub fn effect_laws()
         → LeavesEffect a.success.after (success_step a random).after }
 {}
 
-/// The device is started after an accepted command.
+/// After every accepted command the device is started: before it is started, only TPM2_Startup is
+/// accepted.
 #[inline(always)]
 #[tactic(auto, using(crate::proofs::rows::Started::is_started))]
 pub fn started_laws()
@@ -255,8 +257,8 @@ pub fn uncounted_laws()
         → IfErr (general r buffer) (λ e. e.refused.counted ≡ counted.None) }
 {}
 
-/// A newly manufactured device has no session, and neither has a device after a power cycle.
-/// Therefore the fields of all their sessions have the right sizes.
+/// A newly manufactured device has no session, and a power cycle ends all sessions. Therefore no
+/// session of such a device has a field of a wrong size.
 #[inline(always)]
 #[tactic(auto, using(crate::proofs::rows::SizedSteps::manufactured_sized, crate::proofs::rows::SizedSteps::cycled_sized))]
 pub fn new_device_size_laws()

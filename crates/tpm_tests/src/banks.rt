@@ -1,5 +1,5 @@
-//! The digest of a selection of PCRs, compared with digests computed by Python's `hashlib`; and the
-//! PCR values that a shutdown saves.
+//! Compares the digest of a selection of PCRs with digests computed by Python's `hashlib`, and
+//! tests the PCR values that a shutdown saves.
 
 use super::comparison::check;
 use arrayvec::ArrayVec;

@@ -1,4 +1,5 @@
-//! The examples of FIPS 197 (5.1.1 and appendices B and C) and of SP 800-38A (F.3.13 and F.3.14).
+//! Checks AES against the examples of FIPS 197 (5.1.1 and appendices B and C) and of SP 800-38A
+//! (F.3.13 and F.3.14).
 
 ghost use Rattle.std.specs.Prelude.{◌≡◌};
 ghost use Rattle.tpm_aes.specs.Field.{sub_byte};

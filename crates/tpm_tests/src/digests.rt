@@ -1,5 +1,5 @@
-//! Published digests (FIPS 180-4 examples) and HMACs (RFC 2202, RFC 4231), and KDFa keys computed
-//! with Python's `hmac`.
+//! Checks digests against the examples of FIPS 180-4, HMACs against RFC 2202 and RFC 4231, and KDFa
+//! keys against keys that Python's `hmac` computed.
 
 use super::comparison::check;
 use tpm_bytes::copied;

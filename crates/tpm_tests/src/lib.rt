@@ -1,8 +1,9 @@
 #![tactic(auto)]
 
-//! Tests of the crates below the sessions and NV indices, for behaviour that neither a contract
-//! nor a script under `tests/` covers: published vectors, values computed by other programs, one
-//! call of each public function, and what a tap reports about its device.
+//! Tests of the crates below the sessions and NV indices, for behaviour that neither a contract nor
+//! a script under `tests/` covers. The tests compare results with published vectors and with values
+//! computed by other programs. They call each public function once, and check what a tap reports
+//! about its device.
 //!
 //! The crate depends on those crates, and no crate depends on it. The tests are in a separate
 //! crate because a crate with tests is proved twice.

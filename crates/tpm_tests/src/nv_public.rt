@@ -1,5 +1,5 @@
-//! The public areas of NV indices: calls each public function once, with Names computed by
-//! Python's `hashlib`.
+//! Tests of the public areas of NV indices. Each public function is called once. Python's `hashlib`
+//! computed the expected Names.
 
 use super::comparison::check;
 use arrayvec::ArrayVec;

@@ -1,5 +1,5 @@
-//! Policy digests computed by Python's `hashlib`, and the conditions of a policy. If one fails, the
-//! use of the policy is refused.
+//! Compares policy digests with digests computed by Python's `hashlib`. Tests that the use of a
+//! policy is refused if one of its conditions fails.
 
 use super::comparison::check;
 use std::process::Abort;
@@ -192,7 +192,7 @@ fn asserted<R: Abort>(rt: &R) -> PolicyState {
     state
 }
 
-/// Locality 0, or a different one if the locality condition fails.
+/// Locality 1 if the locality condition fails, otherwise locality 0.
 fn locality_from<R: Abort>(rt: &R, condition: u8) -> Locality {
     let number = if condition <= 7 { 1 } else { 0 };
     Locality::new(number).expect(rt, "locality 0 or 1")

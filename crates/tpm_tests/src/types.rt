@@ -1,5 +1,5 @@
-//! Structures byte by byte, as in TPM 2.0 Library, Part 1, section 18, and Part 2. What the
-//! device reads and writes is tested by the scripts under `tests/`.
+//! Tests structures byte by byte, as TPM 2.0 Library, Part 1, section 18, and Part 2 define them.
+//! The scripts under `tests/` test what the device reads and writes.
 
 use super::comparison::check;
 use arrayvec::ArrayVec;

@@ -1,4 +1,4 @@
--- The encodings of entries, as the code writes them.
+-- The parts that the code writes for an entry are the entry's encoding.
 use Rattle.std.proofs.Common.{◌≡◌, ℕ, ◌<◌, ◌==◌, List, [], ◌∷◌, ◌++◌, length, Option, Result, Ok, Err, refl, ap, ◌∙◌, arith}
 use Rattle.std.specs.Int.{w8, w32, to_be_bytes}
 use Rattle.std.proofs.lemmas.List.Splits.{length-slice_split}

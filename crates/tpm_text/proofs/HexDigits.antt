@@ -37,7 +37,7 @@ pub none_is_good : hex_in [] ≡ Ok []
 unfolding decode_pairs
 none_is_good = refl
 
--- The number of hex digits is twice the number of bytes.
+-- If hex digits encode bytes, there are twice as many digits as bytes.
 pub half_of : (digits bytes : List ℕ) → hex_in digits ≡ Ok bytes → length digits ≡ 2 * length bytes
 half_of digits bytes e = (decode_of-ok digits bytes (or_fault_ok _ _ bytes e)).2
 

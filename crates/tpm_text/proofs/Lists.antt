@@ -14,7 +14,7 @@ use Rattle.tpm_text.proofs.Growing.{grown-grown}
 
 -- ---- PCRs
 
--- the PCRs selected so far, and in addition those that the remaining pieces name
+-- the PCRs selected so far, and the PCRs that the remaining pieces name
 unfoldable pub pcrs_left : ℕ → List (List ℕ) → Result ℕ TokenFault
 pcrs_left select pieces = each_in (number_in 23) pieces >>= λ pcrs. Ok (fold with_pcr select pcrs)
 
@@ -60,9 +60,8 @@ elements_last : (element : Element) (draft : Option (List ℕ)) (text piece : Li
 unfolding elements_left elements_text each_in
 elements_last element draft text piece e = ap (λ first. first >>= (λ first. Ok (first ∷ [])) >>= (λ texts. Ok (flat_map (λ text. text) texts)) >>= λ text. Ok (grown draft text)) e ∙ ap (λ l. Ok (grown draft l)) (append-nil text)
 
--- Suppose that the next element of a list is read. If it is written, the result is that of the
--- later elements. If it is also the last one, the result is the new draft. If it has a fault, the
--- result is this fault.
+-- If the next element of a list is written, the result for the remaining elements is the result for
+-- the elements after it.
 pub put_more : (element : Element) (old new : Option (List ℕ)) (piece : List ℕ) (pieces : List (List ℕ)) (result : Result (Unit {0}) TokenFault) → result ≡ Ok tt → Drafts (element_text element piece) old result new
     → elements_left element old (piece ∷ pieces) ≡ elements_left element new pieces
 put_more element old new piece pieces result e h = by (element_text element piece) refl result e h
@@ -73,6 +72,7 @@ put_more element old new piece pieces result e h = by (element_text element piec
     by (Err fault) is (Ok done) e h = absurd h
     by (Err fault) is (Err found) e h = absurd cc
 
+-- If the last element of a list is written, the result is the new draft.
 pub put_last : (element : Element) (old new : Option (List ℕ)) (piece : List ℕ) (result : Result (Unit {0}) TokenFault) → result ≡ Ok tt → Drafts (element_text element piece) old result new
     → elements_left element old (piece ∷ []) ≡ Ok new
 put_last element old new piece result e h = by (element_text element piece) refl result e h
@@ -83,6 +83,7 @@ put_last element old new piece result e h = by (element_text element piece) refl
     by (Err fault) is (Ok done) e h = absurd h
     by (Err fault) is (Err found) e h = absurd cc
 
+-- If the next element of a list has a fault, the result is this fault.
 pub put_stopped : (element : Element) (old new : Option (List ℕ)) (piece : List ℕ) (pieces : List (List ℕ)) (result : Result (Unit {0}) TokenFault) (fault : TokenFault) → result ≡ Err fault → Drafts (element_text element piece) old result new
     → elements_left element old (piece ∷ pieces) ≡ Err fault
 put_stopped element old new piece pieces result fault e h = by (element_text element piece) refl result e h

@@ -1,5 +1,5 @@
--- Lines: commands in words, with tokens separated by single spaces. The order is that of TPM 2.0
--- Library, Part 3: the name, the handles, the authorization entries, the parameters.
+-- Lines: commands in words, with tokens separated by single spaces. The tokens are in the order of
+-- TPM 2.0 Library, Part 3: the name, the handles, the authorization entries, the parameters.
 use Rattle.tpm_types.specs.Limits.{buffer_limit}
 use Rattle.std.specs.Prelude.{◌≡◌, ℕ, zero, suc, nat_lt, cond, List, [], ◌∷◌, ◌++◌}
 use Rattle.std.specs.Prelude.{Result, Ok, Err, ok_or}
@@ -90,8 +90,8 @@ assembled line = do
   fits ← refused_if (nat_lt buffer_limit (command_size command)) fault.TooLong
   Ok (command_text command)
 
--- A call returned the encoding of the command that a line encodes; or it returned the fault of the
--- line; or it could not allocate the memory.
+-- A call returned the encoding of the command that a line encodes, or NoMemory instead; or it
+-- returned the fault of the line.
 abbrev pub Assembles : {X : Type 0} → (X → List ℕ)
     → Result (List ℕ) AsmFault → Result X AsmFault → Type 0
 Assembles view (Ok text) (Ok buffer) = view buffer ≡ text

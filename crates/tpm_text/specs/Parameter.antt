@@ -50,8 +50,8 @@ symmetric_in word =
     else (if is_word (codes "xor-sha256") word then Ok (symmetric.Xor Sha256)
     else Err Bad)))
 
--- the encoding of the symmetric definition that a word names; it says how a session encrypts
--- parameters
+-- the encoding of the symmetric definition that a word names; the definition says how a session
+-- encrypts parameters
 unfoldable pub symmetric_word_text : List ℕ → Result (List ℕ) TokenFault
 symmetric_word_text word = do
   definition ← symmetric_in word

@@ -6,21 +6,23 @@ use Rattle.tpm_bytes.specs.Reading.{◌>>=◌}
 use Rattle.tpm_text.specs.declared.token.Token as declared
 use Rattle.tpm_number.specs.declared.fault.TokenFault.{TokenFault}
 
--- the separators: between tokens, between the elements of a list, between numbers, and between a
--- word and the text after it
+-- the separator between tokens
 abbrev pub space : ℕ
 space = 32
 
+-- the separator between the elements of a list
 abbrev pub plus : ℕ
 plus = 43
 
+-- the separator between numbers
 abbrev pub comma : ℕ
 comma = 44
 
+-- the separator between a word and the text after it
 abbrev pub colon : ℕ
 colon = 58
 
--- the pieces of a text between its separators: one more than there are separators
+-- the pieces of a text between its separators; there is one more piece than separators
 abbrev pub pieces_of : ℕ → List ℕ → List (List ℕ)
 pieces_of separator text = slice_split (λ byte. byte == separator) text
 
@@ -29,7 +31,7 @@ pub record Token : Type 0 where
   pub column : ℕ
   pub text : List ℕ
 
--- the tokens with these texts, separated by single spaces; the first one begins at this column
+-- the tokens with these texts, separated by single spaces; the first token begins at this column
 abbrev pub placed : ℕ → List (List ℕ) → List Token
 placed column [] = []
 placed column (text ∷ texts) =

@@ -1,5 +1,5 @@
-//! The elements of lists in words: selected PCRs, digests with their algorithm, or digests without
-//! one.
+//! The elements of lists in words: selected PCRs, digests with their hash algorithm, or digests
+//! without an algorithm.
 
 /// The kinds of elements in a list.
 #[derive(Clone, Copy, PartialEq, Eq)]

@@ -6,8 +6,9 @@ ghost use Rattle.tpm_text.specs.Fault.{fault_at};
 use std::alloc::AllocError;
 use tpm_number::TokenFault;
 
-/// The reasons why a line is not a command, or not one that fits in a buffer: the first fault
-/// from the left. A column is the position of a token's first byte, counted from 1.
+/// The reasons why a line is not a command, or encodes a command that does not fit in a buffer. The
+/// first fault from the left is the reason. A column is the position of a token's first byte,
+/// counted from 1.
 #[derive(Clone, Copy, PartialEq, Eq)]
 pub enum AsmFault {
     /// The first token is not the name of a command.

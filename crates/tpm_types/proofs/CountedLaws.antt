@@ -1,5 +1,5 @@
--- Lists that start with a count. If the count is accepted, a read returns the list exactly when the
--- input starts with the list's encoding.
+-- If the count at the start of a list is accepted, a read returns the list exactly when the input
+-- starts with the list's encoding.
 use Rattle.std.proofs.Common.{◌≡◌, ℕ, ◌^◌, ◌<◌, Bool, false, List, ◌++◌, length, Result, Ok, sym, ap, subst, ◌∙◌, append_assoc, refl}
 use Rattle.std.specs.Int.{w32, to_be_bytes}
 use Rattle.std.specs.List.{flat_map, AllByRecursion}

@@ -11,8 +11,9 @@ pub record Spelled {A E : Type 0} (text : A → List ℕ) (Is : A → Type 0) (a
   pub taken : IsTaken text Is at
   pub again : IsAgain text Is at
 
--- After the first fields were read, reading the other fields returns a value exactly when the value
--- contains those first fields and the input starts with the encoding of the other fields.
+-- After the first fields were read, a read of the other fields returns a value exactly under two
+-- conditions: the value contains the first fields, and the input starts with the encoding of the
+-- other fields.
 pub record Behind {B C E : Type 0} (seen : B → C) (text : B → List ℕ) (Is : B → Type 0) (at : C → List ℕ → Result (B × List ℕ) E) : Type 0 where
   pub taken : (before : C) (bytes : List ℕ) (x : B × List ℕ) → AreBytes bytes → at before bytes ≡ Ok x → Takes bytes (text x.0) x.1 × Is x.0 × (seen x.0 ≡ before)
   pub again : (x : B) (rest : List ℕ) → Is x → at (seen x) (text x ++ rest) ≡ Ok (x, rest)
@@ -43,8 +44,8 @@ then {A} {B} {C} {E} {text} {Is} {at} {seen} {others} {Are} {behind} field next 
       ∙ next.again x rest are.1;
 }
 
--- If `Spelled` holds for the first field and `Behind` holds for the other fields, which may depend
--- on it, then `Spelled` holds for the whole structure.
+-- Suppose that `Spelled` holds for the first field, and that `Behind` holds for the other fields,
+-- which may depend on the first. Then `Spelled` holds for the whole structure.
 pub first : {A B E : Type 0} {text : A → List ℕ} {Is : A → Type 0} {at : List ℕ → Result (A × List ℕ) E} {seen : B → A} {others : B → List ℕ} {Are : B → Type 0} {behind : A → List ℕ → Result (B × List ℕ) E} → Spelled text Is at → Behind seen others Are behind → Spelled (λ x. text (seen x) ++ others x) (λ x. Is (seen x) × Are x) (λ bytes. at bytes >>= λ a. behind a.0 a.1)
 first {A} {B} {E} {text} {Is} {at} {seen} {others} {Are} {behind} field next = record {
   taken = λ bytes x fits e.
@@ -68,8 +69,8 @@ for_each seen text Is at each = record {
   again = λ x rest is. (each (seen x)).again x rest (is, refl);
 }
 
--- `Spelled` still holds if the encoding and the condition for valid values are replaced by
--- equivalent ones.
+-- `Spelled` still holds if the encoding is replaced by an equal encoding, and the condition for
+-- valid values by an equivalent condition.
 pub respelled : {A E : Type 0} {text other : A → List ℕ} {Is Are : A → Type 0} {at : List ℕ → Result (A × List ℕ) E} → Spelled text Is at → ((x : A) → other x ≡ text x) → ((x : A) → Is x → Are x) → ((x : A) → Are x → Is x) → Spelled other Are at
 respelled {A} {E} {text} {other} {Is} {Are} {at} law same to from = record {
   taken = λ bytes x fits e. let t = law.taken bytes x fits e in (subst (λ (l : List ℕ). Takes bytes l x.1) (sym (same x.0)) t.0, to x.0 t.1);

@@ -1,5 +1,5 @@
--- Digests with their algorithms, and lists of such digests: a read returns one exactly when the
--- input starts with its encoding.
+-- A read returns a digest with its algorithm exactly when the input starts with its encoding. The
+-- same holds for a list of such digests.
 use Rattle.std.proofs.Common.{◌≡◌, ℕ, ltb, List, ◌++◌, Ok, refl, sym, ap, subst, ◌∙◌, append_assoc, arith}
 use Rattle.std.specs.Int.{w16, to_be_bytes}
 use Rattle.std.proofs.lemmas.Bool.{ltb-false, le-ltb}

@@ -14,7 +14,7 @@ values_text_more : (values : List DigestValue) (i : ℕ) (d : DigestValue) → i
 unfolding values_text
 values_text_more values i d below = rw (take_more values i d below) (grind (arith, common_steps))
 
--- Writing one more digest appends its encoding to that of the previous digests.
+-- Writing one more digest appends its encoding to the encoding of the previous digests.
 pub value_written : (values : List DigestValue) (i : ℕ) (d : DigestValue) (start so_far new : List ℕ) → i < length values → so_far ≡ start ++ values_text (take i values) → new ≡ so_far ++ digest_value_text (get_or values i d) → new ≡ start ++ values_text (take (i + 1) values)
 value_written values i d start so_far new below so wrote =
     let text = digest_value_text (get_or values i d) in

@@ -19,20 +19,24 @@ numbered number = record { number = number }
 abbrev pub handle_type : Handle → ℕ
 handle_type handle = handle.number / 2 ^ 24
 
--- tests of a handle's type: an NV index (01), a session (02 for HMAC, 03 for policy and trial), a
--- transient object (80) or a persistent object (81). The entity need not exist
+-- whether a handle has the type of an NV index (01). The index need not exist
 abbrev pub is_nv_index : Handle → Bool
 is_nv_index handle = handle_type handle == 0x01
 
+-- whether a handle has the type of a policy or trial session (03). The session need not exist
 abbrev pub is_policy_session : Handle → Bool
 is_policy_session handle = handle_type handle == 0x03
 
+-- whether a handle has the type of a session: 02 for an HMAC session, or 03 for a policy or trial
+-- session. The session need not exist
 abbrev pub is_session : Handle → Bool
 is_session handle = handle_type handle == 0x02 || handle_type handle == 0x03
 
+-- whether a handle has the type of a transient object (80). The object need not exist
 abbrev pub is_transient : Handle → Bool
 is_transient handle = handle_type handle == 0x80
 
+-- whether a handle has the type of a persistent object (81). The object need not exist
 abbrev pub is_persistent : Handle → Bool
 is_persistent handle = handle_type handle == 0x81
 

@@ -11,8 +11,8 @@ buffer_limit = 4096
 abbrev pub data_limit : ℕ
 data_limit = 1024
 
--- the largest size in bytes of a response's parameters. TPM2_NV_Read returns the longest ones: a
--- sized buffer with `data_limit` bytes
+-- the largest size in bytes of a response's parameters. TPM2_NV_Read returns the longest
+-- parameters: a sized buffer with `data_limit` bytes
 abbrev pub answer_limit : ℕ
 answer_limit = data_limit + 2
 

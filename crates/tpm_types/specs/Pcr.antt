@@ -10,14 +10,16 @@ abbrev pub SomePcr : ℕ → Option PcrIndex → Type 0
 SomePcr number (Some pcr) = (number < 24) × (pcr ≡ number)
 SomePcr number None = 24 ≤ number
 
--- conversions between the three octets of a selection and a number: the octets, followed by a zero
--- octet, are the little-endian encoding of the number
+-- the number of a selection: its three octets, followed by a zero octet, are the little-endian
+-- encoding of this number
 abbrev pub select_of : List ℕ → ℕ
 select_of octets = from_le_bytes w32 (octets ++ 0 ∷ [])
 
+-- the three octets of the selection with this number
 abbrev pub select_text : ℕ → List ℕ
 select_text select = take 3 (to_le_bytes w32 select)
 
+-- whether the selection with this number selects a PCR
 abbrev pub is_selected : ℕ → ℕ → Bool
 is_selected select pcr = bit_at select pcr == 1
 

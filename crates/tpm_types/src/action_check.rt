@@ -1,8 +1,10 @@
-//! A command's own checks, numbered in the order of the command's section of Part 3.
+//! The checks A1 to A7, which a command makes itself, numbered in the order of the command's
+//! section of Part 3.
 
 ghost use Rattle.std.specs.Prelude.{◌≡◌};
 
-/// One of a command's own checks. Its number is its position in the command's section.
+/// One of the checks that a command makes itself, in addition to the checks of all commands. Its
+/// number is its position among the checks in the command's section of Part 3.
 #[derive(Clone, Copy, PartialEq, Eq)]
 pub enum ActionCheck {
     First = 1,

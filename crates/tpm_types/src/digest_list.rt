@@ -115,7 +115,7 @@ impl DigestList {
         text
     }
 
-    /// Appends the encoded list. The sink must have room for the longest one, 276 bytes.
+    /// Appends the encoded list. The sink must have room for the longest encoding, 276 bytes.
     pub fn append_to<const N: usize>(&self, sink: &mut Sink<N>)
         requires { length sink.old + 276 ≤ N }
         ensures written { sink.new

@@ -89,7 +89,7 @@ impl DigestValue {
         sink.put(text.as_slice())
     }
 
-    /// Appends the encoded digest. The sink must have room for the longest one, 34 bytes.
+    /// Appends the encoded digest. The sink must have room for the longest encoding, 34 bytes.
     #[tactic(auto, unfolding(crate::specs::DigestValues::digest_value_text))]
     pub fn append_to<const N: usize>(&self, sink: &mut Sink<N>)
         requires { length sink.old + 34 ≤ N }
@@ -186,7 +186,7 @@ impl DigestValues {
         text
     }
 
-    /// Appends the encoded list. The sink must have room for the longest one, 72 bytes.
+    /// Appends the encoded list. The sink must have room for the longest encoding, 72 bytes.
     pub fn append_to<const N: usize>(&self, sink: &mut Sink<N>)
         requires { length sink.old + 72 ≤ N }
         ensures written { sink.new ≡ sink.old ++ digest_values_text self.now.values.items }

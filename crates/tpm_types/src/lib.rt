@@ -3,8 +3,8 @@
 //! The structures of TPM 2.0 Library, Part 2, that every part of the device uses: response codes,
 //! handles, algorithms, PCR selections, digests, authorization values, types of sessions, and the
 //! device's [`limits`]. Commands are in `tpm_types_command`, the areas of objects in
-//! `tpm_types_object`, and those of NV indices in `tpm_types_nv`. Each structure has its own type.
-//! Its values are read from a [`tpm_bytes::cursor::Cursor`] and written to a
+//! `tpm_types_object`, and the areas of NV indices in `tpm_types_nv`. Each structure has its own
+//! type. Its values are read from a [`tpm_bytes::cursor::Cursor`] and written to a
 //! [`tpm_bytes::sink::Sink`]. A [`refused::Refused`] is a refusal by any part of the device: the
 //! response code, the check that failed ([`check`]), and how the refusal counts for the protection
 //! against dictionary attacks.

@@ -1,5 +1,5 @@
 //! This device's limits on memory and data, which the standard leaves to the implementer. Other
-//! sizes, such as that of the longest image, are computed from these constants. The bounds of a
+//! sizes, such as the size of the longest image, are computed from these constants. The bounds of a
 //! single structure are defined with that structure. `specs/Limits.antt` defines the same numbers
 //! for the specification.
 
@@ -13,8 +13,8 @@ pub const BUFFER_LIMIT: usize = 4_096;
 /// and MAX_DIGEST_BUFFER.
 pub const DATA_LIMIT: usize = 1_024;
 
-/// The largest size in bytes of a response's parameters. TPM2_NV_Read returns the longest ones: a
-/// sized buffer of `DATA_LIMIT` bytes.
+/// The largest size in bytes of a response's parameters. TPM2_NV_Read returns the longest
+/// parameters: a sized buffer of `DATA_LIMIT` bytes.
 pub const ANSWER_LIMIT: usize = DATA_LIMIT + 2;
 
 /// The largest size in bytes of an object's secret: a key, or sealed data (MAX_SYM_DATA).

@@ -161,7 +161,7 @@ impl PcrSelection {
         Ok(())
     }
 
-    /// Appends the encoded selection. The sink must have room for the longest one, 100 bytes.
+    /// Appends the encoded selection. The sink must have room for the longest encoding, 100 bytes.
     pub fn append_to<const N: usize>(&self, sink: &mut Sink<N>)
         requires { length sink.old + 100 ≤ N }
         ensures written { sink.new ≡ sink.old ++ selection_text self.now.banks.items }

@@ -120,7 +120,7 @@ impl SymmetricDefinition {
         sink.put(self.text())
     }
 
-    /// Appends the encoded definition. The sink must have room for the longest one, six bytes.
+    /// Appends the encoded definition. The sink must have room for the longest encoding, six bytes.
     pub fn append_to<const N: usize>(&self, sink: &mut Sink<N>)
         requires { length sink.old + 6 ≤ N }
         ensures written { sink.new ≡ sink.old ++ symmetric_text self.now }

@@ -25,8 +25,8 @@ header_or_rc_ok (Err f) x e = absurd cc
 
 -- ---- the authorization area, if there are sessions
 
--- The bytes start with the encoding of these entries: at most three, each valid. The tag shows
--- whether there are any.
+-- The bytes start with the encoding of these entries, at most three and all valid. The tag shows
+-- whether there are entries.
 pub record AreSessions (tag : Tag) (bytes : List ℕ) (x : List Entry × List ℕ) : Type 0 where
   pub text : Takes bytes (sessions_text x.0) x.1
   pub tag_is : tag_for x.0 ≡ tag

@@ -1,4 +1,4 @@
--- Lemmas about the two loops that read and write the entries of an authorization area in order.
+-- The entries of an authorization area are read and written in order.
 use Rattle.std.proofs.Common.{◌≡◌, ℕ, zero, suc, ◌+◌, ◌*◌, List, [], ◌∷◌, ◌++◌, ◌<◌, ◌≤◌, length, arith, map, take, get_or, append-nil, Result, Ok, Err, refl, ap, sym, subst, ◌∙◌, append_assoc, length-append}
 use Rattle.std.proofs.lemmas.List.{take_more}
 use Rattle.std.proofs.lemmas.List.Folds.{flat_map-map}
@@ -72,7 +72,7 @@ sizes_push : (entries : List AuthEntry) (entry : AuthEntry) → AllByRecursion H
 sizes_push [] entry all one = (one, tt)
 sizes_push (first ∷ entries) entry all one = (all.0, sizes_push entries entry all.1 one)
 
--- If the sizes in the previous entries and in the next one fit in their size fields, so do the
+-- If the sizes in the previous entries and in the next entry fit in their size fields, so do the
 -- sizes in all these entries.
 pub sizes_more : (entries : List AuthEntry) (i : ℕ) (d : AuthEntry) → i < length entries → AllByRecursion HasSizes (map entry_of (take i entries)) → HasSizes (entry_of (get_or entries i d)) → AllByRecursion HasSizes (map entry_of (take (i + 1) entries))
 sizes_more entries i d below all one = subst (λ (l : List AuthEntry). AllByRecursion HasSizes (map entry_of l)) (sym (take_more entries i d below)) (sizes_push (take i entries) (get_or entries i d) all one)

@@ -58,7 +58,7 @@ pub ruleset entry_sizes = (length-auth_entry_text)
 
 -- ---- the entries of an authorization area
 
--- If bytes are left, the read of all entries reads one entry and then the others.
+-- If bytes are left, the read of all entries reads one entry and then the remaining entries.
 pub entries_in_some : (most : ℕ) (left : List ℕ) → 0 < length left → entries_in (suc most) left ≡ (entry_at left >>= λ first. entries_in most first.1 >>= λ others. Ok (first.0 ∷ others))
 entries_in_some most [] some = absurd (omega arith)
 entries_in_some most (byte ∷ bytes) some = refl

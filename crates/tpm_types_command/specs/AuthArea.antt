@@ -20,7 +20,8 @@ area_text entries = to_be_bytes w32 (length (entries_text entries)) ++ entries_t
 
 -- ---- reading an authorization area: every fault is AUTHSIZE
 
--- all entries in the bytes, which may contain at most this many
+-- all entries in the bytes. Fails with AUTHSIZE if an entry is truncated, or if bytes are left
+-- after this many entries
 abbrev pub entries_in : ℕ → List ℕ → Result (List Entry) Rc
 entries_in most [] = Ok []
 entries_in zero (byte ∷ bytes) = Err (plain code.Authsize)

@@ -37,8 +37,8 @@ whole_of c = record {
   parameters = c.parameters.now;
 }
 
--- the tag of a command with these entries: TPM_ST_SESSIONS if there are any, TPM_ST_NO_SESSIONS if
--- there are none
+-- the tag of a command with these entries: TPM_ST_SESSIONS if there are entries, and
+-- TPM_ST_NO_SESSIONS if not
 abbrev pub tag_for : List Entry → Tag
 tag_for [] = NoSessions
 tag_for (entry ∷ entries) = Sessions
@@ -73,8 +73,9 @@ pub record HasText (c : Whole) : Type 0 where
 abbrev pub IsHandle : Handle → Type 0
 IsHandle handle = handle.number < 2 ^ 32
 
--- The encoding of a command can be read if the command has as many handles as its code requires and
--- at most three entries, and fits in a command buffer.
+-- The encoding of a command can be read under these conditions: the command has as many handles as
+-- its code requires; it has at most three entries; its handles and entries are valid; and it fits
+-- in a command buffer.
 pub record IsCommand (c : Whole) : Type 0 where
   pub handle_count : length c.handles ≡ handle_count c.code
   pub handles : AllByRecursion IsHandle c.handles

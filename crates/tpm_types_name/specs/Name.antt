@@ -16,8 +16,8 @@ handle_name handle = to_be_bytes w32 handle.number
 abbrev pub hashed_name : HashAlg → List ℕ → List ℕ
 hashed_name alg text = to_be_bytes w16 (hash_number alg) ++ hash_of alg text
 
--- the qualified Name of an object: its nameAlg, followed by a digest. The digest is that of two
--- concatenated Names: the parent's qualified Name, and the object's own Name. The qualified Name of
--- a hierarchy is its handle
+-- the qualified Name of an object: its nameAlg, followed by the digest of two concatenated Names,
+-- the parent's qualified Name and the object's own Name. The qualified Name of a hierarchy is its
+-- handle
 unfoldable pub qualified_name : HashAlg → (parent name : List ℕ) → List ℕ
 qualified_name alg parent name = hashed_name alg (parent ++ name)

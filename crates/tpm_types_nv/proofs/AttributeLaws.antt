@@ -1,5 +1,5 @@
--- Setting or clearing an attribute of an index does not change its type, because changing a bit
--- outside a mask changes no bit inside it.
+-- Setting or clearing an attribute of an index does not change the index's type. The reason is that
+-- a change outside a mask changes no bit inside the mask.
 use Rattle.std.proofs.Common.{◌≡◌, ◌≢◌, ℕ, ◌-◌, ◌*◌, ◌/◌, ◌%◌, ◌^◌, ◌<◌, refl, ap, ◌∙◌, arith, inl, inr}
 use Rattle.std.specs.Prelude.{bit_and, bit_or}
 use Rattle.std.specs.Int.{w32, bit_at, bit_not}

@@ -22,7 +22,7 @@ pub record AreNvAttributes : Type 0 where
       → index_type (with_attribute attributes one) ≡ index_type attributes
   pub cleared_type : (attributes : NvAttributes) (one : NvAttribute)
       → index_type (without_attribute attributes one) ≡ index_type attributes
-  -- if attributes can be encoded, they still can be encoded after one of them is set or cleared
+  -- if attributes can be encoded, they can still be encoded after any attribute is set or cleared
   pub set_named : (attributes : NvAttributes) (one : NvAttribute) → IsNvAttributes attributes
       → IsNvAttributes (with_attribute attributes one)
   pub cleared_named : (attributes : NvAttributes) (one : NvAttribute) → IsNvAttributes attributes

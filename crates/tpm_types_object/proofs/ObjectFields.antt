@@ -1,5 +1,5 @@
--- The type and the attributes of an object: a read returns one of these fields exactly when the
--- input starts with its encoding.
+-- A read returns an object type exactly when the input starts with its encoding. The same holds for
+-- the attributes of an object.
 use Rattle.std.proofs.Common.{◌≡◌, ℕ, ◌^◌, ◌<◌, Some, None, refl, arith}
 use Rattle.tpm_types.specs.declared.rc.ResponseCode.TheVariants as code
 use Rattle.tpm_types.proofs.Named.{link, named_spelled, none}

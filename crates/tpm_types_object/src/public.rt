@@ -107,7 +107,7 @@ impl KeyedHashScheme {
         sink.put(text.as_slice())
     }
 
-    /// Appends the encoded scheme. The sink must have room for the longest one, four bytes.
+    /// Appends the encoded scheme. The sink must have room for the longest encoding, four bytes.
     #[tactic(auto, unfolding(crate::specs::Public::scheme_text))]
     pub fn append_to<const N: usize>(self, sink: &mut Sink<N>)
         requires { length sink.old + 4 ≤ N }
@@ -181,7 +181,7 @@ impl PublicParameters {
         }
     }
 
-    /// Appends the encoded parameters. The sink must have room for the longest ones, six bytes.
+    /// Appends the encoded parameters. The sink must have room for the longest encoding, six bytes.
     #[tactic(auto, unfolding(tpm_types::specs::Symmetric::symmetric_text))]
     pub fn append_to<const N: usize>(self, sink: &mut Sink<N>)
         requires { length sink.old + 6 ≤ N }

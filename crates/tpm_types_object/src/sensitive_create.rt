@@ -24,8 +24,8 @@ impl<'a> SensitiveCreate<'a> {
     ghost use Rattle.tpm_types_object.specs.SensitiveCreate.{IsSensitiveCreate, SensitiveValues, sensitive_create_at};
     ghost use Rattle.tpm_types_object.specs.SensitiveCreate.{sensitive_create_text, sensitive_values_of};
 
-    /// Reads the values. Fails with INSUFFICIENT if they are truncated, or with SIZE if one is too
-    /// long.
+    /// Reads the values. Fails with INSUFFICIENT if they are truncated, or with SIZE if a value is
+    /// too long.
     pub fn read(text: &mut Cursor<'a>) -> Result<SensitiveCreate<'a>, Rc>
         // The result is the decoded values, or the first fault.
         ensures exact { Reads sensitive_values_of (sensitive_create_at text.old) text.old

@@ -58,7 +58,7 @@ size_bounds size =
 some_is : {X : Type 0} (x y : X) → Some x ≡ Some y → x ≡ y
 some_is x y e = cc
 
--- The size of a buffer is known from its first six bytes. It is between 6 and 4,096 bytes.
+-- If the size of a buffer is known, it is between 6 and 4,096 bytes.
 buffer_bounds : (bytes : List ℕ) (n : ℕ) → buffer_size bytes ≡ Some n → (6 ≤ n) × (n ≤ buffer_limit)
 unfolding command_size
 buffer_bounds (t ∷ u ∷ a ∷ b ∷ c ∷ d ∷ bytes) n is = rw (← some_is _ _ is) (size_bounds (from_be_bytes w32 (a ∷ b ∷ c ∷ d ∷ [])))
@@ -261,8 +261,8 @@ pub read_more : (read bytes : List ℕ) (done : List (List ℕ)) (s : Stream) �
 read_more read bytes done s is =
     fold-append with_byte (uncut [] false) read bytes ∙ ap (λ (c : Cutting). fold with_byte c bytes) is ∙ cut_fed done s bytes
 
--- If some buffers were cut off a stream, and then one more, all of them were cut off the original
--- stream.
+-- If some buffers were cut off a stream, and then one more buffer was cut off, all these buffers
+-- were cut off the original stream.
 pub cuts_one : (s t : Stream) (done : List (List ℕ)) (u : Stream) (c : Cut) → CutsTo s done t → next_of t ≡ Some c → u ≡ c.after → CutsTo s (done ++ c.buffer ∷ []) u
 cuts_one s t done u c to is same before =
     to before ∙ cut_next (before ++ done) t c is
@@ -273,7 +273,7 @@ pub cuts_none : (s : Stream) → CutsTo s [] s
 cuts_none s before = ap (λ (l : List (List ℕ)). cut_with l s) (sym (append-nil before))
 
 -- Suppose that bytes are read, buffers are executed, more bytes are read, and more buffers are
--- executed. Then all these buffers are the first ones in the cut of all bytes.
+-- executed. Then all these buffers are the first buffers in the cut of all bytes.
 pub read_on : (read bytes : List ℕ) (done more : List (List ℕ)) (s t u : Stream) → cut_of read ≡ cut_with done s → t ≡ fed s bytes → CutsTo t more u → cut_of (read ++ bytes) ≡ cut_with (done ++ more) u
 read_on read bytes done more s t u is same to =
     read_more read bytes done s is ∙ ap (cut_with done) (sym same) ∙ to done

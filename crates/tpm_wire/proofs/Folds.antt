@@ -1,4 +1,5 @@
--- Folding a relation over one list and then over another is folding it over both lists joined.
+-- Folding a relation over one list, and then over a second list, is the same as folding it over the
+-- two lists joined.
 use Rattle.std.proofs.Common.{List, [], ◌∷◌, ◌++◌, sym, subst}
 use Rattle.std.specs.List.{FoldsTo}
 

@@ -62,7 +62,8 @@ life_of stream (Some l) served = (l, refl, served)
 life_at : (streams : List (Option Stream)) (lives : List (Option Life)) (n : ℕ) (s : Stream) → Serve streams lives → at_place streams n ≡ Some s → (l : Life) × (at_place lives n ≡ Some l) × IsServed (Some s) (Some l)
 life_at streams lives n s so is = life_of s (at_place lives n) (subst (λ (x : Option Stream). IsServed x (at_place lives n)) is (so.each n))
 
--- The event changes the old record to the new one. The old record need not be that of a device.
+-- The event changes the old record to the new one. The old record need not satisfy the invariant of
+-- all records (`IsRecord`).
 abbrev Happens : Bool → Record → Event → Record → Type 0
 Happens can old (Executed plain_event outcome) new = Executes can old plain_event (outcome_step new outcome)
 Happens can old PowerCycled new = new ≡ cycled old

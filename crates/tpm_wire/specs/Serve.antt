@@ -85,7 +85,7 @@ Delivers notes failed held holds before after one old (Err fault.Write) new =
 Delivers notes failed held holds before after one old (Err e) new = ⊥
 
 -- The writer failed at the response of the last execution. All earlier responses were written
--- completely. A prefix of the last one, which may be empty, was written.
+-- completely. A prefix of the last response, which may be empty, was written.
 abbrev pub LosesLast : Option (List ℕ) → Option (List ℕ) → List Execution → Type 0
 LosesLast held holds executions =
     (answered : List Execution) × (lost : Execution) × (executions ≡ answered ++ lost ∷ [])
@@ -154,11 +154,11 @@ ReadsNoMore reader cut =
 
 -- How serving ended.
 -- - The reader or the stream ended: all buffers were executed and all responses were written.
--- - The reader failed, or reached the limit on reads that return bytes: likewise, all buffers were
---   executed and all responses were written.
--- - The writer failed: some buffers were executed, and the response of the last one was not written
---   completely.
--- - The witness failed: some buffers were executed, and the response of the last one was not
+-- - The reader failed, or reached the limit on reads that return bytes: all buffers were executed
+--   and all responses were written.
+-- - The writer failed: some buffers were executed, and the response of the last execution was not
+--   written completely.
+-- - The witness failed: some buffers were executed, and the response of the last execution was not
 --   written.
 -- - The host returned a fault: the next buffer is complete but was not executed. All buffers before
 --   it were executed, and their responses were written.

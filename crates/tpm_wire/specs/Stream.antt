@@ -27,33 +27,35 @@ size_by size = if is_size size then size else 6
 abbrev pub buffer_size : List ℕ → Option ℕ
 buffer_size bytes = option_map size_by (command_size bytes)
 
--- whether the buffer that begins with these bytes is the last one, because no buffer can have its
--- commandSize
+-- whether the buffer that begins with these bytes is the last buffer of its stream; it is the last
+-- buffer if no buffer can have its commandSize
 abbrev pub is_last : List ℕ → Bool
 is_last bytes = option_map_or (λ size. not (is_size size)) (command_size bytes) false
 
--- whether a buffer is complete: its size is the one that its commandSize requires
+-- whether these bytes are exactly one complete buffer: their number is the size that `buffer_size`
+-- finds
 abbrev pub is_whole : List ℕ → Bool
 is_whole bytes = option_map_or (λ size. size == length bytes) (buffer_size bytes) false
 
 -- ---- the cut of a stream
 
--- the cut of a stream: its complete buffers in order, the bytes after them, and whether it has
--- ended, so that no more buffers follow
+-- a stream cut into buffers: its complete buffers in order, and the bytes after the last of them.
+-- If `ended` is true, no more buffers follow
 pub record Cutting : Type 0 where
   pub buffers : List (List ℕ)
   pub rest : List ℕ
   pub ended : Bool
 
--- a cut with these bytes after its buffers; if they form a complete buffer, they become one more
--- buffer of the cut
+-- a cut with these bytes as its rest; if the bytes are a complete buffer, they become one more
+-- buffer of the cut instead
 abbrev pub with_rest : Cutting → List ℕ → Cutting
 with_rest c rest =
     if is_whole rest
     then record { buffers = c.buffers ++ rest ∷ []; rest = []; ended = is_last rest }
     else record c { rest = rest }
 
--- a cut with one more byte of the stream
+-- a cut after the stream received one more byte; if the stream has ended, the byte only extends the
+-- rest
 unfoldable pub with_byte : Cutting → ℕ → Cutting
 with_byte c byte =
     let rest = c.rest ++ byte ∷ [] in
@@ -69,8 +71,8 @@ cut_of bytes = fold with_byte (uncut [] false) bytes
 
 -- ---- the part of its stream that a connection stores
 
--- the part of its stream that a connection stores: the bytes received but not yet executed, and
--- whether no more buffers follow
+-- the part of its stream that a connection stores: the bytes that were received but not yet
+-- executed, and whether the stream has ended, so that no more buffers follow
 pub record Stream : Type 0 where
   pub taken : List ℕ
   pub ended : Bool
@@ -92,7 +94,8 @@ pub record Cut : Type 0 where
   pub buffer : List ℕ
   pub after : Stream
 
--- cuts off the first `size` bytes as a buffer; `last` says whether it is the last one
+-- cuts off the first `size` bytes as a buffer; `last` says whether it is the last buffer of the
+-- stream
 abbrev pub cut_at : ℕ → Bool → List ℕ → Cut
 cut_at size last bytes = record {
   buffer = take size bytes;
@@ -110,8 +113,8 @@ next_of s =
     if s.ended then None
     else option_and_then (λ size. cut_within size (is_last s.taken) s.taken) (buffer_size s.taken)
 
--- The size is that of the stream's next buffer, and `last` says whether this buffer is the last
--- one; or there is no next buffer.
+-- The result describes the next buffer of the stream: its size, and whether it is the last buffer
+-- of the stream. If the next buffer is not complete, the result is None.
 abbrev pub IsFront : Stream → Option Front → Type 0
 IsFront s None = next_of s ≡ None
 IsFront s (Some f) = (f.size ≤ length s.taken) × (next_of s ≡ Some (cut_at f.size f.last s.taken))

@@ -64,7 +64,8 @@ impl Connection {
         count
     }
 
-    /// If the next buffer is complete, returns its size, and whether it is the last one.
+    /// If the next buffer is complete, returns its size, and whether it is the last buffer of the
+    /// stream.
     pub fn front(&self) -> Option<Front>
         ensures { IsFront self.now result }
     {

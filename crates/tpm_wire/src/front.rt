@@ -11,14 +11,16 @@ const HEADER_SIZE: usize = 10;
 /// The offset of the end of commandSize in a command.
 const SIZE_END: usize = 6;
 
-/// The size of a connection's next buffer, and whether this buffer is the last one.
+/// The size of a connection's next buffer, and whether this buffer is the last buffer of the
+/// stream.
 #[derive(Clone, Copy)]
 pub struct Front {
     pub size: usize,
     pub last: bool,
 }
 
-/// If these bytes begin with a complete buffer, returns its size, and whether it is the last one.
+/// If these bytes begin with a complete buffer, returns its size, and whether it is the last buffer
+/// of the stream.
 #[tactic(auto, unfolding(crate::specs::Stream::command_size))]
 pub fn front_of(bytes: &[u8]) -> Option<Front>
     ensures { IsFront (record { taken = bytes.now; ended = false }) result }

@@ -92,8 +92,8 @@ impl<K: Keep> Mux<K> {
         ensures turns { Turns K.can_refuse (wire_of K.record_of self.old) (number_of connection)
             host result (wire_of K.record_of self.new) }
 
-        // If the machine followed a history, it still follows that history, with the buffer added
-        // if one was executed and accepted.
+        // If the machine followed a history, it still follows that history, extended by the
+        // buffer's command if a buffer was executed and its command was accepted.
         ensures history { (history : History)
             → Follows (wire_of K.record_of self.old).machine history
             → Follows (wire_of K.record_of self.new).machine (turn_history

@@ -32,7 +32,8 @@ const READS: u32 = 1_048_576;
 
 /// Serves one connection: reads buffers, executes each complete buffer with the host's values,
 /// writes the responses, and returns their number. During the call, the connection counts towards
-/// the limit in addition to those of the mux; it is closed at the end in every case.
+/// the limit in addition to the connections of the mux. The connection is closed at the end in
+/// every case.
 pub fn serve<K: Keep, R: Read, W: Write, H: FnMut() -> Result<Host, HostFault>>(
     mux: &mut Mux<K>,
     reader: &mut Tap<R>,

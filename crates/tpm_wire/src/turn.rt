@@ -9,6 +9,6 @@ pub enum Turn {
     Wants,
     /// The connection's next buffer was executed, with this outcome.
     Answer(Outcome),
-    /// No more buffers follow: the last one had a commandSize that no buffer can have.
+    /// No more buffers follow: the last buffer had a commandSize that no buffer can have.
     Ended,
 }

@@ -74,7 +74,7 @@ abbrev pub fault_of_line : AsmFault → Fault
 fault_of_line line.NoMemory = Memory
 fault_of_line fault = Asm fault
 
--- the fault if the line that encodes a buffer was not found
+-- the fault if no line was found that encodes a buffer: there may be none, or memory ran out
 abbrev pub fault_of_spelling : SpellFault → Fault
 fault_of_spelling spelling.NoLine = NoLine
 fault_of_spelling spelling.NoMemory = Memory

@@ -1,4 +1,4 @@
--- The check of a state text, before its device replaces another one.
+-- Defines the check of a state text before its device replaces another device.
 use Rattle.std.specs.Prelude.{◌≡◌, List, ℕ, Result, Ok, Err}
 use Rattle.tpm_state_text.specs.Body.{WholeState}
 use Rattle.tpm_state_text.specs.State.{state_of_text}

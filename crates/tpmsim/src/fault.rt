@@ -29,9 +29,9 @@ pub enum Fault {
     Asm(AsmFault),
     /// No line encodes the buffer.
     NoLine,
-    /// The file of the image does not contain an image.
+    /// The contents of the image's file are not an image.
     Image(ImageFault),
-    /// The file of the state text does not contain a state text.
+    /// The contents of the file that `restore` reads are not a state text.
     State(StateFault),
     /// A file, or standard input or output, could not be opened, read or written.
     File(Cause),

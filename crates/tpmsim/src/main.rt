@@ -1,9 +1,9 @@
 #![tactic(auto)]
 
-//! A TPM 2.0 simulator. It runs scripts of commands, `tpmsim run`, and checks them, `check`. It
-//! assembles commands from words, `asm`, and finds the words of a command, `line`. It prints the
-//! forms of commands in words, `lines`, and the meaning of a response code, `code`. It serves a
-//! device on a socket, `serve`.
+//! A TPM 2.0 simulator. Its subcommand `run` runs scripts of TPM commands, and `check` checks
+//! scripts. The subcommand `asm` assembles a TPM command from words, and `line` finds the words of
+//! a TPM command. The subcommand `lines` prints the forms of TPM commands in words, and `code`
+//! prints the meaning of a response code. The subcommand `serve` serves a device on a socket.
 //!
 //! A device is kept in an image, or in a folder with its state. `power` power-cycles a device in a
 //! folder, `snapshot` and `restore` write and read its state text, and `script` prints its history.

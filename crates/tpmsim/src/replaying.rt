@@ -13,8 +13,9 @@ use tpmsim_image::Subject;
 /// The number of lines in an entry.
 const ENTRY_LINES: u64 = 5;
 
-/// Prints the trace and the response of each command that a journal recorded. The responses must
-/// equal the recorded ones; if one does not, the fault contains its line number in the journal.
+/// Prints the trace and the response of each command that a journal recorded. Each response must
+/// equal the recorded response; otherwise the fault contains the line number of the entry in the
+/// journal.
 pub fn replay_journal(rt: &HostRuntime, path: &str) -> Result<(), Fault> {
     let text = Fault::file(Subject::Journal).unless(fs::read(rt, path))?;
     let mut machine: Machine<SlotKeep> = Machine::manufacture(rt.alloc(), &[0; 256])?;

@@ -1,4 +1,4 @@
--- The result of parsing a command line, from what clap finds in its words.
+-- What clap finds in the words of a command line determines the result of parsing the command line.
 use Rattle.std.proofs.Common.{◌≡◌, ◌≢◌, ◌⊎◌, ◌∙◌, ℕ, ap, inl, inr, refl, sym, true, false, Bool, codes, List, Option, Some, None, Result, Ok, Err, ok_or, option_and_then, option_map, if◌then◌else◌}
 use Rattle.std.specs.Str.{bytes_eq}
 use Rattle.clap.specs.Words.{IsAmong, Row, Text, fault_of, first_of, is_simple, is_simple_and_free, subcommand_of}
@@ -39,7 +39,7 @@ no_run kind trace None storage e = cc
 no_run kind trace (Some s) None e = cc
 no_run kind trace (Some s) (Some kept) e = cc
 
--- if neither of two options is this request, then the one that is chosen is not this request
+-- if neither of two options is this request, the chosen option is not this request
 otherwise : {A : Type 0} (wish : A) (here : Bool) (this other : Option A) → (this ≡ Some wish → ⊥) → (other ≡ Some wish → ⊥)
     → (if here then this else other) ≡ Some wish → ⊥
 otherwise wish true this other one two e = one e
@@ -113,8 +113,8 @@ none_tells kind (Some command) e =
     (otherwise (tell kind) (bytes_eq command.0 (codes "script")) _ _ (no_script kind (first_of (codes "state") rows))
     (otherwise (tell kind) (bytes_eq command.0 (codes "replay")) _ _ (no_replay kind (first_of (codes "journal") rows)) (unknown kind)))))))))))) e
 
--- if clap accepts the words and the program reads clap's matches, the result is the one that
--- `Answers` requires
+-- if clap accepts the words and the program reads clap's matches, the result is as `Answers`
+-- requires
 pub taken : (words : List Text) (r : Result Arguments ArgumentFault) → AreTaken words
     → Gives asked (ok_or (asked_by words) Usage) r → Answers words r
 taken words (Ok (arguments.Run script trace storage)) right e = (right, found_is _ _ e)
@@ -134,7 +134,7 @@ taken words (Err Usage) right e = inr (right, not_found _ e)
 taken words (Err NoMemory) right e = tt
 
 -- if clap refuses the words, but not because the user requested help or the version, the result is
--- the one that `Answers` requires
+-- as `Answers` requires
 pub refused : (words : List Text) (kind : ErrorKind) (fault : ArgumentFault) → fault ≡ fault_of_words kind
     → (kind ≡ OutOfMemory) ⊎ IsAmong kind (fault_of program words) → kind ≢ DisplayHelp → kind ≢ DisplayVersion
     → Answers words (Err fault)
@@ -145,7 +145,7 @@ refused words kind Usage is (inl out) help version =
 refused words kind Usage is (inr among) help version =
     inl (kind, among, λ wish. elim wish [ inl h ↦ help h | inr v ↦ version v ])
 
--- if it is false that a kind of error is neither help nor the version, it is help or the version
+-- if a kind of error cannot differ from both help and the version, it is help or the version
 is_wish : (kind : ErrorKind) → ((kind ≢ DisplayHelp) × (kind ≢ DisplayVersion) → ⊥) → IsTold kind
 is_wish DisplayHelp never = inl refl
 is_wish DisplayVersion never = inr refl
@@ -165,8 +165,8 @@ is_wish Io never = absurd (never (λ e. cc, λ e. cc))
 is_wish Format never = absurd (never (λ e. cc, λ e. cc))
 is_wish OutOfMemory never = absurd (never (λ e. cc, λ e. cc))
 
--- if clap refuses the words because the user requested help or the version, the result is the one
--- that `Answers` requires
+-- if clap refuses the words because the user requested help or the version, the result is as
+-- `Answers` requires
 pub told : (words : List Text) (kind : ErrorKind) → (kind ≡ OutOfMemory) ⊎ IsAmong kind (fault_of program words)
     → ((kind ≢ DisplayHelp) × (kind ≢ DisplayVersion) → ⊥) → IsAmong kind (fault_of program words) × IsTold kind
 told words kind (inr among) never = (among, is_wish kind never)

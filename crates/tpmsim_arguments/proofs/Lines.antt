@@ -1,4 +1,5 @@
--- Command lines as people write them.
+-- Command lines that people write request what `AskFor` says, such as to assemble a line or to
+-- serve a device.
 use Rattle.std.proofs.Common.{◌≡◌, Bool, List, ◌∙◌, ℕ, ◌≤◌, refl, inl, inr, true, false, [], ◌∷◌, Some, None, Option, ap, ap₂, codes, option_map, option_and_then}
 use Rattle.std.proofs.lemmas.Bool.{le-leb}
 use Rattle.std.specs.Str.{bytes_eq}

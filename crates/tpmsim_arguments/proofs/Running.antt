@@ -1,4 +1,4 @@
--- The command `run` with a script after its options.
+-- A command line of `run` with a script after its options requests to run this script.
 use Rattle.std.proofs.Common.{◌≡◌, ◌∙◌, ◌++◌, ap, refl, sym, subst, true, false, codes, fold, List, [], ◌∷◌, Some, None, inl, inr, is_some, find, unwrap_or}
 use Rattle.clap.specs.Words.{Rule, Shape, Text}
 use Rattle.clap.specs.Kinds.{or_else}

@@ -1,4 +1,5 @@
--- The command `serve` with its settings. Each value is a separate word, as in `--socket PATH`.
+-- A command line of `serve` requests to serve a device with its settings. Here each value is a
+-- separate word, as in `--socket PATH`.
 use Rattle.std.proofs.Common.{◌≡◌, ◌∙◌, ◌++◌, ap, refl, sym, subst, true, false, Bool, codes, fold, List, [], ◌∷◌, Some, None, append-nil, append_assoc, is_some, find, unwrap_or}
 use Rattle.clap.specs.Words.{Row, Rule, Shape, Text}
 use Rattle.clap.specs.Kinds.{Kinds, or_else}

@@ -22,9 +22,9 @@ abbrev pub HaveMistake : List Text → Type 0
 HaveMistake words =
     (kind : ErrorKind) × IsAmong kind (fault_of program words) × (IsTold kind → ⊥)
 
--- The result of parsing these words is their request, or clap's text if they request one. It is
--- Usage if clap finds a mistake in the words, or if the program refuses a value, such as a locality
--- above 4.
+-- The result of parsing these words is their request, or clap's text if they request help or the
+-- version. The result is Usage if clap finds a mistake in the words, or if the program refuses a
+-- value, such as a locality above 4. Nothing is claimed if memory runs out.
 abbrev pub Answers : List Text → Result Arguments ArgumentFault → Type 0
 Answers words (Ok (Tell error)) =
     IsAmong (kind_of error) (fault_of program words) × IsTold (kind_of error)

@@ -61,7 +61,7 @@ pub data Invocation : Type 0 where
   replay : Text → Invocation
   tell : ErrorKind → Invocation
 
--- ---- the requests of words
+-- ---- what words request
 
 -- whether a flag was given: if so, clap's text for it is "true", and otherwise "false"
 abbrev pub is_set : Text → List Row → Bool
@@ -72,11 +72,11 @@ infixl 10 ◌>>=◌
 abbrev pub ◌>>=◌ : {A B : Type 0} → Option A → (A → Option B) → Option B
 found >>= next = option_and_then next found
 
--- the number of finished journals that stay in the folder of a device: at most 99
+-- the number of finished journals that stay in a device's folder, if it is at most 99
 abbrev pub past_of : ℕ → Option ℕ
 past_of number = if nat_le number 99 then Some number else None
 
--- the number of finished journals, from its decimal digits; 0 if there are none
+-- the number of finished journals, from its decimal digits; 0 if no digits are given
 abbrev pub past_by : (keep : Option Text) → Option ℕ
 past_by None = Some 0
 past_by (Some digits) = decimal_of digits >>= past_of
@@ -108,12 +108,12 @@ abbrev pub completes_by : Kept → Bool → Option Bool
 completes_by (in_image image) completes = if completes then None else Some false
 completes_by (in_state state past) completes = Some completes
 
--- the file of random bytes: the system's file, unless another one is given
+-- the file of random bytes: the system's file, unless another file is given
 abbrev pub entropy_by : Option Text → Text
 entropy_by None = codes "/dev/urandom"
 entropy_by (Some path) = path
 
--- the locality, from its decimal digits; 0 if there are none
+-- the locality, from its decimal digits; 0 if no digits are given
 abbrev pub locality_by : Option Text → Option ℕ
 locality_by None = Some 0
 locality_by (Some digits) = decimal_of digits >>= locality_of
@@ -154,7 +154,8 @@ abbrev pub storage_in : List Row → Option (Option Stored)
 storage_in rows = stored_by (first_of (codes "image") rows) (first_of (codes "state") rows)
     (first_of (codes "keep") rows) (first_of (codes "entropy") rows)
 
--- the given script; without one, it is standard input if the device's state is in a folder
+-- the given script; if no script is given, the script is standard input if the device's state is in
+-- a folder
 abbrev pub script_by : (script state : Option Text) → Option Text
 script_by (Some script) state = Some script
 script_by None (Some state) = Some (codes "-")

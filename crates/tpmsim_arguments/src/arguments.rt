@@ -316,7 +316,7 @@ fn completes_by(place: Place<'_>, completes: bool) -> Option<bool>
     }
 }
 
-/// Returns the path of the file of random bytes: the system's file, unless another one is given.
+/// Returns the path of the file of random bytes: the system's file, unless another file is given.
 fn entropy_by<'a>(path: Option<&'a str>) -> &'a str
     ensures { result.now ≡ entropy_by (option_map (λ text. text.now) path.entry) }
 {

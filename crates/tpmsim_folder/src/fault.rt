@@ -51,7 +51,8 @@ pub enum Said {
     HoldsNoImage,
     /// The head's state text is not a state text of this version of the program.
     HoldsNoState,
-    /// The head's state text has an earlier version, which could contain flushed objects.
+    /// The head's state text has an earlier version. State texts of that version can contain
+    /// flushed objects.
     HoldsEarlierState,
     WasAnsweredOtherwise,
     /// The keeper reported this fault.

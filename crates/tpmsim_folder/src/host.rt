@@ -189,8 +189,8 @@ impl<'a> Host<'a> {
         let _ = fs::remove_file(self.rt, self.folder.path(Place::NewJournal));
     }
 
-    /// Renames the new journal to `journal`, and returns its number. The old one stays as journal.1
-    /// if finished journals are to stay. If renaming fails, the new file is removed.
+    /// Renames the new journal to `journal`, and returns its number. The old journal stays as
+    /// journal.1 if finished journals are to stay. If renaming fails, the new file is removed.
     pub fn name(&mut self) -> Result<u64, KeptFault> {
         let Some(fresh) = self.fresh.take() else {
             return Err(Place::NewJournal.that(Said::IsNotThere));

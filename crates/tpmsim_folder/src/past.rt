@@ -1,5 +1,5 @@
-//! The finished journals that stay in the folder: journal.1 is the latest, journal.2 the one before
-//! it.
+//! The finished journals that stay in the folder: journal.1 is the latest, and journal.2 is the
+//! journal before journal.1.
 
 use crate::fault::{KeptFault, Place, Said};
 use crate::folder::{Folder, fault_of, identity_of};
@@ -65,7 +65,8 @@ fn remove_last(rt: &HostRuntime, folder: &str) -> io::Result<()> {
     }
 }
 
-/// Returns the lowest number without a journal, or `count` if there is none below it.
+/// Returns the lowest number that no journal has, or `count` if all numbers below `count` are
+/// taken.
 fn free_number(rt: &HostRuntime, folder: &str, count: u32) -> io::Result<u32> {
     for number in 1..count {
         let path = past_path(rt, folder, number)?;

@@ -16,8 +16,8 @@ pub enum Kind {
     Other,
 }
 
-/// Returns the kind of the file with this metadata. For a link it is the kind of the link, not that
-/// of its target.
+/// Returns the kind of the file with this metadata. For a link it is the kind of the link, not of
+/// the link's target.
 pub fn kind_of(metadata: &Metadata) -> Kind
     ensures { IsOfKind result (file_type metadata.now) }
 {

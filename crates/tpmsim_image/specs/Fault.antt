@@ -35,7 +35,7 @@ abbrev pub given_or : {A : Type 0} → DeviceFault → Result A Error → Result
 given_or otherwise (Ok value) = Ok value
 given_or otherwise (Err error) = Err (fault_or otherwise error)
 
--- the fault if a file could not be opened as an image: memory ran out, or it is not an image
+-- the fault if a file could not be opened as an image: memory ran out, or the file is not an image
 abbrev pub fault_of_image : ImageFault → DeviceFault
 fault_of_image image.NoMemory = Memory
 fault_of_image fault = Image fault

@@ -13,7 +13,7 @@ use tpm_image::ImageFault;
 #[derive(Clone, Copy, PartialEq, Eq)]
 pub enum Subject {
     Image,
-    /// The new image, which is to replace the old one.
+    /// The new image, which is to replace the old image.
     NewImage,
     ImageLock,
     Log,
@@ -59,7 +59,7 @@ impl Cause {
 /// Why a device that is kept in an image could not be opened, saved or served.
 #[derive(Clone, Copy, PartialEq, Eq)]
 pub enum DeviceFault {
-    /// The file of the image does not contain an image.
+    /// The contents of the image's file are not an image.
     Image(ImageFault),
     /// A file could not be opened, read or written.
     File(Cause),

@@ -20,7 +20,7 @@ use tpm_slots::SlotKeep;
 #[derive(Drop)]
 pub struct ImageFile<'a> {
     path: &'a str,
-    /// The path of the file to which a save writes the new image, in the folder of the old one.
+    /// The path of the file to which a save writes the new image, in the folder of the old image.
     new: String,
     folder: String,
     _lock: ImageLock,

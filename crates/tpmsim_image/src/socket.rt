@@ -14,7 +14,7 @@ use std::{fs, io};
 pub struct Socket {
     listener: UnixListener,
     identity: Identity,
-    /// The client that was seen waiting while another one was served.
+    /// The client that was seen waiting while another client was served.
     waiting: Option<UnixStream>,
     /// Whether a client was seen waiting.
     has_seen: bool,
@@ -42,7 +42,7 @@ impl Socket {
         self.has_seen
     }
 
-    /// Whether a client is waiting now. That client is the next one to be served.
+    /// Whether a client is waiting now. That client is the next client to be served.
     pub(crate) fn sees_client(&mut self) -> bool {
         if self.listener.set_nonblocking(true).is_err() {
             return false;

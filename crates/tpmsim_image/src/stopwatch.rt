@@ -38,8 +38,9 @@ impl Stopwatch {
     }
 
     /// Returns the elapsed milliseconds of a command that arrives now. For the first command, this
-    /// is 0. For a later one, it is the milliseconds since the first command that were not yet
-    /// passed to any command, at most 2^32 - 1. Any milliseconds above this limit are dropped.
+    /// is 0. For a later command, it is the number of milliseconds since the first command that
+    /// were not yet passed to any command, at most 2^32 - 1. Any milliseconds above this limit are
+    /// dropped.
     pub fn tell(&mut self, now: Instant) -> u32
         ensures value { result ≡ told (instant_nanos now) self.old }
         ensures after { self.new ≡ after_command (instant_nanos now) self.old }

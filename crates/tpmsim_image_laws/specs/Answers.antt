@@ -1,4 +1,4 @@
--- The responses on connections.
+-- Each answer on a connection is an outcome of executing one of its buffers.
 use Rattle.std.specs.Prelude.{Bool, List}
 use Rattle.std.specs.List.{AllByRecursion}
 use Rattle.tpm_containers.specs.Slots.{free}

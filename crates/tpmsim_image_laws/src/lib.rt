@@ -4,13 +4,13 @@
 //! connections.
 //!
 //! The laws are about definitions of tpmsim_image and tpm_wire. Each law is the contract of a
-//! function that does nothing. No crate uses this one.
+//! function that does nothing. No crate uses this crate.
 
 ghost use Rattle.tpmsim_image_laws.specs.Answers.{AnswersAreOutcomes};
 ghost use Rattle.tpmsim_image_laws.specs.Times.{TellsNoTimeTwice};
 
-/// No millisecond is counted twice: the elapsed times of all commands add up to at most the time
-/// from the first command to the latest, whatever the host's clock shows at each of them.
+/// No millisecond is counted twice. The elapsed times of all commands add up to at most the time
+/// from the first command to the latest, whatever the host's clock shows at each command.
 #[inline(always)]
 #[tactic(auto, using(crate::proofs::Times::tells_no_time_twice))]
 pub fn stopwatch_laws()

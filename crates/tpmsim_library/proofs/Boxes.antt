@@ -1,6 +1,6 @@
--- The box of a value, the pointer to it, and the calls that convert between the two. `Words`
--- defines the machine words of each, `Calls` what each call requires and returns, and `Held` what
--- an owner and a holder own.
+-- Lemmas about the box of a value, the pointer to the box, and the calls that convert the one to
+-- the other. `Words` defines the machine words of both, `Calls` says what each call requires and
+-- returns, and `Held` says what an owner and a holder own.
 use mathlib.Core.Path.{refl}
 use mir.Raw.{raw as bare}
 use denote.Exit.{no}

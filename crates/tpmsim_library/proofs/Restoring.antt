@@ -1,5 +1,5 @@
 -- Restoring from the state text of a device yields that device, with its layer and its history. If
--- the bytes are not a state text, the reported error is the first one in the bytes.
+-- the bytes are not a state text, the reported error is the first error in the bytes.
 use Rattle.std.proofs.Common.{◌≡◌, ◌≢◌, ℕ, List, Err, sym, ap, subst, ◌∙◌}
 use Rattle.tpm_machine.specs.Follows.{Follows}
 use Rattle.tpm_machine.specs.History.{History}
@@ -17,7 +17,7 @@ use Rattle.tpmsim_library.specs.State.{record_of, whole_state}
 use Rattle.tpmsim_library.specs.Told.{no_memory, restore_number, state_number}
 use Rattle.tpmsim_library.specs.declared.device.Device.{Device}
 
--- Unless memory runs out, the returned number is that of the first error in the bytes.
+-- Unless memory runs out, the returned number is the number of the first error in the bytes.
 pub fault_told : {B : Type 0} (device_in : B → Device) (text : List ℕ) (fault : RestoreFault) (told : ℕ) → told ≡ restore_number fault → RestoresDevice device_in text (Err fault) → told ≢ no_memory → (f : StateFault) × (told ≡ state_number f) × (state_of_text text ≡ Err f)
 fault_told device_in text (unrestored.Text f) told is read other = (f, is, read)
 fault_told device_in text unrestored.NoMemory told is read other = absurd (other is)

@@ -35,13 +35,14 @@ abbrev pub Begins : (cuts : Bool) → Job → (text : List ℕ) → (before afte
 Begins cuts job text before after =
     (call_of after ≡ called cuts job text (view_of before)) × (after.cuts ≡ before.cuts)
 
--- the `Force` with this number, and the `Job` with this number; None if there is none
+-- the `Force` with this number; None if there is none
 abbrev pub force_of : ℕ → Option Force
 force_of number =
     if number == 0 then Some Never
     else (if number == 1 then Some Power
     else (if number == 2 then Some Always else None))
 
+-- the `Job` with this number; None if there is none
 abbrev pub job_of : ℕ → Option Job
 job_of number =
     if number == 0 then Some Execute
@@ -68,7 +69,7 @@ end_number (ending.Failed fault.NoCommand) = 12
 end_number (ending.Failed fault.Damaged) = 13
 end_number (ending.Failed fault.Memory) = 14
 
--- the fault with this number, and its message
+-- the fault with this number; None if there is none
 abbrev pub fault_of : ℕ → Option Fault
 fault_of number =
     if number == 1 then Some fault.Idle
@@ -86,19 +87,22 @@ fault_of number =
     else (if number == 13 then Some fault.Damaged
     else (if number == 14 then Some fault.Memory else None)))))))))))))
 
+-- the message of a fault; empty if there is no fault
 abbrev pub said_by : Option Fault → List ℕ
 said_by (Some fault) = sentence fault
 said_by None = []
 
+-- the message of the fault with this number
 abbrev pub fault_text : (number : ℕ) → List ℕ
 fault_text number = said_by (fault_of number)
 
--- the bytes that the host must write, and the response that may be sent
+-- the bytes that the host must write for this task
 abbrev pub text_by : Ask → (out : List ℕ) → List ℕ
 text_by (ask.Put cut at) out = out
 text_by (ask.Make whole) out = out
 text_by asked out = []
 
+-- the response that may be sent; empty unless the call ended well
 abbrev pub response_by : Ask → (response : List ℕ) → List ℕ
 response_by (ask.Nothing ending.Done) response = response
 response_by asked response = []
@@ -109,17 +113,17 @@ text_of k = text_by (ask_of k) k.out
 abbrev pub response_of : Holder → List ℕ
 response_of k = response_by (ask_of k) k.response
 
--- whether the new journal that this job makes drops the damage of the old one
+-- whether the new journal that this job makes drops the damage of the old journal
 abbrev pub drops_damage : Job → Bool
 drops_damage Cut = true
 drops_damage job = false
 
--- the response that may be sent, for a job that executes a command (`if_executed`) and for one that
--- returns the state text (`if_shown`)
+-- the response that may be sent, if the job executes a command; empty for any other job
 abbrev pub if_executed : Job → List ℕ → List ℕ
 if_executed Execute response = response
 if_executed job response = []
 
+-- the state text that may be sent, if the job returns the state text; empty for any other job
 abbrev pub if_shown : Job → List ℕ → List ℕ
 if_shown Show response = response
 if_shown job response = []
@@ -178,8 +182,8 @@ request_of k =
 abbrev pub no_request : Request
 no_request = record (task_of 0) { fault = 15 }
 
--- the host's report that it did its task: for Look and Name, it includes the file, and for Read,
--- the bytes
+-- the host's report that it did its task; for Look and Name, the report includes the file, and for
+-- Read, the bytes
 abbrev pub did : Ask → (file size : ℕ) → List ℕ → Told
 did ask.Look file size bytes = Stands file size
 did ask.Name file size bytes = Stands file size

@@ -10,7 +10,7 @@ use Rattle.tpm_state_text.specs.declared.layer.Layer.{Layer}
 use Rattle.tpmsim_library.specs.State.{record_of}
 use Rattle.tpmsim_library.specs.declared.device.Device.{Device}
 
--- the journal of a restored device, which is not started yet; its layer is the one in the state
+-- the journal of a restored device, which is not started yet; its layer is the layer in the state
 -- text
 abbrev pub journal_restored : Option Layer → Journal
 journal_restored layer = record { sum = 0; time = 0; layer = completion_of layer }
@@ -21,7 +21,7 @@ IsOfState text device =
     (layer : Option Layer) × (state_of_text text ≡ Ok (state_of (record_of device) layer))
     × (device.journal ≡ journal_restored layer)
 
--- A device was restored from the state text, or the returned error is the first one in the bytes,
+-- A device was restored from the state text, or the returned error is the first error in the bytes,
 -- or an allocation failed.
 abbrev pub RestoresDevice : {B : Type 0} → (B → Device) → List ℕ → Result B RestoreFault → Type 0
 RestoresDevice device_in text (Ok restored) = IsOfState text (device_in restored)

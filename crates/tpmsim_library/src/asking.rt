@@ -87,8 +87,8 @@ pub extern "C" fn tpmsim_keeper_power(
     }
 }
 
-/// Begins the call that opens the device, or creates one with a seed if there is none. On failure
-/// nothing changes.
+/// Begins the call that opens the device, or creates a device with a seed if there is none. On
+/// failure nothing changes.
 #[unsafe(no_mangle)]
 pub extern "C" fn tpmsim_keeper_seed(
     alloc: Global,

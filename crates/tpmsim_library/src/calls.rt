@@ -21,6 +21,8 @@ ghost use Rattle.tpm_record.specs.IsRecord.{IsRecord};
 ghost use Rattle.tpm_record.specs.Record.{Record, manufactured};
 ghost use Rattle.tpm_step.specs.Events.{Cycled, Given};
 ghost use Rattle.tpm_step.specs.Execution.{Executes};
+ghost use Rattle.tpm_completion.specs.Completion.{forgotten};
+ghost use Rattle.tpmsim_library.specs.Journal.{journal_with};
 ghost use Rattle.tpmsim_library.specs.State.{command_seen, cycle_seen, record_of};
 ghost use Rattle.tpmsim_library.specs.Told.{Tells, done, no_device, no_locality, no_memory};
 ghost use Rattle.tpmsim_library.specs.Version.{version_number};
@@ -107,7 +109,8 @@ pub extern "C" fn tpmsim_power_cycle(alloc: Global, holder: &mut Holder) -> u8
         (after : Device) × (holder.new.device ≡ Some after)
         × Executes false (record_of before) Cycled (cycle_seen after)
         × After Follows (record_of before) Cycled (cycle_seen after)
-        × (after.journal ≡ before.journal)) }
+        × (after.journal ≡ journal_with before.journal
+        (forgotten (record_of after) before.journal.layer))) }
     ensures told { MatchOption holder.old.device (result ≡ no_device) (λ before. result ≡ done) }
 {
     let Some(mut device) = holder.take(alloc) else {

@@ -16,6 +16,7 @@ ghost use Rattle.tpm_record.specs.IsRecord.{IsRecord};
 ghost use Rattle.tpm_record.specs.Record.{Record, manufactured};
 ghost use Rattle.tpm_step.specs.Events.{Cycled, plain_event};
 ghost use Rattle.tpm_step.specs.Execution.{Executes};
+ghost use Rattle.tpm_completion.specs.Completion.{forgotten};
 ghost use Rattle.tpm_completion.specs.Execution.{CompletesIf};
 ghost use Rattle.tpm_journal.specs.Replay.{Replays};
 ghost use Rattle.tpm_journal.specs.State.{journal_of};
@@ -138,14 +139,17 @@ impl Device {
         tell(&self.outcome, drawn, response)
     }
 
-    /// Power-cycles the device.
+    /// Power-cycles the device. The layer forgets the contexts of sessions, and its sequence
+    /// objects.
     pub fn cycle_power(&mut self)
         ensures executes { Executes false (record_of self.old) Cycled (cycle_seen self.new) }
         ensures history { After Follows (record_of self.old) Cycled (cycle_seen self.new) }
-        ensures journal { self.new.journal ≡ self.old.journal }
+        ensures journal { self.new.journal ≡ journal_with self.old.journal
+            (forgotten (record_of self.new) self.old.journal.layer) }
     {
         self.machine
             .execute_into(&Event::PowerCycle, &mut self.outcome);
+        self.journal.layer.forget(self.machine.keep());
     }
 
     /// Writes the image to the start of a buffer, if it fits. Returns the image's size.

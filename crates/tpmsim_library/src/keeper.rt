@@ -94,7 +94,7 @@ impl DeviceKeeper {
         self.keeper.begin(self.cuts, Job::Execute, text)
     }
 
-    /// Begins the call that opens the device, or creates one with a seed if there is none.
+    /// Begins the call that opens the device, or creates a device with a seed if there is none.
     pub fn begin_device(
         &mut self,
         alloc: Global,
@@ -206,8 +206,8 @@ impl DeviceKeeper {
         put_content(shown, buffer)
     }
 
-    /// Continues the call with the host's report. If an allocation fails, the call ends with that
-    /// fault.
+    /// Continues the call with the host's report. If an allocation fails, the call ends for this
+    /// reason.
     pub fn next(&mut self, got: u8, file: u64, size: u64, bytes: &[u8])
         ensures goes_on { GoesOn (call_of self.old)
             (told_by got (ask_of (view_of self.old)) file size bytes.now) (call_of self.new) }

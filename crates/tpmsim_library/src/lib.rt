@@ -3,8 +3,9 @@
 //! libtpmsim: a device inside the process that uses it, with functions of C linkage. It combines
 //! the machine, whose state is in fixed slots, with its image, state text and journal. [`calls`],
 //! [`completing`], [`snapshots`] and [`journal`] contain the exports for a device, and [`keeping`]
-//! and [`asking`] those for a keeper. An allocator occupies no bytes, so C passes nothing for it.
-//! `library/tpmsim.h` declares the exports for C, and documents what a caller must ensure.
+//! and [`asking`] contain the exports for a keeper. An allocator occupies no bytes, so C passes
+//! nothing for it. `library/tpmsim.h` declares the exports for C, and documents what a caller must
+//! ensure.
 //!
 //! A [`Holder`](holder::Holder) is one pointer, null if there is no device, so zeroed memory is a
 //! valid holder. Each call accepts every holder, and most return a [number](told). If this number

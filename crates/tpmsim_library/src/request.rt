@@ -23,7 +23,7 @@ pub struct Request {
     pub task: u8,
     /// The number that reports how the call ended.
     pub fault: u8,
-    /// 1 if a new journal drops the damage of the old one, otherwise 0.
+    /// 1 if a new journal drops the damage of the old journal, otherwise 0.
     pub drops: u8,
 }
 

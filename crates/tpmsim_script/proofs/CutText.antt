@@ -6,7 +6,7 @@ use Rattle.tpm_bytes.specs.Tap.{AppendsFront}
 use Rattle.tpmsim_script.specs.Answers.{CutOff}
 
 -- If only a prefix of the buffered output was written and the rest was dropped, the new output is a
--- prefix of the old one.
+-- prefix of the old output.
 pub cut_writing : (old new : Option (List ℕ)) (held : List ℕ) → AppendsFront old new held → CutOff (append_known old held) (append_known new [])
 cut_writing None new held h = tt
 cut_writing (Some old) None held h = absurd h.3

@@ -100,7 +100,7 @@ cycled p s old (Err Save) new after is printed cut next err = absurd (save_is_no
 
 -- ---- the saver's notifications
 
--- After the saver was notified, only the writer can fail. Therefore `Told` holds, whatever the
+-- If the saver was notified, and only the writer can have failed, then `Told` holds, whatever the
 -- result is.
 pub told_then : {S : Type 0} (tells : S → Type 0) (old : S) (result : Result (Unit {0}) LineFault) (new : S) → OnErr result (result ≡ Err Write) → tells new → Told tells old result new
 told_then tells old (Ok done) new err told = told

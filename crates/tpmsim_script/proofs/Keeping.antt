@@ -158,7 +158,7 @@ left_start None left start h = tt
 left_start (Some here) None start h = absurd h
 left_start (Some here) (Some left) start h = ap lines_of h
 
--- If the reader failed within a line, neither that line nor any later one was played.
+-- If the reader failed within a line, neither that line nor any later line was played.
 left_unread : (text here left : Option (List ℕ)) (lines : List (List ℕ)) (p : Playing) → LosesLines text lines here → LosesStart here left
     → IfSome text (λ text. (rest : List (List ℕ)) × (lines_of text ≡ lines ++ rest) × Leaves (Err fault.Read) left p rest)
 left_unread None here left lines p h k = tt

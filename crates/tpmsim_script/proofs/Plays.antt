@@ -234,8 +234,8 @@ start_lost (Some text) (Some more) None line rest start h k e unbroken = absurd 
 start_lost (Some text) (Some more) (Some last) line rest start h k e unbroken =
     (start, unbroken, sym h ∙ ap (λ (l : List ℕ). l ++ more) (sym e) ∙ ap (λ (l : List ℕ). start ++ l) (sym k))
 
--- Each read either returns some bytes or is the last one. Therefore each read decreases the measure
--- of the loop.
+-- Each read either returns some bytes or is the last read. Therefore each read decreases the
+-- measure of the loop.
 pub reads_on : (was now : Bool) (line rest longer more : ℕ) → was ≡ false → longer ≡ line + rest → longer ≤ 65536 → now ≡ (more == 0) → cond now 0 (1 + (2 * (65536 - longer) + (1 - more))) < cond was 0 (1 + (2 * (65536 - line) + (1 - rest)))
 reads_on true now line rest longer more w e limit n = absurd (false≢true (sym w))
 reads_on false true line rest longer more w e limit n = omega arith

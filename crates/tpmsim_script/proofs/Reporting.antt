@@ -65,8 +65,10 @@ some_lines (byte ∷ text) some = by_break (byte == 10)
 
 -- ---- the faults so far
 
--- The report of the lines checked so far and that of the remaining lines together are the report of
--- the whole script. Likewise for the first bad line and the number of lines.
+-- The report of the lines checked so far, followed by the report of the remaining lines, is the
+-- report of the whole script. The first bad line of the script is the first bad line so far or, if
+-- there is none, the first bad line of the remaining lines. The lines so far and the remaining
+-- lines are all lines of the script.
 pub record SoFar (text : List ℕ) (first : Option ℕ) (waited number : ℕ) (rest whole : List ℕ) (whole_first : Option ℕ) (lines : ℕ) : Type 0 where
   pub text_is : text ++ flat_map told (left waited number rest) ≡ whole
   pub first_is : option_or first (first_number (left waited number rest)) ≡ whole_first
@@ -100,7 +102,7 @@ turned old new first next waited after number rest line others whole whole_first
       count_is = count_more rest line others number lines cut sofar.count_is;
     }
 
--- If no line remains, the report so far is that of the whole script.
+-- If no line remains, the report so far is the report of the whole script.
 all_told : (text : List ℕ) (first : Option ℕ) (waited number : ℕ) (rest whole : List ℕ) (whole_first : Option ℕ) (lines : ℕ)
     → left waited number rest ≡ [] → SoFar text first waited number rest whole whole_first lines → (text ≡ whole) × (first ≡ whole_first)
 all_told text first waited number rest whole whole_first lines none sofar = (

@@ -1,4 +1,4 @@
--- The faults in the lines of a script, found without running them.
+-- Finds the faults in the lines of a script without running them.
 use Rattle.std.specs.Prelude.{◌≡◌, ℕ, ◌+◌, ◌^◌, ◌&&◌, nat_le, nat_lt, not, if◌then◌else◌}
 use Rattle.std.specs.Prelude.{List, [], ◌∷◌, ◌++◌, length, Option, Some, None, Result, Ok, Err, ok_or}
 use Rattle.tpm_bytes.specs.Reading.{◌>>=◌, refused_if}
@@ -10,27 +10,29 @@ use Rattle.tpmsim_script.specs.Line.{SetsEntropy, CyclesPower, DoesNothing, byte
 use Rattle.tpmsim_script.specs.declared.bad_line.BadLine.{BadLine}
 use Rattle.tpmsim_script.specs.declared.bad_line.Wanted.TheVariants as wanted
 
--- the milliseconds waited since the last command, after a line with a command in words: 0, or the
--- reason why the line is bad
+-- checks a line with a command in words. The result is the milliseconds waited since this command,
+-- which are 0, or the reason why the line is bad
 abbrev pub assembly_check : Result (List ℕ) AsmFault → Result ℕ BadLine
 assembly_check (Ok buffer) = Ok 0
 assembly_check (Err fault) = Err (record { fault = fault; wanted = wanted.Command })
 
--- the milliseconds waited since the last command, after one more wait; they must be below 2^32
+-- checks a line that waits. The result is the new number of milliseconds waited since the last
+-- command, which must be below 2^32
 abbrev pub wait_check : (waited milliseconds : ℕ) → Result ℕ BadLine
 wait_check waited milliseconds =
     if nat_lt (waited + milliseconds) (2 ^ 32) then Ok (waited + milliseconds)
     else Err (too_large wanted.Milliseconds)
 
--- the check of a line that sets the random bytes. At least 1 and at most 256 bytes are allowed. The
--- milliseconds waited are unchanged
+-- checks a line that sets the random bytes: 1 to 256 bytes are allowed. The milliseconds waited are
+-- unchanged
 abbrev pub entropy_check : (waited : ℕ) → List ℕ → Result ℕ BadLine
 entropy_check waited entropy =
     if nat_lt 0 (length entropy) && nat_le (length entropy) 256 then Ok waited
     else Err (misplaced wanted.Entropy)
 
--- the milliseconds waited since the last command, after a line with this meaning, or the reason why
--- the line is bad; `waited` is their number before the line
+-- checks a line with this meaning. `waited` is the number of milliseconds that the earlier lines
+-- waited since the last command. The result is the number after this line, or the reason why the
+-- line is bad
 abbrev pub check : (waited : ℕ) → Meaning → Result ℕ BadLine
 check waited (Executes digits) = do
   buffer ← ok_or (bytes_of digits) (misplaced wanted.Hex)
@@ -44,8 +46,9 @@ check waited (SetsEntropy digits) = do
 check waited CyclesPower = Ok waited
 check waited DoesNothing = Ok waited
 
--- the milliseconds waited since the last command, after this line, or the reason why the line is
--- bad; every line of over 65,536 bytes is bad
+-- checks a line. `waited` is the number of milliseconds that the earlier lines waited since the
+-- last command. The result is the number after this line, or the reason why the line is bad. A line
+-- of more than 65,536 bytes is bad
 unfoldable pub line_check : (waited : ℕ) → List ℕ → Result ℕ BadLine
 line_check waited line = do
   short ← refused_if (not (nat_le (length line) 65536)) long_line

@@ -47,17 +47,17 @@ PlaysLines {S = S} saves saves_change old (line ∷ lines) text new =
     × PlaysLine saves saves_change old line first mid
     × PlaysLines saves saves_change mid lines more new
 
--- The number of lines that were played. If a line is bad, all lines before it were played. If the
--- script has too many lines, as many as a script may have were played.
+-- `count` lines were played. If a line is bad, these are all lines before the bad line. If the
+-- script has too many lines, as many lines were played as a script may have.
 abbrev pub Counts : Result (Unit {0}) ScriptFault → ℕ → Type 0
 Counts (Err (fault.Line number)) count = number ≡ count + 1
 Counts (Err fault.TooManyLines) count = count ≡ 1048576
 Counts other count = Unit {0}
 
--- The lines that a run has not played. If the run ended well, there are none. If it stopped at a
--- bad line, they are that line and all later ones. If the reader failed, they are the line that it
--- had begun to return and all later ones; `left` is the text that it has not returned. If there
--- were too many lines, at least one was not played.
+-- The lines `rest` were not played. If the run ended well, there are none. If it stopped at a bad
+-- line, they begin with the bad line. If the reader failed, they begin with the line that the
+-- reader had begun to return; `left` is the text that the reader has not returned. If there were
+-- too many lines, there is at least one.
 abbrev pub Leaves : Result (Unit {0}) ScriptFault → (left : Option (List ℕ)) → Playing
     → List (List ℕ) → Type 0
 Leaves (Ok done) left p rest = rest ≡ []
@@ -91,10 +91,10 @@ pub record Played {S : Type 0} (saves saves_change : S → Record → S → Type
   pub written : Writes result old new print
   pub last : Last end
 
--- A run saved its device: the output is that of the played lines, and the saver was notified as
+-- A run saved its device: it wrote the output of the played lines, and notified the saver as
 -- `Tells` defines. The state after these lines satisfies `Last`. If a save failed at a line, that
--- line does not count as played, and none of its output was written. In that case `Last` is not
--- claimed, and if the writer failed too, the output is unspecified.
+-- line does not count as played, and none of its output was written. In that case, `Last` is not
+-- claimed. If the writer failed too, or if memory ran out, nothing is claimed.
 abbrev pub KeepsDevice : {S : Type 0} → (saves saves_change : S → Record → S → Type 0)
     → (text left old new : Option (List ℕ)) → (writer : Marks) → Kept S
     → Result (Unit {0}) ScriptFault → (Last : Kept S → Type 0) → Type 0

@@ -21,7 +21,7 @@ abbrev pub IsUnbroken : List ℕ → Type 0
 IsUnbroken bytes = All (λ byte. (byte == 10) ≡ false) bytes
 
 -- the result of a search that found no end of a line. If the reader has not ended, more bytes may
--- follow. If it has ended, the line is the last one, or the text is at its end
+-- follow. If it has ended, the line is the last line, or the text is at its end
 abbrev pub next_at : Bool → List ℕ → Next
 next_at false line = Incomplete
 next_at true [] = End
@@ -38,7 +38,7 @@ BeginsTooLong text =
     × (lines_of text ≡ line ∷ rest) × (65536 < length line)
 
 -- The result of a search for the next line is correct for all bytes that the reader may return from
--- now on. The next line is this one, or is too long, or is incomplete, or does not exist.
+-- now on. The next line was found, or is too long, or is incomplete, or does not exist.
 abbrev pub Finds : Lines → Next → Lines → Type 0
 Finds old Line new = (more : List ℕ) → MayFollow old more
     → lines_of (line_of old ++ (rest_of old ++ more))

@@ -39,11 +39,12 @@ abbrev pub fault_text : (number : ℕ) → AsmFault → (wanted : List ℕ) → 
 fault_text number fault wanted =
     codes "line " ++ decimal number ++ codes ": " ++ fault_name fault ++ codes ": " ++ wanted
 
--- the report of a bad line, as a line of text
+-- the line of text that reports a bad line
 abbrev pub told : Fault → List ℕ
 told f = fault_text f.number f.bad.fault (wanted_text f.bad.wanted f.line f.bad.fault) ++ 10 ∷ []
 
--- the faults of a script; lines beyond the largest number of lines are not checked
+-- the faults in the first 1,048,576 lines of a script; a script may not have more lines, and later
+-- lines are not checked
 abbrev pub script_faults : List ℕ → List Fault
 script_faults text = faults_of 0 1 (take 1048576 (lines_of text))
 

@@ -157,8 +157,8 @@ play p number (line ∷ lines) =
 abbrev pub IsOutput : Option (List ℕ) → Option (List ℕ) → Option ℕ → Output → Type 0
 IsOutput old new bad output = Appends old new output.text × (output.bad ≡ bad)
 
--- A run wrote, after the old contents of the writer (`old`), the output of the lines of the text,
--- played from the state `p` on; `number` is the number of the first line. `bad` is the number of
+-- A run played the lines of the text from the state `p` on. It wrote their output after the old
+-- contents of the writer (`old`). `number` is the number of the first line. `bad` is the number of
 -- the first bad line, if any. Nothing is claimed if the text that the reader returns is unknown.
 -- Nothing is claimed about the output if the writer's contents are unknown.
 abbrev pub Plays : Option (List ℕ) → Option (List ℕ) → Option (List ℕ)

@@ -1,9 +1,9 @@
 #![tactic(auto)]
 
 //! Scripts of commands: [`run::run_device`] plays a script on a device and writes the device's
-//! responses, and [`run::run_script`] plays one on a new device. [`checker::Checker`] reads the
-//! lines without running them, and [`report::report_of`] reports their faults, one line of text for
-//! each bad line.
+//! responses, and [`run::run_script`] does the same on a new device. [`checker::Checker`] checks
+//! the lines without running them, and [`report::report_of`] reports their faults, one line of text
+//! for each bad line.
 //!
 //! A script is a text whose lines are read one after another ([`lines`], [`line`]). A line sets
 //! values for the next command ([`script`]), or is performed on the device ([`player`]). The bytes

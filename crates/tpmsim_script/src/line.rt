@@ -31,7 +31,7 @@ pub enum Line<'a> {
     Entropy(&'a [u8]),
     /// `power`: a power cycle.
     PowerCycle,
-    /// An empty line, or one that begins with `#`.
+    /// An empty line, or a line that begins with `#`.
     Nothing,
 }
 

@@ -12,7 +12,7 @@ use tpm_text::AsmFault;
 pub enum LineFault {
     /// The line is not allowed in a script.
     Bad,
-    /// The line's response, or one before it, could not be written.
+    /// The line's response, or an earlier response, could not be written.
     Write,
     /// The device could not be saved.
     Save,

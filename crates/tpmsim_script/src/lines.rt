@@ -21,7 +21,7 @@ const CAPACITY: usize = 65_536;
 pub enum Next {
     /// A whole line, which [`Lines::line`] returns.
     Line,
-    /// A line of more than [`LINE_LIMIT`] bytes, or the start of one.
+    /// A line of more than [`LINE_LIMIT`] bytes, or the start of such a line.
     TooLong,
     /// The start of a line, or nothing: more bytes have to be read.
     Incomplete,
@@ -33,8 +33,8 @@ pub enum Next {
 #[derive(Clone, Copy, PartialEq, Eq)]
 struct TooLong;
 
-/// The lines of a text. Each ends with 0a, which is optional for the last one. The size of this
-/// type does not depend on the text.
+/// The lines of a text. Each line ends with 0a, which is optional for the last line. The size of
+/// this type does not depend on the text.
 #[derive(Drop)]
 pub struct Lines {
     /// The line that was found last, or as much of the next line as has been read.

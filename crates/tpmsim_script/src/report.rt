@@ -1,4 +1,4 @@
-//! The report of a script.
+//! Reports the bad lines of a script, and how a run of the script would end.
 
 ghost use Rattle.std.specs.Prelude.{◌≡◌, IfOk};
 ghost use Rattle.tpmsim_script.specs.Report.{end_of, report_end, report_text};

@@ -86,7 +86,7 @@ pub fn run_device<K: Keep, S: Saver, R: Read, W: Write>(
     writer: &mut Tap<W>,
     trace: bool,
 ) -> Result<(), ScriptFault>
-    // If allocations never fail, the output is the one defined for the script, to its end or to its
+    // If allocations never fail, the output is as defined for the script, to its end or to its
     // first bad line.
     ensures played { K.can_refuse ≡ false → Ran (Plays (R.remaining (device_of reader.old))
         (W.contents (device_of writer.old)) (W.contents (device_of writer.new))

@@ -1,6 +1,6 @@
--- The box of a device, the pointer to it, and the calls that convert between the two. `Words`
--- defines the machine words of each, `Calls` what each call requires and returns, and `Held` what
--- a holder owns.
+-- Lemmas about the box of a device, the pointer to the box, and the calls that convert the one to
+-- the other. `Words` defines the machine words of both, `Calls` says what each call requires and
+-- returns, and `Held` says what a holder owns.
 use Rattle.std.proofs.BoxSteps.Form.{Bx}
 use Rattle.tpmsim_web.specs.contracts.lent.LentAllocator.TheImpl.{dict, ghosts}
 use Rattle.tpmsim_web.proofs.Boxes.Calls.{plain_drop}

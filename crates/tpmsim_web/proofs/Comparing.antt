@@ -1,4 +1,5 @@
--- The token for an address in the page's memory allows comparing it with null, and nothing else.
+-- The token for an address in the page's memory allows comparing the address with null, and nothing
+-- else.
 use mir.Syntax.{Ty}
 use seplogic.Ra.Ura.{Ura}
 use base.Logic.{ent, id⊢}

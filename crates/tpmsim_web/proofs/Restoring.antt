@@ -1,5 +1,5 @@
 -- Restoring from the state text of a device yields that device, with its layer and its history. If
--- the bytes are not a state text, the reported error is the first one in the bytes.
+-- the bytes are not a state text, the reported error is the first error in the bytes.
 use Rattle.std.proofs.Common.{◌≡◌, ℕ, List, Err, sym, ap, subst, ◌∙◌}
 use Rattle.tpm_machine.specs.Follows.{Follows}
 use Rattle.tpm_machine.specs.History.{History}
@@ -17,7 +17,7 @@ use Rattle.tpmsim_web.specs.State.{record_of, whole_state}
 use Rattle.tpmsim_web.specs.Told.{restore_number, state_number}
 use Rattle.tpmsim_web.specs.declared.device.Device.{Device}
 
--- The reported number is that of the first error in the bytes.
+-- The reported number is the number of the first error in the bytes.
 pub fault_told : (device : Device) (text : List ℕ) (fault : RestoreFault) (told : ℕ) → told ≡ restore_number fault → RestoresDevice device text (Err fault) → (f : StateFault) × (told ≡ state_number f) × (state_of_text text ≡ Err f)
 fault_told device text (unrestored.Text f) told is read = (f, is, read)
 fault_told device text unrestored.NoMemory told is never = absurd never

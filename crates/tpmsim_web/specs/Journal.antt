@@ -116,7 +116,7 @@ abbrev pub HasFault : List ℕ → OpenFault → Type 0
 HasFault text fault = (new : Record) × OpensJournal text (Err fault) new
 
 -- A device was opened from a journal whose head and entries are `taken` bytes long, or the journal
--- has this error, or an allocation failed.
+-- has this error, or an allocation failed. If no device was opened, `taken` has its old value.
 abbrev pub OpensDevice : {B : Type 0} → (B → Device) → List ℕ → (old : ℕ)
     → Option (Result B OpenFault) → (taken : ℕ) → Type 0
 OpensDevice device_in text old (Some (Ok opened)) taken = IsOfJournal text taken (device_in opened)

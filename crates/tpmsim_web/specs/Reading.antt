@@ -11,8 +11,7 @@ use Rattle.tpmsim_script.specs.Report.{wanted_text}
 use Rattle.tpmsim_script.specs.declared.bad_line.BadLine.{BadLine}
 use Rattle.tpmsim_web.specs.declared.read_line.ReadLine.{ReadLine}
 
--- the number of an error in a command in words, and the column of the wrong token, which is 0 if
--- there is none
+-- the number of an error in a command in words
 abbrev pub fault_kind : AsmFault → ℕ
 fault_kind fault.BadName = 1
 fault_kind (fault.BadField column) = 2
@@ -21,6 +20,7 @@ fault_kind (fault.Range column) = 4
 fault_kind fault.TooLong = 5
 fault_kind fault.NoMemory = 6
 
+-- the column of the wrong token; 0 if no token is wrong
 abbrev pub fault_column : AsmFault → ℕ
 fault_column fault.BadName = 0
 fault_column (fault.BadField column) = column
@@ -30,7 +30,7 @@ fault_column fault.TooLong = 0
 fault_column fault.NoMemory = 0
 
 -- The call returned the meaning of a line, with the bytes of its command or its entropy. For a
--- command, it also returned the milliseconds since the previous one (`waited`).
+-- command, it also returned the milliseconds since the previous command (`waited`).
 abbrev pub Says : Meaning → (waited : ℕ) → ReadLine → (bytes : List ℕ) → Type 0
 Says (Executes digits) waited read bytes =
     (read.kind ≡ 1) × (read.number ≡ waited) × (bytes_of digits ≡ Some bytes)

@@ -10,7 +10,7 @@ use Rattle.tpm_state_text.specs.declared.layer.Layer.{Layer}
 use Rattle.tpmsim_web.specs.State.{record_of}
 use Rattle.tpmsim_web.specs.declared.device.Device.{Device}
 
--- the journal of a restored device, which is not started yet; its layer is the one in the state
+-- the journal of a restored device, which is not started yet; its layer is the layer in the state
 -- text
 abbrev pub journal_restored : Option Layer → Journal
 journal_restored layer = record { sum = 0; time = 0; layer = completion_of layer }
@@ -22,7 +22,7 @@ IsOfState text device =
     × (device.journal ≡ journal_restored layer)
 
 -- The device was restored from the state text, and has its state; or the returned error is the
--- first one in the bytes. No allocation fails.
+-- first error in the bytes. No allocation fails.
 abbrev pub RestoresDevice : Device → List ℕ → Result (Unit {0}) RestoreFault → Type 0
 RestoresDevice restored text (Ok done) = IsOfState text restored
 RestoresDevice restored text (Err (unrestored.Text fault)) = state_of_text text ≡ Err fault

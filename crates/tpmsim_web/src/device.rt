@@ -3,6 +3,7 @@
 ghost use Rattle.std.specs.Prelude.{◌≡◌, ◌∷◌, ◌≤◌, [], IfErr, IfOk, OnErr, OnOk, drop, false, length};
 ghost use Rattle.std.specs.Prelude.{take, true};
 ghost use Rattle.tpm_journal.specs.State.{journal_of};
+ghost use Rattle.tpm_completion.specs.Completion.{forgotten};
 ghost use Rattle.tpm_completion.specs.Execution.{CompletesIf};
 ghost use Rattle.tpm_image_text.specs.Image.{IsImage, image_text};
 ghost use Rattle.tpm_image_text.specs.KeptText.{kept_text};
@@ -38,7 +39,7 @@ use tpm_step::{Event, Outcome};
 use tpm_text::{trace_text, traceable_laws};
 
 /// A device, the outcome of its last event (which the next event overwrites), and the state of its
-/// journal, which includes that of the completing layer.
+/// journal, which includes the state of the completing layer.
 #[derive(Drop)]
 pub struct Device {
     pub(crate) machine: Machine<SlotKeep>,
@@ -129,14 +130,17 @@ impl Device {
         tell(&self.outcome, drawn, 0, response)
     }
 
-    /// Power-cycles the device.
+    /// Power-cycles the device. The layer forgets the contexts of sessions, and its sequence
+    /// objects.
     pub fn cycle_power(&mut self)
         ensures executes { Executes false (record_of self.old) Cycled (cycle_seen self.new) }
         ensures history { After Follows (record_of self.old) Cycled (cycle_seen self.new) }
-        ensures journal { self.new.journal ≡ self.old.journal }
+        ensures journal { self.new.journal ≡ journal_with self.old.journal
+            (forgotten (record_of self.new) self.old.journal.layer) }
     {
         self.machine
             .execute_into(&Event::PowerCycle, &mut self.outcome);
+        self.journal.layer.forget(self.machine.keep());
     }
 
     /// Writes the image to the start of a buffer, if it fits. Returns the image's size.
@@ -155,7 +159,7 @@ impl Device {
         kept_into(&self.machine, buffer)
     }
 
-    /// Turns this device into that of an image, after a power cycle. On error the device is
+    /// Turns this device into the device of an image, after a power cycle. On error the device is
     /// unchanged.
     pub fn open(&mut self, alloc: Global, image: &[u8]) -> Result<(), ImageFault>
         ensures exact { Opens (λ done. record_of self.new) false image.now result }
@@ -182,7 +186,7 @@ impl Device {
         snapshot_into(&self.machine, Some(&layer), buffer)
     }
 
-    /// Turns this device into that of a state text. On error the device is unchanged.
+    /// Turns this device into the device of a state text. On error the device is unchanged.
     pub fn restore(&mut self, alloc: Global, text: &[u8]) -> Result<(), RestoreFault>
         ensures restores { RestoresDevice self.new text.now result }
         ensures kept { OnErr result (self.new ≡ self.old) }

@@ -17,7 +17,7 @@ pub struct ReadLine {
     /// The size of the message that says what was expected at the error.
     pub wanted: usize,
     /// The number of a locality, the milliseconds of a wait, or, for a command, the milliseconds
-    /// since the previous one.
+    /// since the previous command.
     pub number: u32,
     /// The kind of the line.
     pub kind: u8,

@@ -53,7 +53,7 @@ impl Device {
         self.journal.checkpoint(&self.machine, clock_ms, buffer)
     }
 
-    /// Turns this device into that of a journal. Returns the size of the journal's head and
+    /// Turns this device into the device of a journal. Returns the size of the journal's head and
     /// entries. On error, the device is unchanged.
     pub fn open_journal(&mut self, alloc: Global, text: &[u8]) -> Result<usize, OpenFault>
         ensures opens { IfOk result (λ taken. IsOfJournal text.now taken self.new) }

@@ -1,6 +1,6 @@
 // A secret is sent to the TPM in encrypted form. The session is bound to the owner, whose
-// authorization value is not sent at all. An eavesdropper learns neither of them, and cannot replay
-// the commands.
+// authorization value is not sent at all. An eavesdropper learns neither the secret nor this value,
+// and cannot replay the commands.
 package main
 
 import (

@@ -159,11 +159,10 @@ class Auditor:
 
     def refuse(self, seen: Seen) -> None:
         self.guesses.refuse(seen, self.grounds)
-        if seen.explained is not None and seen.explained.layer:
-            self.counts.layer += 1
-        else:
-            self.counts.refused += 1
-            self.uses.refuse(seen)
+        is_of_layer = seen.explained is not None and bool(seen.explained.layer)
+        self.counts.layer += is_of_layer
+        self.counts.refused += not is_of_layer
+        self.uses.refuse(seen)
         self.refusals.note(seen)
 
     def accept(self, seen: Seen) -> None:

@@ -67,7 +67,7 @@ class Guesses:
         """
         self.stretch.elapsed += seen.elapsed
         name, _, place = (seen.outcome.refused or "").partition("/s")
-        if name not in (COUNTED, NOT_COUNTED) or not place:
+        if name not in (COUNTED, NOT_COUNTED) or not place or seen.known is None:
             return
         touched = self.touched(list(grounds.uses(seen))[int(place) - 1])
         if (touched is None) != (name == NOT_COUNTED):

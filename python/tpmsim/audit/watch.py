@@ -91,6 +91,14 @@ class Seen:
         return self.explained.outcome
 
     @property
+    def of_device(self) -> Outcome:
+        """The outcome of the latest command that the device executed: the one that the completing
+        layer sent, if it sent one.
+        """
+        assert self.explained is not None
+        return self.explained.sent or self.outcome
+
+    @property
     def names(self) -> list[bytes]:
         return [it.name for it in self.views]
 
@@ -101,7 +109,7 @@ class Seen:
     @property
     def is_refused_entry(self) -> bool:
         is_refused = self.event is None and self.explained is not None
-        return is_refused and is_of_entry(self.outcome.row.check, self.outcome.refused)
+        return is_refused and is_of_entry(self.of_device.row.check, self.of_device.refused)
 
     def view(self, handle: int) -> View:
         return self.views[self.command.handles.index(handle)]

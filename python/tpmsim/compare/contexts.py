@@ -1,5 +1,5 @@
-"""Contexts of objects and sessions. For this device, the completing layer makes them; the other TPM
-makes its own.
+"""Contexts of objects and sessions, and sequence objects. For this device, the completing layer
+makes them; the other TPM makes its own.
 """
 
 from __future__ import annotations
@@ -10,10 +10,20 @@ from typing import TYPE_CHECKING
 from tpmsim.device import Unsupported
 from tpmsim.model.completion import Asked, asked_of, CONTEXT_LOAD, CONTEXT_SAVE, names_session
 from tpmsim.model.completion import numbers_of
-from tpmsim.standard import command, number
+from tpmsim.model.sequence_commands import EVENT_SEQUENCE_COMPLETE, HASH_SEQUENCE_START, HMAC_START
+from tpmsim.model.sequence_commands import SEQUENCE_COMPLETE, SEQUENCE_UPDATE
+from tpmsim.standard import command, HEADER_BYTES, number
 
 if TYPE_CHECKING:
     from tpmsim.compare.translation import Translation
+
+
+# The commands that start a sequence, and the number of handles of each command on sequences.
+STARTS = HASH_SEQUENCE_START, HMAC_START
+HANDLES = {
+    **{HMAC_START: 1, SEQUENCE_UPDATE: 1, SEQUENCE_COMPLETE: 1},
+    **{EVENT_SEQUENCE_COMPLETE: 2, HASH_SEQUENCE_START: 0},
+}
 
 
 @dataclass(frozen=True)
@@ -36,6 +46,8 @@ class Contexts:
         Raises Unsupported for a context from elsewhere, because no context works on both TPMs.
         """
         asked = asked_of(buffer)
+        if code_of(buffer) in HANDLES:
+            return self.on_sequences(buffer)
         if asked is None:
             return buffer
         handle = handle_of(asked)
@@ -47,9 +59,20 @@ class Contexts:
             raise Unsupported("a context that was not answered")
         return command(CONTEXT_LOAD, self.kept[asked.parameters].text)
 
+    def on_sequences(self, buffer: bytes) -> bytes:
+        """Returns a command on sequences with the other TPM's handles."""
+        end = HEADER_BYTES + 4 * HANDLES[code_of(buffer)]
+        if len(buffer) < end:
+            return buffer
+        handles = (int.from_bytes(buffer[at : at + 4], "big") for at in range(HEADER_BYTES, end, 4))
+        there = b"".join(number(self.translation.handle(it), 4) for it in handles)
+        return buffer[:HEADER_BYTES] + there + buffer[end:]
+
     def note(self, buffer: bytes, here: bytes, there: bytes) -> None:
         """Notes a command that both TPMs have executed, with its two responses."""
         asked = asked_of(buffer)
+        if code_of(buffer) in STARTS:
+            self.loaded(int.from_bytes(here[10:14], "big"), there, None)
         if asked is None:
             return
         handle = handle_of(asked)
@@ -62,8 +85,10 @@ class Contexts:
             self.loaded(int.from_bytes(here[10:14], "big"), there, self.kept.get(asked.parameters))
 
     def lose(self, buffer: bytes, here: bytes, line: int) -> None:
-        """Notes an object or a session that a line of the script loaded on this device only."""
-        if loads_context(buffer):
+        """Notes an object, a session or a sequence that a line of the script loaded on this device
+        only.
+        """
+        if loads(buffer):
             self.translation.lost[int.from_bytes(here[10:14], "big")] = line
 
     def power_cycle(self) -> None:
@@ -81,10 +106,15 @@ class Contexts:
             self.translation.known.note(other, kept.name, kept.auth_value)
 
 
-def loads_context(buffer: bytes) -> bool:
-    """Whether a command is TPM2_ContextLoad."""
+def code_of(buffer: bytes) -> int:
+    return int.from_bytes(buffer[6:HEADER_BYTES], "big")
+
+
+def loads(buffer: bytes) -> bool:
+    """Whether a command is TPM2_ContextLoad, or starts a sequence."""
     asked = asked_of(buffer)
-    return asked is not None and asked.code == CONTEXT_LOAD
+    is_load = asked is not None and asked.code == CONTEXT_LOAD
+    return is_load or code_of(buffer) in STARTS
 
 
 def handle_of(asked: Asked) -> int | None:

@@ -4,7 +4,7 @@ from dataclasses import dataclass, field, replace
 
 from tpmsim import records
 from tpmsim.caller.entries import Prepared
-from tpmsim.compare.contexts import loads_context
+from tpmsim.compare.contexts import loads
 from tpmsim.compare.differences import between, code_word, Difference
 from tpmsim.compare.reference import parsed, Received, Reference
 from tpmsim.compare.translation import NotComparable, Translation
@@ -211,7 +211,7 @@ class Comparison:
             contexts.note(event.buffer, event.response, response)
         elif is_here:
             contexts.lose(event.buffer, event.response, self.line)
-        elif is_there and loads_context(event.buffer):
+        elif is_there and loads(event.buffer):
             # Removes what this command loaded only on the other TPM.
             self.flush(int.from_bytes(response[10:14], "big"))
 

@@ -138,7 +138,7 @@ NAME = "libtpmsim.so.0"
 RESPONSE_BYTES = 4096
 
 # The size of a buffer that can hold any image and any state text.
-TEXT_BYTES = 36_195
+TEXT_BYTES = 36_930
 
 # The results of a call (library/tpmsim.h): NO_MEMORY, the faults of an image from 4 on, and those
 # of a state text from 13 on.

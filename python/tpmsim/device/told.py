@@ -11,6 +11,7 @@ from tpmsim.device.base import Answered, BadImage, BadState, checked_locality, D
 from tpmsim.device.base import Executed, Snapshot, Transport, Unsupported
 from tpmsim.faults import TpmsimError
 from tpmsim.model import image as images, state_text
+from tpmsim.model.completion import Completion
 from tpmsim.model.machine import MANUFACTURED, Model
 from tpmsim.model.state_text import Layer
 from tpmsim.standard.aes_tables import encrypt_block
@@ -258,7 +259,7 @@ class ModelDevice(Device):
     def __init__(self, model: Model | None = None, seed: bytes | None = None) -> None:
         super().__init__(seed=seed)
         self.model = model or Model(MANUFACTURED, encrypt_block)
-        self.layer = Layer()  # no command of this device changes the layer
+        self.layer = Layer()  # this device's commands only end what the layer remembers
         self.begun = b"" if model is None else self.save()
 
     def begin(self, image: bytes) -> None:
@@ -282,12 +283,20 @@ class ModelDevice(Device):
     def answer(self, buffer: bytes, locality: int, elapsed: int, random: bytes) -> Executed:
         """Executes a command on the model."""
         outcome = self.to_its_end(lambda: self.model.execute(buffer, locality, random, elapsed))
+        self.forget()
         row = outcome.row
         return Executed(buffer, outcome.response, locality, elapsed, random, row.check, row.code)
 
     def cycle(self) -> None:
         """Power-cycles the model."""
         self.to_its_end(self.model.power_cycle)
+        self.forget()
+
+    def forget(self) -> None:
+        """Forgets what ended with the latest event: contexts of sessions, and sequence objects."""
+        layer = Completion.of(self.layer)
+        layer.forget(self.model)
+        self.layer = layer.numbers
 
     def save(self) -> bytes:
         return images.image(self.model)

@@ -1,7 +1,7 @@
 """Finds the byte at which the parameters of a command are wrong, and what was expected there (G11).
 """
 
-from typing import Callable, Iterable, TypeVar
+from typing import Any, Callable, Sequence
 
 from tpmsim.explain import dissection, ingredients
 from tpmsim.explain.dissection import Field
@@ -11,108 +11,34 @@ from tpmsim.faults import TpmsimError
 from tpmsim.model.general import Refusal
 from tpmsim.model.machine import ROWS
 from tpmsim.model.parameters import Parameters, Request
-from tpmsim.standard import CC, DIGEST_BYTES, nv, objects
-
-T = TypeVar("T")
-
-
-class Trace:
-    """The offset where parsing stopped, what was expected and found there, and whether a structure
-    ended there.
-    """
-
-    def __init__(self) -> None:
-        self.at, self.wanted, self.had, self.ends_structure = 0, "", "", False
-        self.last_at, self.last_size = 0, 0
-        self.is_set = False
-
-    def set(self, at: int, wanted: str, had: str, ends_structure: bool = False) -> None:
-        if not self.is_set:
-            self.at, self.wanted, self.had, self.is_set = at, wanted, had, True
-            self.ends_structure = ends_structure
+from tpmsim.standard import CC, nv, objects
 
 
 class Whole(TpmsimError):
     """All parameters were parsed, and none is wrong."""
 
 
-class Traced(Parameters):
-    """Parameters that record where their parsing stops, before the command has any effect. They
-    start at the offset `base`.
-    """
-
-    def __init__(
-        self, data: bytes, base: int, trace: Trace, place: int = 0, short: str = "INSUFFICIENT"
-    ) -> None:
-        super().__init__(data, place, short)
-        self.base, self.size, self.trace = base, len(data), trace
-
-    @property
-    def at(self) -> int:
-        return self.base + self.size - len(self.fields.data)
-
-    def take(self, count: int) -> bytes:
-        left = len(self.fields.data)
-        if count > left:
-            ends_structure = self.short == "SIZE"
-            self.trace.set(self.at, size_words(count), size_words(left), ends_structure)
-        self.trace.last_at, self.trace.last_size = self.at, count
-        return super().take(count)
-
-    def refusal(self, code: str) -> Refusal:
-        at, size = self.trace.last_at, self.trace.last_size
-        self.trace.set(at, "", f"{size} bytes")
-        return super().refusal(code)
-
-    def one_of(self, size: int, allowed: Iterable[int], code: str) -> int:
-        those, at = list(allowed), self.at
-        value = self.number(size)
-        if value not in those:
-            self.trace.set(at, one_of_words(those, size), f"{value:0{2 * size}x}")
-            raise self.refusal(code)
-        return value
-
-    def sized(self, most: int) -> bytes:
-        at, size = self.at, self.number(2)
-        if size > most:
-            self.trace.set(at, f"a size of at most {most:,}", f"{size:04x}, which is {size:,}")
-            raise self.refusal("SIZE")
-        return self.take(size)
-
-    def structure(self, read: Callable[[Parameters], T]) -> T:
-        size = self.number(2)
-        at = self.at
-        fields = Traced(self.take(size), at, self.trace, self.place, "SIZE")
-        value = read(fields)
-        if fields.fields.data:
-            left = len(fields.fields.data)
-            self.trace.set(fields.at, "the end of the structure", f"{size_words(left)} more", True)
-            raise self.refusal("SIZE")
-        return value
-
-    def count(self, most: int) -> int:
-        at, count = self.at, self.number(4)
-        if count > most:
-            self.trace.set(at, f"a count of at most {most}", f"{count:08x}, which is {count:,}")
-            raise self.refusal("SIZE")
-        return count
-
-    def sized_list(self, least: int, most: int) -> list[bytes]:
-        at, count = self.at, self.count(most)
-        if count < least:
-            self.trace.set(at, f"a count of at least {least}", f"{count:08x}, which is {count}")
-            raise self.refusal("SIZE")
-        return [self.sized(DIGEST_BYTES) for _ in range(count)]
+class Parsed(Parameters):
+    """Parameters that are only parsed, so that the command has no effect."""
 
     def end(self) -> None:
-        left = len(self.fields.data)
-        if left:
-            self.trace.set(self.at, "the end of the command", f"{size_words(left)} more")
         super().end()
         raise Whole
 
 
-def one_of_words(allowed: list[int], size: int) -> str:
+def is_well_formed(scene: Scene, plain: bytes) -> bool:
+    """Returns whether the command would accept the form of these parameters."""
+    request = Request(scene.command.handles, Parsed(plain), scene.locality, scene.random)
+    try:
+        ROWS[scene.command.code](scene.model, request)
+    except Refusal:
+        return False
+    except Whole:
+        pass
+    return True
+
+
+def one_of_words(allowed: Sequence[int], size: int) -> str:
     if len(allowed) > 4:
         return f"{allowed[0]:0{2 * size}x} to {allowed[-1]:0{2 * size}x}"
     spelled = [(f"{it:0{2 * size}x}", algorithm_words(it)) for it in allowed]
@@ -120,32 +46,42 @@ def one_of_words(allowed: list[int], size: int) -> str:
     return " or ".join(f"{it} ({name})" if is_named and name != it else it for it, name in spelled)
 
 
-def read_again(scene: Scene, plain: bytes) -> tuple[Trace, str]:
-    """Returns where parsing of these parameters stops, and the response code, which is empty on
-    success.
-    """
-    trace, command = Trace(), scene.command
-    parameters = Traced(plain, scene.parameters_at, trace)
-    request = Request(command.handles, parameters, scene.locality, scene.random)
-    try:
-        ROWS[command.code](scene.model, request)
-    except Refusal as refusal:
-        return trace, refusal.name
-    except Whole:
-        pass
-    return trace, ""
+# What a refusal says was expected, by its operand `expected`, and what was found, in words.
+Operands = dict[str, Any]
+BOTH: dict[str, Callable[[Operands], tuple[str, str]]] = {
+    "bytes": lambda it: (size_words(it["count"]), size_words(it["left"])),
+    "one of": lambda it: (
+        one_of_words(it["allowed"], it["size"]),
+        f"{it['value']:0{2 * it['size']}x}",
+    ),
+    "size": lambda it: (
+        f"a size of at most {it['most']:,}",
+        f"{it['size']:04x}, which is {it['size']:,}",
+    ),
+    "count": lambda it: (
+        f"a count of at most {it['most']}",
+        f"{it['count']:08x}, which is {it['count']:,}",
+    ),
+    "least": lambda it: (
+        f"a count of at least {it['least']}",
+        f"{it['count']:08x}, which is {it['count']}",
+    ),
+    "structure": lambda it: ("the end of the structure", f"{size_words(it['left'])} more"),
+    "end": lambda it: ("the end of the command", f"{size_words(it['left'])} more"),
+}
 
 
 def reason(scene: Scene) -> Reason:
     assert scene.plain is not None
-    trace, _ = read_again(scene, scene.plain)
-    at, field = trace.at, field_at(scene, trace.at)
-    found = Reason(rule_of(scene, trace, field), "", at=at)
-    wanted, had = trace.wanted, trace.had
-    if not wanted:
-        wanted = wanted_by_code(scene, field)
-        buffer = scene.buffer[: scene.parameters_at] + scene.plain
-        had = buffer[at : at + trace.last_size].hex()
+    operands = scene.operands
+    at = scene.parameters_at + operands["at"]
+    field = field_at(scene, at)
+    found = Reason(rule_of(scene, field), "", at=at)
+    if operands["expected"] in BOTH:
+        wanted, had = BOTH[operands["expected"]](operands)
+    else:
+        first, size = operands["last"]
+        wanted, had = wanted_by_code(scene, field), scene.plain[first : first + size].hex()
     place = place_words(scene, field)
     found.words = f"At byte {at} (0x{at:x}){place}: wanted {wanted}, and there is {had}."
     found.compare(wanted, had)
@@ -183,10 +119,10 @@ def wanted_by_code(scene: Scene, field: Field | None) -> str:
     return "a handle that begins with 01" if field and field.name == "nvIndex" else "another value"
 
 
-def rule_of(scene: Scene, trace: Trace, field: Field | None) -> str:
+def rule_of(scene: Scene, field: Field | None) -> str:
     if scene.refused == "SIZE" or scene.name == "INSUFFICIENT":
         return f"G11/{scene.name}"
-    if trace.ends_structure:
+    if scene.operands.get("of_structure"):
         return "structure/SIZE"
     name = field.name if field else ""
     family = "nvPublic" if scene.code == CC.NV_DefineSpace else "public"
@@ -211,6 +147,6 @@ def misread(scene: Scene, found: Reason) -> None:
     plain = scene.plain.hex() if scene.plain else ""
     found.add("decrypted", f"by session {use.entry.handle:08x}, to {plain}")
     for other in ingredients.otherwise(scene):
-        if not read_again(scene, other.plain)[1]:
+        if is_well_formed(scene, other.plain):
             found.slip(other.name, other.words)
             return

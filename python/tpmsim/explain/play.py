@@ -3,7 +3,7 @@
 import re
 from collections import deque
 from dataclasses import dataclass, field
-from typing import Callable, Iterator
+from typing import Any, Callable, Iterator
 
 from tpmsim import records
 from tpmsim.explain import accepted, dissection, entries, general, ingredients, own, parameters
@@ -40,6 +40,7 @@ class Event:
     of the HMACs, by position, and `answered` the decrypted response parameters. `comments` contains
     the paragraphs of comments before it. With `completes`, the completing layer was present:
     `layer` says what it did, if anything, and `own` is the outcome that the device alone gave.
+    `sent` is the outcome of the command that the layer sent to the device, if it sent one.
     """
 
     line: int
@@ -57,6 +58,7 @@ class Event:
     layer: str = ""
     own: Outcome | None = None
     completes: bool = False
+    sent: Outcome | None = None
 
     @property
     def is_power(self) -> bool:
@@ -203,6 +205,7 @@ class Watched:
         event = self.event = Event(self.line, scene)
         outcome = event.outcome = Model.execute(self.model, buffer, locality, random, elapsed)
         scene.check, scene.refused = outcome.row.check, outcome.refused or ""
+        scene.operands = outcome.operands
         return outcome
 
     def judged(self) -> Event:
@@ -220,20 +223,41 @@ class Watched:
         return event
 
     def completed(self, buffer: bytes, locality: int, random: bytes, elapsed: int) -> Event:
-        """Executes a command with the completing layer, which may respond itself, or place the
-        object of a context.
+        """Executes a command with the completing layer, which may respond itself, place the object
+        of a context, or send another command to the device.
         """
-        told = buffer, locality, random, elapsed
-        done = self.layer.execute(self.model, told, self.execute, self.place)
-        event, self.now.completes = self.now, True
+        told, events = (buffer, locality, random, elapsed), list[Event]()
+
+        def execute(*event: Any) -> Outcome:
+            outcome = self.execute(*event)
+            events.append(self.now)
+            return outcome
+
+        done = self.layer.execute(self.model, told, execute, self.place)
+        sent = self.judged() if done.sent is not None else None
+        event = self.event = events[0]
+        event.completes = True
         if not done.did:
             return self.judged()
-        event.layer, event.own = done.did, done.own
+        event.layer, event.own, event.sent = done.did, done.own, done.sent
         if not done.own.refused:
             self.judged()  # the device itself executed the command
         event.outcome, event.scene.refused = done.outcome, done.outcome.refused or ""
         self.note_context(event, done)
+        if sent is not None:
+            self.note_sent(event, sent)
         return event
+
+    @staticmethod
+    def note_sent(event: Event, sent: Event) -> None:
+        """Notes what is known about the command that the layer sent, such as why the device refused
+        it. Offsets in that command's buffer are left out.
+        """
+        event.notes = sent.notes
+        if event.refused:
+            event.reason = sent.reason
+        for reason in filter(None, (*event.notes, event.reason)):
+            reason.at = None
 
     def note_context(self, event: Event, done: Completed) -> None:
         """Notes a saved context, or the reason why the layer refuses a command."""

@@ -84,7 +84,7 @@ class Scene:
     """A command, and the model of the device before that command. `refused` is the response code,
     such as VALUE/p1, and `elapsed` is in milliseconds. `known` is the command, if it passed the
     general checks, and `plain` its decrypted parameters, if its entries were accepted. `tried`
-    contains the values of `--try`.
+    contains the values of `--try`, and `operands` those of the refusal.
     """
 
     model: Model
@@ -99,6 +99,7 @@ class Scene:
     known: Command | None = None
     plain: bytes | None = None
     tried: tuple[bytes, ...] = ()
+    operands: dict[str, Any] = field(default_factory=dict)
 
     @property
     def command(self) -> Command:
@@ -203,8 +204,21 @@ class Look:
     def object(self) -> Object:
         return self.model.objects[self.handles[0]]
 
-    def said(self, place: int) -> str:
-        return handle_words(self.handles[place])
+    @property
+    def first(self) -> str:
+        return handle_words(self.handles[0])
+
+    @property
+    def second(self) -> str:
+        return handle_words(self.handles[1])
+
+    @property
+    def recorded(self) -> str:
+        """Returns the line in which the session recorded what this command asserts too."""
+        of_cp_hash = CC.PolicyCpHash, CC.PolicySecret
+        codes = of_cp_hash if self.code in of_cp_hash else [self.code]
+        lines = self.past.lines_told(self.handles[-1], *codes)
+        return f" (line {lines[-1]})" if lines else ""
 
     def since(self, handle: int, words: str) -> str:
         """Returns the given words, followed by the line that made a handle's entity; empty if the
@@ -222,7 +236,3 @@ class Look:
 
 
 Check = Callable[[Look], None]
-
-
-def said(words: Callable[[Look], str], at: str = "") -> Check:
-    return lambda look: look.say(words(look), at)

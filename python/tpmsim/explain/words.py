@@ -3,7 +3,7 @@
 import enum
 from typing import Iterable
 
-from tpmsim.standard import frames, handle_kinds, HMAC_SESSION, lines, NV, PERSISTENT
+from tpmsim.standard import frames, handle_kinds, HMAC_SESSION, lines, NV, nv, PERSISTENT
 from tpmsim.standard import POLICY_SESSION, TRANSIENT
 from tpmsim.standard.command_names import command_name
 
@@ -126,6 +126,11 @@ def attribute_words(attributes: int) -> str:
 
 def localities_words(bits: int) -> str:
     return ", ".join(str(it) for it in range(8) if bits >> it & 1) or "none"
+
+
+def index_type_words(kind: int) -> str:
+    types = {int(it): it.name.lower() for it in nv.Type}
+    return types.get(kind, f"type {kind}")
 
 
 def seconds_words(milliseconds: int) -> str:

@@ -84,7 +84,7 @@ class Commands(Held):
         if kind == POLICY_SESSION:
             return []
         if kind not in held:
-            raise Refusal("HANDLE/p2", "A2")
+            raise Refusal("HANDLE/p2", "A2", kind=kind)
         of_kind = [it for it in held[kind] if handle_kinds.first_byte(it) == kind]
         return sorted(it for it in of_kind if it >= wanted)
 

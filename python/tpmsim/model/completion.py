@@ -1,6 +1,6 @@
 """The completing layer above the device, which answers commands that the device by design does not
 support (docs/USING.md). The context of an object contains the object; the context of a session is a
-token for the session, which stays in the device.
+token for the session, which stays in the device. Sequence objects are in the layer.
 """
 
 from __future__ import annotations
@@ -8,10 +8,12 @@ from __future__ import annotations
 from dataclasses import dataclass
 from typing import Callable, Self
 
-from tpmsim.model import capability, completion_rows, contexts
+from tpmsim.model import capability, completion_rows, contexts, sequence_commands
 from tpmsim.model.completion_properties import Counts, properties
+from tpmsim.model.general import Refusal
 from tpmsim.model.machine import Model, Outcome, PLACE_BITS, SESSIONS
 from tpmsim.model.object_rules import Object
+from tpmsim.model.sequences import NO_SEQUENCES, Slots
 from tpmsim.model.state_text import Layer
 from tpmsim.standard import CC, Fields, frames, is_session, number, RH_NULL, Short, sized, TRANSIENT
 from tpmsim.standard.handle_kinds import first_byte
@@ -21,6 +23,7 @@ STIR_RANDOM, CONTEXT_LOAD, CONTEXT_SAVE = 0x146, 0x161, 0x162
 OWN_COMMANDS = {
     **{STIR_RANDOM: 0x146, CONTEXT_LOAD: 0x1000_0161, CONTEXT_SAVE: 0x0200_0162},
     **{it: it for it in completion_rows.ROWS},
+    **sequence_commands.COMMANDS,
 }
 MOST_STIRRED = 128
 
@@ -64,6 +67,9 @@ TOKEN, BETWEEN = b"tpmsim 1", 26
 
 LAST_SEQUENCE = 2**64 - 1
 
+# The random bytes of a command that the layer sends to the device. It draws none of them.
+NOT_RANDOM = bytes(256)
+
 Execute = Callable[[bytes, int, bytes, int], Outcome]
 # Places an object in the device. Returns its handle, or None if no slot is free.
 Place = Callable[[Object], int | None]
@@ -72,12 +78,14 @@ Place = Callable[[Object], int | None]
 @dataclass(frozen=True)
 class Completed:
     """The final outcome of a command, the outcome that the device alone gave, and what the layer
-    did, if anything.
+    did, if anything. `sent` is the outcome of the command that the layer sent to the device, if it
+    sent one.
     """
 
     outcome: Outcome
     own: Outcome
     did: str = ""
+    sent: Outcome | None = None
 
 
 @dataclass(frozen=True)
@@ -129,25 +137,27 @@ def names_session(context: bytes) -> bool:
 
 class Completion:
     """What the layer remembers about a device: a number that is new at each start of the layer, by
-    which the layer recognizes its own contexts; the sequence of the last context; and for each
-    saved session the sequence of its context.
+    which the layer recognizes its own contexts; the sequence of the last context; for each saved
+    session the sequence of its context; and the sequence objects.
     """
 
     def __init__(self, start: int = 0) -> None:
         self.start, self.count = start, 0
         self.sessions = [0] * SESSIONS
+        self.sequences: Slots = NO_SEQUENCES.copy()
 
     @classmethod
     def of(cls, numbers: Layer) -> Self:
         """Returns the layer that a state text describes."""
         made = cls(numbers.start)
         made.count, made.sessions = numbers.count, list(numbers.sessions)
+        made.sequences = list(numbers.sequences)
         return made
 
     @property
     def numbers(self) -> Layer:
-        """The layer's numbers in a state text."""
-        return Layer(self.start, self.count, list(self.sessions))
+        """The layer's fields in a state text."""
+        return Layer(self.start, self.count, list(self.sessions), list(self.sequences))
 
     def execute(
         self, device: Model, event: tuple[bytes, int, bytes, int], execute: Execute, place: Place
@@ -158,18 +168,56 @@ class Completion:
         """
         own = execute(*event)
         self.forget(device)
-        return self.reply(device, event[0], own, place)
+        buffer, locality, _, _ = event
+
+        def send(command: bytes) -> Outcome:
+            sent = execute(command, locality, NOT_RANDOM, 0)
+            self.forget(device)
+            return sent
+
+        return self.on_sequence(device, buffer, own, send) or self.reply(device, buffer, own, place)
 
     def forget(self, device: Model) -> None:
-        """Forgets the contexts of sessions that have ended."""
+        """Forgets the contexts of sessions that have ended. Forgets the sequence objects if the
+        device is not started.
+        """
         taken = {it & PLACE_BITS for it in device.sessions}
         self.sessions = [it if at in taken else 0 for at, it in enumerate(self.sessions)]
+        if not device.started:
+            self.sequences = NO_SEQUENCES.copy()
 
     def saved(self, handle: int) -> int:
         place = handle & PLACE_BITS
         return self.sessions[place] if place < SESSIONS else 0
 
     # Responses of the layer.
+
+    def on_sequence(
+        self, device: Model, buffer: bytes, own: Outcome, send: Callable[[bytes], Outcome]
+    ) -> Completed | None:
+        """Returns the answer to a command on sequence objects; None for any other command. `send`
+        executes a command of the layer on the device.
+        """
+        if not device.started:
+            return None
+        try:
+            found = sequence_commands.served(device, self.sequences, buffer, own.refused)
+        except sequence_commands.Wrong as wrong:
+            return Completed(refused(own, wrong.name), own, wrong.words)
+        except Refusal as refusal:
+            return Completed(refused(own, refusal.name), own, "the parameters are refused")
+        if found is None:
+            return None
+        sent = None
+        if isinstance(found, sequence_commands.Sent):
+            sent = send(found.command)
+            if sent.refused:
+                outcome = Outcome(sent.response, own.row, sent.refused)
+                words = f"the device refuses the layer's TPM2_{found.code.name}"
+                return Completed(outcome, own, words, sent)
+            found = found.done
+        self.sequences = found.slots
+        return Completed(Outcome(found.response, own.row), own, found.words, sent)
 
     def reply(self, device: Model, buffer: bytes, own: Outcome, place: Place) -> Completed:
         stands, asked = Completed(own, own), asked_of(buffer)
@@ -246,7 +294,13 @@ class Completion:
         return Counts(len(device.sessions) - saved, saved, objects)
 
     def handles(self, device: Model, kind: int) -> list[tuple[int, bytes]] | None:
-        """Returns the handles of loaded (kind 02) or saved (kind 03) sessions."""
+        """Returns the handles of loaded (kind 02) or saved (kind 03) sessions, or of transient and
+        sequence objects.
+        """
+        if kind == TRANSIENT:
+            objects = sorted(it for it in device.objects if first_byte(it) == TRANSIENT)
+            held = objects + sequence_commands.handles_of(self.sequences)
+            return [(it, number(it, 4)) for it in held]
         if kind not in (frames.HMAC_SESSION, frames.POLICY_SESSION):
             return None
         is_saved = kind == frames.POLICY_SESSION

@@ -8,6 +8,7 @@ from tpmsim.model.general import Refusal
 from tpmsim.model.machine import Model
 from tpmsim.model.nv_commands import BUFFER_BYTES
 from tpmsim.model.parameters import Parameters
+from tpmsim.model.sequences import GENERATED_VALUE
 from tpmsim.standard import ALG_NULL, digest, frames, KEYEDHASH, mac, number, RH_NULL, SHA256, sized
 from tpmsim.standard import SYMCIPHER
 from tpmsim.standard.handle_kinds import PRIMARY_HIERARCHIES
@@ -17,8 +18,8 @@ INCREMENTAL_SELF_TEST, GET_TEST_RESULT, HASH, TEST_PARMS = 0x142, 0x17C, 0x17D, 
 # The largest number of algorithms in a list, an empty list, and the result of successful tests.
 MOST_ALGORITHMS, NOTHING, SUCCESS = 64, number(0, 4), number(0, 4)
 
-# The tag of the ticket of a digest, and the first bytes of data that a TPM generates and signs.
-ST_HASHCHECK, GENERATED_VALUE = 0x8024, bytes.fromhex("ff544347")
+# The tag of the ticket of a digest.
+ST_HASHCHECK = 0x8024
 
 
 def incremental_self_test(device: Model, parameters: Parameters) -> bytes:
@@ -44,12 +45,14 @@ def test_parms(device: Model, parameters: Parameters) -> bytes:
     return b""
 
 
-def hash_check(device: Model, hierarchy: int, data: bytes, found: bytes) -> bytes:
-    """Returns the ticket with which a restricted key may sign the digest, or else a NULL ticket."""
-    if hierarchy == RH_NULL or data.startswith(GENERATED_VALUE):
-        return frames.ticket(ST_HASHCHECK, RH_NULL, b"")
+def ticketed(device: Model, hierarchy: int, found: bytes) -> bytes:
+    """Returns a digest, and the ticket with which a restricted key may sign it. The ticket of
+    TPM_RH_NULL is a NULL ticket.
+    """
+    if hierarchy == RH_NULL:
+        return sized(found) + frames.ticket(ST_HASHCHECK, RH_NULL, b"")
     check = mac(SHA256, device.proofs[hierarchy], number(ST_HASHCHECK, 2) + found)
-    return frames.ticket(ST_HASHCHECK, hierarchy, check)
+    return sized(found) + frames.ticket(ST_HASHCHECK, hierarchy, check)
 
 
 def hash_of(device: Model, parameters: Parameters) -> bytes:
@@ -57,8 +60,8 @@ def hash_of(device: Model, parameters: Parameters) -> bytes:
     algorithm = parameters.next().hash()
     hierarchy = parameters.next().one_of(4, PRIMARY_HIERARCHIES, "VALUE")
     parameters.end()
-    found = digest(algorithm, data)
-    return sized(found) + hash_check(device, hierarchy, data, found)
+    chosen = RH_NULL if data.startswith(GENERATED_VALUE) else hierarchy
+    return ticketed(device, chosen, digest(algorithm, data))
 
 
 Row = Callable[[Model, Parameters], bytes]

@@ -4,7 +4,7 @@ from __future__ import annotations
 
 from dataclasses import dataclass
 from functools import cached_property
-from typing import TYPE_CHECKING
+from typing import Any, TYPE_CHECKING
 
 from tpmsim.faults import TpmsimError
 from tpmsim.standard import CC, COMMAND_BYTES, DECRYPT, ENCRYPT, Entry, Fact, Fields, first_byte
@@ -25,12 +25,13 @@ HEADER_CHECKS = "G1", "G2", "G3", "G4"
 
 class Refusal(TpmsimError):
     """A refusal of a command: a code such as HASH/p1, and a check such as G11 or A1. `touched` says
-    which dictionary attack protection counts it as a failed try, if any.
+    which dictionary attack protection counts it as a failed try, if any. `operands` are what the
+    check compared, under the names that tpmsim/explain/sentences.json uses.
     """
 
-    def __init__(self, name: str, check: str, touched: str | None = None) -> None:
+    def __init__(self, name: str, check: str, touched: str | None = None, **operands: Any) -> None:
         super().__init__(name)
-        self.name, self.check, self.touched = name, check, touched
+        self.name, self.check, self.touched, self.operands = name, check, touched, operands
 
 
 @dataclass

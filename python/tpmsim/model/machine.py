@@ -6,8 +6,8 @@ It shares no code with the product, and its rules are those of docs/table.
 
 from __future__ import annotations
 
-from dataclasses import dataclass
-from typing import Callable
+from dataclasses import dataclass, field
+from typing import Any, Callable
 
 from tpmsim.model import capability, general, history, nv_commands, object_commands, pcrs
 from tpmsim.model import persistent, policy_commands, policy_state, protection, state
@@ -64,11 +64,14 @@ class Row:
 
 @dataclass(frozen=True)
 class Outcome:
-    """The outcome of a command: `refused` names the response code, or is None on success."""
+    """The outcome of a command: `refused` names the response code, or is None on success.
+    `operands` are those of the refusal.
+    """
 
     response: bytes
     row: Row
     refused: str | None = None
+    operands: dict[str, Any] = field(default_factory=dict, compare=False)
 
 
 class Model(
@@ -134,7 +137,8 @@ class Model(
         except Refusal as refusal:
             self.lockout.count(refusal.touched)
             response = frames.refusal(frames.code_of(refusal.name))
-            return Outcome(response, Row.of(buffer, refusal.check), refusal.name)
+            row = Row.of(buffer, refusal.check)
+            return Outcome(response, row, refusal.name, refusal.operands)
         if not command.code.has(Fact.KEEPS_SAVED):
             self.saved = state.Saved.NONE
         self.tell(self.accepted(command, shown, plain, answer, random))
@@ -414,16 +418,18 @@ class Model(
     ) -> Answer:
         cipher, mask_algorithm = symmetric
         size = len(nonce_caller)
-        if not LEAST_NONCE <= size <= digest_bytes(algorithm):
-            raise Refusal("SIZE/p1", "A1")
+        most = digest_bytes(algorithm)
+        if not LEAST_NONCE <= size <= most:
+            case = "short" if size < LEAST_NONCE else "long"
+            raise Refusal("SIZE/p1", "A1", case=case, size=size, least=LEAST_NONCE, most=most)
         if salt:
-            raise Refusal("VALUE/p2", "A2")
+            raise Refusal("VALUE/p2", "A2", size=len(salt))
         if mask_algorithm not in (None, algorithm):
-            raise Refusal("HASH/p4", "A3")
+            raise Refusal("HASH/p4", "A3", mask=mask_algorithm)
         taken = [it & PLACE_BITS for it in self.sessions]
         free = [it for it in range(SESSIONS) if it not in taken]
         if not free:
-            raise Refusal("SESSION_MEMORY", "A4")
+            raise Refusal("SESSION_MEMORY", "A4", held=len(taken), most=SESSIONS)
 
         _, bind = request.handles
         nonce_tpm, key, bind_auth = request.random[:size], b"", self.auth_value(bind)

@@ -60,42 +60,60 @@ def read_public(fields: Parameters) -> Public:
     return Public(index, name_algorithm, attributes, auth_policy, fields.number(2))
 
 
-def has_wrong_attributes(public: Public, hierarchy: int) -> bool:
-    if public.kind not in list(Type) or public.has(NOT_DEFINED):
-        return True
-    if not public.has(WRITES) or not public.has(READS):
-        return True
-    # A counter never decreases, so it cannot be cleared.
-    if public.kind == Type.COUNTER and public.has(Attribute.CLEAR_STCLEAR):
-        return True
-    return public.has(Attribute.PLATFORMCREATE) != (hierarchy == RH_PLATFORM)
+def wrong_attributes(public: Public, hierarchy: int) -> list[str]:
+    """Returns a name for each rule that the attributes of a new index break."""
+    is_platforms, by_platform = public.has(Attribute.PLATFORMCREATE), hierarchy == RH_PLATFORM
+    rules = {
+        "type": public.kind not in list(Type),
+        "undefined": public.has(NOT_DEFINED),
+        "writes": not public.has(WRITES),
+        "reads": not public.has(READS),
+        # A counter never decreases, so it cannot be cleared.
+        "counter": public.kind == Type.COUNTER and public.has(Attribute.CLEAR_STCLEAR),
+        "owner": is_platforms and not by_platform,
+        "platform": by_platform and not is_platforms,
+    }
+    return [name for name, is_broken in rules.items() if is_broken]
+
+
+def bytes_of_type(public: Public) -> int:
+    """Returns the size of an index's data by its type; for an ordinary index, the largest size."""
+    if public.kind == Type.ORDINARY:
+        return INDEX_BYTES
+    return digest_bytes(public.name_algorithm) if public.kind == Type.EXTEND else NUMBER_BYTES
 
 
 def has_wrong_size(public: Public) -> bool:
     if public.kind == Type.ORDINARY:
         return public.data_size > INDEX_BYTES
-    if public.kind == Type.EXTEND:
-        return public.data_size != digest_bytes(public.name_algorithm)
-    return public.data_size != NUMBER_BYTES
+    return public.data_size != bytes_of_type(public)
 
 
 def check_definition(
     public: Public, auth_value: bytes, hierarchy: int, indices: dict[int, Index]
 ) -> None:
-    if len(auth_value) > digest_bytes(public.name_algorithm):
-        raise Refusal("SIZE/p1", "A1")
-    if len(public.auth_policy) not in (0, digest_bytes(public.name_algorithm)):
-        raise Refusal("SIZE/p2", "A2")
-    if has_wrong_attributes(public, hierarchy):
-        raise Refusal("ATTRIBUTES/p2", "A3")
+    digest_size = digest_bytes(public.name_algorithm)
+    if len(auth_value) > digest_size:
+        raise Refusal("SIZE/p1", "A1", size=len(auth_value), most=digest_size)
+    if len(public.auth_policy) not in (0, digest_size):
+        raise Refusal("SIZE/p2", "A2", size=len(public.auth_policy), wanted=digest_size)
+    if wrong := wrong_attributes(public, hierarchy):
+        undefined = public.attributes & NOT_DEFINED
+        raise Refusal("ATTRIBUTES/p2", "A3", wrong=wrong, public=public, undefined=undefined)
     if has_wrong_size(public):
-        raise Refusal("SIZE/p2", "A4")
+        case = "ordinary" if public.kind == Type.ORDINARY else "other"
+        size, limit = public.data_size, bytes_of_type(public)
+        raise Refusal("SIZE/p2", "A4", case=case, size=size, kind=public.kind, limit=limit)
     if public.index in indices:
-        raise Refusal("NV_DEFINED", "A5")
+        raise Refusal("NV_DEFINED", "A5", index=public.index)
+    if len(indices) == INDICES:
+        raise Refusal("NV_SPACE", "A6", case="indices", most=INDICES)
     # An unwritten index takes as much space as a written one.
-    taken = sum(it.public.data_size for it in indices.values())
-    if len(indices) == INDICES or taken + public.data_size > ALL_BYTES:
-        raise Refusal("NV_SPACE", "A6")
+    taken, size = sum(it.public.data_size for it in indices.values()), public.data_size
+    if (total := taken + size) > ALL_BYTES:
+        raise Refusal(
+            "NV_SPACE", "A6", case="bytes", taken=taken, size=size, total=total, most=ALL_BYTES
+        )
 
 
 # Authorization by an index itself: what its attributes allow for a command. The attributes are
@@ -119,10 +137,11 @@ READERS = Attribute.OWNERREAD, Attribute.PPREAD
 
 
 def check_asker(public: Public, asker: int, by_owner: Attribute, by_platform: Attribute) -> None:
-    by_hierarchy = {RH_OWNER: by_owner, RH_PLATFORM: by_platform}
-    may = public.has(by_hierarchy[asker]) if asker in by_hierarchy else asker == public.index
-    if not may:
-        raise Refusal("NV_AUTHORIZATION", "A1")
+    needed = {RH_OWNER: by_owner, RH_PLATFORM: by_platform}.get(asker)
+    if needed is None and asker != public.index:
+        raise Refusal("NV_AUTHORIZATION", "A1", case="index")
+    if needed is not None and not public.has(needed):
+        raise Refusal("NV_AUTHORIZATION", "A1", case="hierarchy", needed=needed.name)
 
 
 def check_writing(public: Public, asker: int, kind: Type) -> None:
@@ -131,7 +150,7 @@ def check_writing(public: Public, asker: int, kind: Type) -> None:
     if public.has(Attribute.WRITELOCKED):
         raise Refusal("NV_LOCKED", "A2")
     if public.kind != kind:
-        raise Refusal("ATTRIBUTES/h2", "A3")
+        raise Refusal("ATTRIBUTES/h2", "A3", wanted=kind, had=public.kind)
 
 
 def check_reading(public: Public, asker: int) -> None:
@@ -144,7 +163,7 @@ def check_reading(public: Public, asker: int) -> None:
 
 def check_range(public: Public, offset: int, size: int, check: str) -> None:
     if offset + size > public.data_size:
-        raise Refusal("NV_RANGE", check)
+        raise Refusal("NV_RANGE", check, size=size, most=public.data_size)
 
 
 def start_up(indices: dict[int, Index]) -> None:
@@ -227,7 +246,7 @@ class Commands(Held):
         check_writing(index.public, asker, Type.ORDINARY)
         check_range(index.public, offset, len(data), "A4")
         if index.public.has(Attribute.WRITEALL) and len(data) != size:
-            raise Refusal("NV_RANGE", "A4")
+            raise Refusal("NV_RANGE", "A4", case="all", size=len(data), most=size)
         # Bytes outside the first write become ff.
         old = index.data if index.public.has(Attribute.WRITTEN) else b"\xff" * size
         index.write(old[:offset] + data + old[offset + len(data) :])
@@ -243,7 +262,7 @@ class Commands(Held):
         if index.public.has(Attribute.WRITTEN):
             old = unsigned(index.data)
         if old == LARGEST:
-            raise Refusal("NV_RANGE", "A4")
+            raise Refusal("NV_RANGE", "A4", most=LARGEST)
         self.largest_counter = max(self.largest_counter, old + 1)
         index.write(number(old + 1, NUMBER_BYTES))
         return Answer()
@@ -268,7 +287,7 @@ class Commands(Held):
         asker, index = self.asked(request)
         check_reading(index.public, asker)
         if size > BUFFER_BYTES:
-            raise Refusal("VALUE/p1", "A4")
+            raise Refusal("VALUE/p1", "A4", most=BUFFER_BYTES)
         check_range(index.public, offset, size, "A5")
         return Answer(sized(index.data[offset : offset + size]))
 
@@ -294,7 +313,8 @@ class Commands(Held):
     def nv_change_auth(self, request: Request, new: bytes) -> Answer:
         new = trimmed(new)
         index = self.indices[request.handles[0]]
-        if len(new) > digest_bytes(index.public.name_algorithm):
-            raise Refusal("SIZE/p1", "A1")
+        most = digest_bytes(index.public.name_algorithm)
+        if len(new) > most:
+            raise Refusal("SIZE/p1", "A1", size=len(new), most=most)
         index.auth_value = new
         return Answer()

@@ -27,7 +27,7 @@ class Commands(Held):
     def free_object(self, check: str) -> int:
         free = self.free_objects()
         if not free:
-            raise Refusal("OBJECT_MEMORY", check)
+            raise Refusal("OBJECT_MEMORY", check, most=OBJECTS)
         return free[0]
 
     def parent(self, handle: int) -> Object:
@@ -119,6 +119,7 @@ class Commands(Held):
         # The hash algorithm is that of the key's scheme; for scheme NULL the caller chooses one.
         chosen = {scheme, asked} - {ALG_NULL}
         if len(chosen) != 1:
-            raise Refusal("VALUE/p2", "A4")
+            case = "HMAC" if chosen else "NULL"
+            raise Refusal("VALUE/p2", "A4", case=case, scheme=scheme)
         (algorithm,) = chosen
         return Answer(sized(mac(algorithm, key.sensitive.data, data)))

@@ -110,21 +110,24 @@ TEMPLATE = (
 )
 
 
-def has_wrong_attributes(public: Public, parent: Object | None) -> bool:
-    if public.has(Attribute.FIXED_TPM) and public.has(Attribute.ENCRYPTED_DUPLICATION):
-        return True
-    # fixedTPM claims that no ancestor can be duplicated, so it requires a parent that has it.
-    if parent is not None and not parent.public.has(Attribute.FIXED_TPM):
-        if public.has(Attribute.FIXED_TPM):
-            return True
-    elif public.has(Attribute.FIXED_TPM) != public.has(Attribute.FIXED_PARENT):
-        return True
+def wrong_attributes(public: Public, parent: Object | None) -> list[str]:
+    """Returns a name for each rule that the attributes of a new object break."""
+    is_fixed, is_restricted = public.has(Attribute.FIXED_TPM), public.has(Attribute.RESTRICTED)
     signs, decrypts = public.has(Attribute.SIGN), public.has(Attribute.DECRYPT)
-    if public.has(Attribute.RESTRICTED) and signs == decrypts:
-        return True
-    if public.kind == KEYEDHASH:
-        return decrypts
-    return not (signs or decrypts) or public.has(Attribute.RESTRICTED) and signs
+    is_cipher = public.kind != KEYEDHASH
+    # fixedTPM claims that no ancestor can be duplicated, so it requires a parent that has it.
+    may_be_fixed = parent is None or parent.public.has(Attribute.FIXED_TPM)
+    rules = {
+        "duplication": is_fixed and public.has(Attribute.ENCRYPTED_DUPLICATION),
+        "parent": is_fixed and not may_be_fixed,
+        "alone": may_be_fixed and is_fixed != public.has(Attribute.FIXED_PARENT),
+        "both": is_restricted and signs and decrypts,
+        "none": is_restricted and not signs and not decrypts,
+        "decrypts": decrypts and not is_cipher,
+        "unused": is_cipher and not signs and not decrypts,
+        "signs": is_cipher and is_restricted and signs,
+    }
+    return [name for name, is_broken in rules.items() if is_broken]
 
 
 def checks_before(parent: Object | None) -> int:
@@ -135,28 +138,32 @@ def checks_before(parent: Object | None) -> int:
 
 
 def check_public(public: Public, parent: Object | None) -> None:
-    before = checks_before(parent)
-    if len(public.auth_policy) not in (0, digest_bytes(public.name_algorithm)):
-        raise Refusal("SIZE/p2", f"A{before + 1}")
-    if has_wrong_attributes(public, parent):
-        raise Refusal("ATTRIBUTES/p2", f"A{before + 2}")
+    before, size = checks_before(parent), len(public.auth_policy)
+    if size not in (0, digest_bytes(public.name_algorithm)):
+        wanted = digest_bytes(public.name_algorithm)
+        raise Refusal("SIZE/p2", f"A{before + 1}", size=size, wanted=wanted)
+    if wrong := wrong_attributes(public, parent):
+        raise Refusal("ATTRIBUTES/p2", f"A{before + 2}", wrong=wrong, public=public)
     is_null, signs = public.scheme == ALG_NULL, public.has(Attribute.SIGN)
     is_wrong = public.has(Attribute.RESTRICTED) if is_null else not signs
     if public.kind == KEYEDHASH and is_wrong:
-        raise Refusal("SCHEME/p2", f"A{before + 3}")
+        raise Refusal("SCHEME/p2", f"A{before + 3}", case="NULL" if is_null else "HMAC")
 
 
 def check_sensitive(template: Template, parent: Object | None) -> None:
     before = checks_before(parent) + PUBLIC_CHECKS
-    public, is_given = template.public, bool(template.data)
-    if len(trimmed(template.user_auth)) > digest_bytes(public.name_algorithm):
-        raise Refusal("SIZE/p1", f"A{before + 1}")
+    public, is_given, data_size = template.public, bool(template.data), len(template.data)
+    size, most = len(trimmed(template.user_auth)), digest_bytes(public.name_algorithm)
+    if size > most:
+        raise Refusal("SIZE/p1", f"A{before + 1}", size=size, most=most)
     generates = public.has(Attribute.SENSITIVE_DATA_ORIGIN)
     is_sealed = public.kind == KEYEDHASH and not public.has(Attribute.SIGN)
     if generates == is_given or generates and is_sealed:
-        raise Refusal("ATTRIBUTES/p2", f"A{before + 2}")
-    if public.kind == SYMCIPHER and is_given and len(template.data) != AES_KEY_BYTES:
-        raise Refusal("SIZE/p1", f"A{before + 3}")
+        case = "empty" if not generates else "given" if is_given else "sealed"
+        check = f"A{before + 2}"
+        raise Refusal("ATTRIBUTES/p2", check, case=case, size=data_size, public=public)
+    if public.kind == SYMCIPHER and is_given and data_size != AES_KEY_BYTES:
+        raise Refusal("SIZE/p1", f"A{before + 3}", size=data_size, wanted=AES_KEY_BYTES)
 
 
 def key_bytes(template: Template) -> int:

@@ -4,10 +4,10 @@ from __future__ import annotations
 
 import functools
 from dataclasses import dataclass
-from typing import Any, Callable, Iterable, TYPE_CHECKING, TypeVar
+from typing import Any, Callable, Iterable, Sequence, TYPE_CHECKING, TypeVar
 
 from tpmsim.model.general import Answer, Refusal
-from tpmsim.standard import DIGEST_BYTES, Fields, frames, HASHES, PCRS, Short
+from tpmsim.standard import DIGEST_BYTES, Fields, frames, HASHES, PCRS
 
 if TYPE_CHECKING:
     from tpmsim.model.policy_state import Session
@@ -27,25 +27,37 @@ MOST_BANKS = 16
 
 
 class Parameters:
-    """A command's parameters, or the fields of a structure, parsed in order. A fault names the
-    parameter that is being parsed, and has the code `short` if there are too few bytes.
+    """A command's parameters, or the fields of a structure, parsed in order; they start at the
+    offset `base`. A fault names the parameter that is being parsed, and has the code `short` if
+    there are too few bytes. The operands of its refusal are what was expected and the offset of the
+    fault; `last` are the offset and the size of the bytes that were read last.
     """
 
-    def __init__(self, data: bytes, place: int = 0, short: str = "INSUFFICIENT") -> None:
+    def __init__(
+        self, data: bytes, place: int = 0, short: str = "INSUFFICIENT", base: int = 0
+    ) -> None:
         self.fields, self.place, self.short = Fields(data), place, short
+        self.until, self.last = base + len(data), (base, 0)
+
+    @property
+    def at(self) -> int:
+        return self.until - len(self.fields.data)
 
     def next(self) -> Parameters:
         self.place += 1
         return self
 
-    def refusal(self, code: str) -> Refusal:
-        return Refusal(f"{code}/p{self.place}", "G11")
+    def refusal(self, code: str, expected: str = "other", **operands: Any) -> Refusal:
+        operands = {"expected": expected, "at": self.last[0], "last": self.last, **operands}
+        return Refusal(f"{code}/p{self.place}", "G11", None, **operands)
 
     def take(self, count: int) -> bytes:
-        try:
-            return self.fields.take(count)
-        except Short:
-            raise self.refusal(self.short) from None
+        at, left = self.at, len(self.fields.data)
+        if count > left:
+            operands = dict(count=count, left=left, of_structure=self.short == "SIZE")
+            raise self.refusal(self.short, "bytes", at=at, **operands)
+        self.last = at, count
+        return self.fields.take(count)
 
     def number(self, size: int) -> int:
         return int.from_bytes(self.take(size), "big")
@@ -53,21 +65,23 @@ class Parameters:
     def one_of(self, size: int, allowed: Iterable[int], code: str) -> int:
         value = self.number(size)
         if value not in allowed:
-            raise self.refusal(code)
+            listed = allowed if isinstance(allowed, Sequence) else list(allowed)
+            raise self.refusal(code, "one of", allowed=listed, size=size, value=value)
         return value
 
     def sized(self, most: int) -> bytes:
         size = self.number(2)
         if size > most:
-            raise self.refusal("SIZE")
+            raise self.refusal("SIZE", "size", most=most, size=size)
         return self.take(size)
 
     def structure(self, read: Callable[[Parameters], T]) -> T:
         """Returns what `read` parses from a sized buffer; `read` has to use the whole buffer."""
-        fields = Parameters(self.take(self.number(2)), self.place, "SIZE")
+        size, at = self.number(2), self.at
+        fields = Parameters(self.take(size), self.place, "SIZE", at)
         value = read(fields)
-        if fields.fields.data:
-            raise self.refusal("SIZE")
+        if left := len(fields.fields.data):
+            raise self.refusal("SIZE", "structure", at=fields.at, left=left, of_structure=True)
         return value
 
     def hash(self) -> int:
@@ -76,7 +90,7 @@ class Parameters:
     def count(self, most: int) -> int:
         count = self.number(4)
         if count > most:
-            raise self.refusal("SIZE")
+            raise self.refusal("SIZE", "count", most=most, count=count)
         return count
 
     def selection(self) -> Selection:
@@ -91,7 +105,7 @@ class Parameters:
     def sized_list(self, least: int, most: int) -> list[bytes]:
         count = self.count(most)
         if count < least:
-            raise self.refusal("SIZE")
+            raise self.refusal("SIZE", "least", least=least, count=count)
         return [self.sized(DIGEST_BYTES) for _ in range(count)]
 
     def cipher(self, allowed: Iterable[int] = (frames.AES,)) -> int:
@@ -108,8 +122,8 @@ class Parameters:
         return algorithm, self.hash() if algorithm == frames.XOR else None
 
     def end(self) -> None:
-        if self.fields.data:
-            raise Refusal("SIZE", "G11")
+        if left := len(self.fields.data):
+            raise Refusal("SIZE", "G11", expected="end", at=self.at, left=left)
 
 
 # A parser of one parameter.

@@ -24,7 +24,7 @@ def check_hierarchy(asker: int, held: Object, removes: bool) -> None:
     else:
         allowed = held.hierarchy in (RH_OWNER, RH_ENDORSEMENT)
     if not allowed:
-        raise Refusal("HIERARCHY/h2", "A1")
+        raise Refusal("HIERARCHY/h2", "A1", of=held.hierarchy)
 
 
 def read_persistent(fields: Parameters) -> int:
@@ -47,7 +47,7 @@ class Commands(Held):
         # The lower half of the handles belongs to the owner, the upper half to the platform.
         is_upper = wanted >= FIRST_OF_PLATFORM
         if asker == RH_OWNER and is_upper or asker == RH_PLATFORM and not removes and not is_upper:
-            raise Refusal("RANGE/p1", "A3")
+            raise Refusal("RANGE/p1", "A3", case="lower" if is_upper else "upper")
         if removes:
             if handle != wanted:
                 raise Refusal("HANDLE/h2", "A4")
@@ -56,6 +56,6 @@ class Commands(Held):
         if wanted in self.objects:
             raise Refusal("NV_DEFINED", "A5")
         if sum(map(is_persistent, self.objects)) == PERSISTENT_OBJECTS:
-            raise Refusal("NV_SPACE", "A6")
+            raise Refusal("NV_SPACE", "A6", most=PERSISTENT_OBJECTS)
         self.objects[wanted] = held
         return Answer()

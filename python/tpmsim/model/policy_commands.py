@@ -65,7 +65,7 @@ class Commands(Held):
     def policy_command_code(self, request: Request, code: int) -> Answer:
         _, told, algorithm = self.told_to(request)
         if told.code not in (None, code):
-            raise Refusal("VALUE/p1", "A1")
+            raise Refusal("VALUE/p1", "A1", told=told.code)
         if code not in NUMBERED:
             raise Refusal("POLICY_CC/p1", "A2")
         told.digest = policy.after_command_code(algorithm, told.digest, code)
@@ -76,9 +76,9 @@ class Commands(Held):
     def policy_cp_hash(self, request: Request, cp_hash: bytes) -> Answer:
         session, told, algorithm = self.told_to(request)
         if len(cp_hash) != digest_bytes(algorithm):
-            raise Refusal("SIZE/p1", "A1")
+            raise Refusal("SIZE/p1", "A1", size=len(cp_hash), wanted=digest_bytes(algorithm))
         if told.cp_hash not in (None, cp_hash):
-            raise Refusal("CPHASH", "A2")
+            raise Refusal("CPHASH", "A2", told=told.cp_hash)
         told.digest = policy.after_cp_hash(algorithm, told.digest, cp_hash)
         told.cp_hash = cp_hash
         return Answer()
@@ -88,7 +88,7 @@ class Commands(Held):
         is_written = bool(is_written)
         _, told, algorithm = self.told_to(request)
         if told.nv_written not in (None, is_written):
-            raise Refusal("VALUE/p1", "A1")
+            raise Refusal("VALUE/p1", "A1", told=int(not is_written))
         told.digest = policy.after_nv_written(algorithm, told.digest, is_written)
         told.nv_written = is_written
         return Answer()
@@ -98,7 +98,9 @@ class Commands(Held):
         """The parameter has a bit for each locality; the event's own locality does not matter."""
         _, told, algorithm = self.told_to(request)
         if localities > policy.ALL_LOCALITIES or not localities & told.localities:
-            raise Refusal("RANGE/p1", "A1")
+            known = localities <= policy.ALL_LOCALITIES
+            case = "none" if not localities else "common" if known else "known"
+            raise Refusal("RANGE/p1", "A1", case=case, left=told.localities)
         told.digest = policy.after_locality(algorithm, told.digest, localities)
         told.localities &= localities
         return Answer()
@@ -111,12 +113,12 @@ class Commands(Held):
         if expiration:
             raise Refusal("VALUE/p4", "A1")
         if len(cp_hash) not in (0, digest_bytes(algorithm)):
-            raise Refusal("SIZE/p2", "A2")
+            raise Refusal("SIZE/p2", "A2", size=len(cp_hash), wanted=digest_bytes(algorithm))
         if not session.is_trial and nonce_tpm not in (b"", session.nonce_tpm):
-            raise Refusal("NONCE/p1", "A3")
+            raise Refusal("NONCE/p1", "A3", wanted=session.nonce_tpm)
         other = cp_hash and told.cp_hash not in (None, cp_hash)
         if not session.is_trial and other:
-            raise Refusal("CPHASH", "A4")
+            raise Refusal("CPHASH", "A4", told=told.cp_hash)
         name = self.name(request.handles[0])
         told.digest = policy.after_secret(algorithm, told.digest, name, policy_ref)
         told.cp_hash = cp_hash or told.cp_hash

@@ -71,21 +71,23 @@ class Use:
 def check_use(
     session: Session, entity: objects.Public | nv.Public | None, use: Use, place: int
 ) -> None:
-    """Refuses an entry before its hmac is checked. If `entity` is None, no policy can authorize."""
+    """Refuses an entry before its hmac is checked. If `entity` is None, no policy can authorize. The
+    operand `condition` is the number of the condition in docs/table that does not hold.
+    """
     told = session.policy
     if session.is_trial:
-        raise Refusal(f"ATTRIBUTES/s{place}", "G9")
+        raise Refusal(f"ATTRIBUTES/s{place}", "G9", condition=1)
     if entity is None:
-        raise Refusal("AUTH_UNAVAILABLE", "G9")
+        raise Refusal("AUTH_UNAVAILABLE", "G9", condition=2)
     if told.update_counter not in (None, use.update_counter):
-        raise Refusal("PCR_CHANGED", "G9")
+        raise Refusal("PCR_CHANGED", "G9", condition=3)
     if told.code not in (None, use.code):
-        raise Refusal(f"POLICY_CC/s{place}", "G9")
+        raise Refusal(f"POLICY_CC/s{place}", "G9", condition=4)
     if use.is_admin and told.code is None or told.cp_hash not in (None, use.cp_hash):
-        raise Refusal(f"POLICY_FAIL/s{place}", "G9")
+        raise Refusal(f"POLICY_FAIL/s{place}", "G9", condition=5, cp_hash=use.cp_hash)
     if told.nv_written not in (None, use.written):
-        raise Refusal(f"POLICY_FAIL/s{place}", "G9")
+        raise Refusal(f"POLICY_FAIL/s{place}", "G9", condition=6, written=use.written)
     if not told.localities >> use.locality & 1:
-        raise Refusal("LOCALITY", "G9")
+        raise Refusal("LOCALITY", "G9", condition=7)
     if (session.algorithm, told.digest) != (entity.name_algorithm, entity.auth_policy):
-        raise Refusal(f"POLICY_FAIL/s{place}", "G9")
+        raise Refusal(f"POLICY_FAIL/s{place}", "G9", condition=8, entity=entity)

@@ -51,7 +51,7 @@ class Commands(Held):
     def startup(self, request: Request, kind: int) -> Answer:
         was_saved = self.saved
         if kind == STATE and was_saved != Saved.STATE:
-            raise Refusal("VALUE/p1", "A1")
+            raise Refusal("VALUE/p1", "A1", case=was_saved.name)
 
         self.started, self.saved = True, Saved.NONE
         self.update_counter = 0

@@ -12,7 +12,7 @@ from __future__ import annotations
 from dataclasses import dataclass, field
 from typing import Callable, TypeVar
 
-from tpmsim.model import image, object_rules, policy_state
+from tpmsim.model import image, object_rules, policy_state, sequence_text
 from tpmsim.model.general import Refusal
 from tpmsim.model.image import check
 from tpmsim.model.machine import HANDLE_KINDS, LEAST_NONCE, Model, PLACE_BITS, SESSIONS
@@ -20,6 +20,7 @@ from tpmsim.model.object_commands import OBJECTS
 from tpmsim.model.parameters import Parameters
 from tpmsim.model.policy_state import Session, State
 from tpmsim.model.protection import LOCKOUT_AUTH, Lockout, MILLISECONDS, TRIES
+from tpmsim.model.sequences import NO_SEQUENCES, Slots
 from tpmsim.standard import AES, aes, DIGEST_BYTES, digest_bytes, frames, name_of, number
 from tpmsim.standard import PCRS, policy, RH_NULL, Short, sized, TRANSIENT
 from tpmsim.standard.aes_tables import encrypt_block
@@ -38,6 +39,9 @@ VERSIONS = VERSION_1, VERSION
 PROTECTIONS = None, TRIES, LOCKOUT_AUTH
 DEMANDS = None, policy.AUTH_VALUE, policy.PASSWORD
 
+# The byte that says whether there is a layer, and whether it has sequence objects.
+NO_LAYER, LAYER, LAYER_WITH_SEQUENCES = LAYERS = range(3)
+
 LOCALITY_BITS = range(policy.ALL_LOCALITIES + 1)
 LOCKOUT_TIMES = range(MILLISECONDS * 2**32)
 
@@ -45,17 +49,18 @@ LOCKOUT_TIMES = range(MILLISECONDS * 2**32)
 @dataclass
 class Layer:
     """What the completing layer remembers: a number that is new at each start of the layer; the
-    sequence of its last context; and for each session slot the sequence of the saved session's
-    context, or 0 if no session is saved there.
+    sequence of its last context; for each session slot the sequence of the saved session's context,
+    or 0 if no session is saved there; and its sequence objects.
     """
 
     start: int = 0
     count: int = 0
     sessions: list[int] = field(default_factory=lambda: [0] * SESSIONS)
+    sequences: Slots = field(default_factory=NO_SEQUENCES.copy)
 
 
 def state_text(device: Model, layer: Layer | None = None) -> bytes:
-    return framed(device_text(device) + optional_text(layer, layer_text))
+    return framed(device_text(device) + optional_layer_text(layer))
 
 
 def framed(body: bytes) -> bytes:
@@ -127,6 +132,15 @@ def policy_text(told: State) -> bytes:
     )
 
 
+def optional_layer_text(layer: Layer | None) -> bytes:
+    if layer is None:
+        return number(NO_LAYER, 1)
+    if not any(layer.sequences):
+        return number(LAYER, 1) + layer_text(layer)
+    slots = sequence_text.slots_text(layer.sequences)
+    return number(LAYER_WITH_SEQUENCES, 1) + layer_text(layer) + slots
+
+
 def layer_text(layer: Layer) -> bytes:
     return b"".join(number(it, 8) for it in (layer.start, layer.count, *layer.sessions))
 
@@ -143,7 +157,7 @@ def open_state(
     try:
         fields = Parameters(body)
         read_device(fields, device)
-        layer = optional(fields, lambda it: read_layer(it, device, version))
+        layer = read_optional_layer(fields, device, version)
         fields.end()
     except (Refusal, Short):
         raise image.Fault("Body") from None
@@ -231,6 +245,17 @@ def read_policy(fields: Parameters) -> State:
         localities=fields.one_of(1, LOCALITY_BITS, "VALUE"),
         demand=DEMANDS[fields.one_of(1, range(len(DEMANDS)), "VALUE")],
     )
+
+
+def read_optional_layer(fields: Parameters, device: Model, version: int) -> Layer | None:
+    """Reads the layer, if there is one. In version 1, a layer has no sequence objects."""
+    kind = fields.one_of(1, LAYERS if version == VERSION else (NO_LAYER, LAYER), "VALUE")
+    if kind == NO_LAYER:
+        return None
+    layer = read_layer(fields, device, version)
+    if kind == LAYER_WITH_SEQUENCES:
+        layer.sequences = sequence_text.read_slots(fields)
+    return layer
 
 
 def read_layer(fields: Parameters, device: Model, version: int) -> Layer:

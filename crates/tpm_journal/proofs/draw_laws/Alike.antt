@@ -1,4 +1,4 @@
--- Results that are the same with other random bytes.
+-- Lemmas about results that are the same with other random bytes.
 use Rattle.std.proofs.Common.{◌≡◌, ◌∙◌, ℕ, List, take, Result, Ok, Err, ap, refl, sym}
 use Rattle.tpm_bytes.specs.Reading.{◌>>=◌}
 use Rattle.tpm_step.specs.General.{in_command}

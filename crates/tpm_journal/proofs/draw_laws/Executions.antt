@@ -71,10 +71,11 @@ drawn_of_those random (Err e) = omega arith
 
 module _ (r : Record) (buffer : List ℕ) (locality elapsed : ℕ) (random : List ℕ) (x : Stepped)
     (done : Executes false r (Given buffer locality elapsed random) x) where
-  -- the number of bytes drawn, according to the reported check; below, according to the step
+  -- the number of bytes drawn, according to the check that the outcome reports
   abbrev told : ℕ
   told = drawn_by r (Given buffer locality elapsed random) x.row.check
 
+  -- the number of bytes drawn, according to the step
   abbrev drawn : ℕ
   drawn = drawn_by r (Given buffer locality elapsed random) 0
 

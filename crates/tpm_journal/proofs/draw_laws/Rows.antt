@@ -102,7 +102,8 @@ module _ (r : Record) (q : Request) (other : List ℕ) where
       ap (λ nonce. let s = session_with p (binding_of r bind) nonce in
       Ok (record { answer = start_answer p s place; after = record r { sessions = slice_set r.sessions place (Some s) } })) same))))
 
-  -- a TPM Reset reads a seed and a proof, of 32 bytes each
+  -- a startup has the same result if the random bytes that it does not draw are replaced; a TPM
+  -- Reset draws a seed and a proof, of 32 bytes each
   started_alike : (start : Start) → ActsAlike q.random other
       (Ok (record { answer = record nothing { drawn = start_draws start }; after = started_record start r q.random }))
       (Ok (record { answer = record nothing { drawn = start_draws start }; after = started_record start r other }))
@@ -116,7 +117,8 @@ module _ (r : Record) (q : Request) (other : List ℕ) where
       after q.random other (only (startup_type_at q.parameters)) _ _ (λ type.
       after q.random other (start_of type (kind_of r.fixed.saved)) _ _ started_alike)
 
-  -- TPM2_Clear reads a seed and two proofs, of 32 bytes each
+  -- the hierarchies after TPM2_Clear depend only on the first 96 random bytes: a seed and two
+  -- proofs, of 32 bytes each
   cleared_alike : (h : Hierarchies) → take 96 other ≡ take 96 q.random → cleared_hierarchies h other ≡ cleared_hierarchies h q.random
   unfolding cleared_hierarchies
   cleared_alike h same =
@@ -130,7 +132,8 @@ module _ (r : Record) (q : Request) (other : List ℕ) where
       after q.random other (or_refusal (λ fault. action_refusal action.Second (plain code.Failure)) (clear_counted r.fixed.banks)) _ _ (λ banks same.
       rw (cleared_alike r.fixed.hierarchies same) refl)))
 
-  -- TPM2_Create reads a key, a seed, and an initial vector of 16 bytes
+  -- the areas of the object that TPM2_Create makes depend only on the random bytes for the object's
+  -- key and its seedValue
   created_alike : (template : Public) (given : SensitiveValues) → take (drawn_by template given) other ≡ take (drawn_by template given) q.random
       → created template given other ≡ created template given q.random
   unfolding created

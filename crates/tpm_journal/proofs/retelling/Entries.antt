@@ -1,4 +1,4 @@
--- Entries that are executed again and converted, one after another.
+-- Lemmas about entries that are executed again and converted, one after another.
 use Rattle.std.proofs.Common.{◌≡◌, ◌≢◌, ℕ, ◌+◌, ◌≤◌, Bool, List, [], ◌∷◌, ◌++◌, length, take, drop, Option, Some, None, refl, ap, sym, subst, ◌∙◌, append_assoc, append-nil, arith, length-append}
 use Rattle.std.specs.Prelude.{codes, flat_map}
 use Rattle.std.specs.Io.KnownBytes.{Appends}

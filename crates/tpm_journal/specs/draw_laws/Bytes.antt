@@ -1,4 +1,5 @@
--- An event's effect depends only on the random bytes that it draws, and not on those after them.
+-- An event's effect depends only on the random bytes that it draws, and not on the bytes after
+-- them.
 use Rattle.std.specs.Prelude.{◌≡◌, ◌-◌, ℕ, List, ◌++◌, length, replicate, take, Result, Ok, Err}
 use Rattle.tpm_record.specs.rows.Request.{Request}
 use Rattle.tpm_record.specs.rows.Rows.{Success}

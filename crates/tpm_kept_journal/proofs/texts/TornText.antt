@@ -56,7 +56,7 @@ unfolding without_zeros
 zeros_left [] = (0, refl)
 zeros_left (byte ∷ text) = one_more_left byte text (are_zeros (byte ∷ text)) refl (zeros_left text)
 
--- If zeros follow some bytes, the whole without its final zeros is a prefix of these bytes.
+-- If zeros follow some bytes, then all of it without the final zeros is a prefix of these bytes.
 one_more_front : (byte : ℕ) (front text : List ℕ) (b : Bool) → are_zeros (byte ∷ text) ≡ b
     → (back : List ℕ) × (front ≡ without_zeros text ++ back)
     → (back : List ℕ) × (byte ∷ front ≡ without_zeros (byte ∷ text) ++ back)
@@ -125,7 +125,7 @@ lines_end-Decides test place (byte ∷ lines) =
           ))),
     )
 
--- The test decides whether the lines end only where those of the mark's entry end.
+-- `lines_end` decides whether the lines end only where the lines of the mark's entry end.
 pub lines_end_so : (mark text : List ℕ) → Decides (lines_end (ends_line mark) 0 (drop 72 text)) (LinesEnd mark text)
 lines_end_so mark text =
     let all = lines_end-Decides (ends_line mark) 0 (drop 72 text) in (

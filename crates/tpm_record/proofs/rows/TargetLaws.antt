@@ -1,5 +1,5 @@
--- After the checks of a command that reads an NV index have passed, the read fails only if it
--- extends past the end of the index's data.
+-- If a command that reads an NV index has passed its checks, the read fails only if it extends past
+-- the end of the index's data.
 use Rattle.std.proofs.Common.{◌≡◌, ℕ, ◌+◌, Bool, true, false, Some, Result, Ok, Err, IfOk, IfErr, refl, sym, subst}
 use Rattle.std.specs.Prelude.{not, nat_lt}
 use Rattle.std.proofs.lemmas.Bool.{not-false}
@@ -22,12 +22,12 @@ ok_where : {A B : Type 0} (P : A → Type 0) (x : Result A B) → ((a : A) → x
 ok_where P (Ok a) h = h a refl
 ok_where P (Err e) h = tt
 
--- If nothing after a check can fail, the only possible fault is that of the check.
+-- If nothing after a check can fail, the only possible fault is the fault of the check.
 only_if : {A B : Type 0} (b : Bool) (e : B) (a : A) → IfErr (refused_if b e >>= λ u. Ok a) (λ fault. fault ≡ e)
 only_if true e a = refl
 only_if false e a = tt
 
--- The NV index of a command's target exists, and its attributes are those in the target.
+-- The NV index of a command's target exists, and the target contains the attributes of the index.
 target_is : (r : Record) (q : Request) (target : Target) → target_of r q ≡ Ok target → (index : NvIndex) × (index_at r.nv target.handle ≡ Some index) × (target.attributes ≡ index.public.attributes)
 target_is r q target is =
     let auth_handle = bind_ok (first_handle q.handles) _ target is in

@@ -21,11 +21,13 @@ begins_sized (Sized bytes) = true
 begins_sized (SizedFirst bytes rest) = true
 begins_sized (Plain text) = false
 
--- an answer: the handle of the entity that the command created, if there is one; the parameters;
--- and the number of bytes that the command drew from the start of the event's random bytes
+-- the answer of a command
 pub record AnswerParts : Type 0 where
+  -- the handle of the entity that the command created, if there is one
   pub handle : Option Handle
+  -- the parameters of the response
   pub body : Body
+  -- the number of bytes that the command drew from the start of the event's random bytes
   pub drawn : ℕ
 
 -- an answer that consists only of parameters: it has no handle, and no random bytes are drawn

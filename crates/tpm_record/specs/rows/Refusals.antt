@@ -1,5 +1,5 @@
--- The refusals of rows, except those of parameters, which are defined in Rows. TPM 2.0 Library,
--- Part 3: the response codes of each command.
+-- The refusals of rows, except the refusals of parameters, which are defined in Rows. TPM 2.0
+-- Library, Part 3: the response codes of each command.
 use Rattle.std.specs.Prelude.{ℕ, Result, Ok, Err}
 use Rattle.tpm_types.specs.declared.action_check.ActionCheck.{ActionCheck}
 use Rattle.tpm_types.specs.declared.action_fault.ActionFault.{ActionFault}
@@ -12,8 +12,8 @@ use Rattle.tpm_types.specs.declared.rc.ResponseCode.{ResponseCode}
 use Rattle.tpm_types.specs.declared.rc.ResponseCode.TheVariants as code
 use Rattle.tpm_types.specs.declared.refused.Refused.{Refused}
 
--- the refusal if a handle names no entity, although the general checks found one. It never occurs
--- (later_handle_laws of tpm_step)
+-- the refusal if a handle names no entity, although the general checks found an entity. It never
+-- occurs (later_handle_laws of tpm_step)
 abbrev pub handle_refusal : Refused
 handle_refusal = refusal check.Handles (plain code.Failure)
 

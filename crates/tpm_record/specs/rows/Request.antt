@@ -6,12 +6,15 @@ use Rattle.tpm_types.specs.declared.refused.Refused.{Refused}
 use Rattle.tpm_record.specs.rows.Refusals.{handle_refusal}
 use Rattle.tpm_record.specs.declared.rows.call.Call.{Call}
 
--- the request of a command: its handles, as many as its shape requires; the number of its
--- locality; its decrypted parameters; and the event's 256 random bytes
+-- the request of a command
 pub record Request : Type 0 where
+  -- the handles of the command, as many as its shape requires
   pub handles : List Handle
+  -- the number of the command's locality
   pub locality : ℕ
+  -- the decrypted parameters of the command
   pub parameters : List ℕ
+  -- the event's 256 random bytes
   pub random : List ℕ
 
 abbrev pub request_of : Call → Request
@@ -22,18 +25,18 @@ request_of call = record {
   random = call.random.now;
 }
 
--- the first handle of a command that has one; a request has as many handles as its command's shape
--- requires
+-- the first handle of a command that has at least one handle; a request has as many handles as its
+-- command's shape requires
 abbrev pub first_handle : List Handle → Result Handle Refused
 first_handle [] = Err handle_refusal
 first_handle (handle ∷ handles) = Ok handle
 
--- the second handle of a command that has at least two
+-- the second handle of a command that has at least two handles
 abbrev pub second_handle : List Handle → Result Handle Refused
 second_handle (first ∷ handle ∷ handles) = Ok handle
 second_handle handles = Err handle_refusal
 
--- the third handle of a command that has three
+-- the third handle of a command that has three handles
 abbrev pub third_handle : List Handle → Result Handle Refused
 third_handle (first ∷ second ∷ handle ∷ handles) = Ok handle
 third_handle handles = Err handle_refusal

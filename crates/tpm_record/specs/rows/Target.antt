@@ -38,17 +38,19 @@ target_of r q = do
   attributes ← attributes_of r handle
   Ok (record { auth_handle = auth_handle; handle = handle; attributes = attributes })
 
--- whether authHandle may use the index. The owner and the platform may if the index has the
--- attribute that allows them to; any other authHandle must be the index itself
+-- whether authHandle may use the index. The owner and the platform may use it if the index has the
+-- attribute that allows this use; any other authHandle must be the index itself
 abbrev pub may : (owner platform : NvAttribute) → Target → Bool
 may owner platform target =
     if target.auth_handle.number == owner_handle.number then has target.attributes owner
     else (if target.auth_handle.number == platform_handle.number then has target.attributes platform
     else target.auth_handle.number == target.handle.number)
 
+-- whether authHandle may write the index
 abbrev pub may_write : Target → Bool
 may_write target = may attribute.OwnerWrite attribute.PpWrite target
 
+-- whether authHandle may read the index
 abbrev pub may_read : Target → Bool
 may_read target = may attribute.OwnerRead attribute.PpRead target
 
@@ -56,7 +58,7 @@ may_read target = may attribute.OwnerRead attribute.PpRead target
 
 -- the checks A1 to A3 of each command that reads an NV index (Part 3, sections 23.9 and 31.13). A1
 -- refuses the command if authHandle may not read the index, A2 if the index is locked against
--- reading, and A3 if it is not written
+-- reading, and A3 if the index is not written
 abbrev pub reading_passes : Target → Result (Unit {0}) ActionFault
 reading_passes target = do
   a1 ← refused_if (not (may_read target)) (plain_fault action.First code.NvAuthorization)

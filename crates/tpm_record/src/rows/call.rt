@@ -21,7 +21,7 @@ pub struct Call<'a> {
 impl Call<'_> {
     ghost use Rattle.tpm_record.specs.rows.Request.{first_handle, second_handle, third_handle};
 
-    /// The first handle of a command that has one.
+    /// The first handle of a command that has at least one handle.
     pub fn first_handle(&self) -> Result<Handle, Refused>
         ensures { result ≡ first_handle self.now.handles.now }
     {
@@ -31,7 +31,7 @@ impl Call<'_> {
         }
     }
 
-    /// The second handle of a command that has at least two.
+    /// The second handle of a command that has at least two handles.
     pub fn second_handle(&self) -> Result<Handle, Refused>
         ensures { result ≡ second_handle self.now.handles.now }
     {
@@ -40,7 +40,7 @@ impl Call<'_> {
             _ => Err(handle_refusal()),
         }
     }
-    /// The third handle of a command that has three.
+    /// The third handle of a command that has three handles.
     pub fn third_handle(&self) -> Result<Handle, Refused>
         ensures { result ≡ third_handle self.now.handles.now }
     {

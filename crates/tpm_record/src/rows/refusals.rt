@@ -6,7 +6,7 @@ ghost use Rattle.tpm_record.specs.rows.Refusals.{action_refusal, fault_refusal, 
 
 use tpm_types::{ActionCheck, ActionFault, Check, Rc, Refused, ResponseCode};
 
-/// The refusal if a handle names no entity, although the general checks found one.
+/// The refusal if a handle names no entity, although the general checks found an entity.
 pub fn handle_refusal() -> Refused
     ensures { result ≡ handle_refusal }
 {

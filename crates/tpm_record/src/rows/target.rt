@@ -77,8 +77,8 @@ impl Target {
         self.may(NvAttribute::OwnerRead, NvAttribute::PpRead)
     }
 
-    /// Refuses a read of the index if authHandle may not read it, if the index is locked, or if it
-    /// is not written.
+    /// Refuses a read of the index if authHandle may not read it, if the index is locked against
+    /// reading, or if the index is not written.
     pub fn check_reading(&self) -> Result<(), ActionFault>
         ensures { result ≡ reading_passes self.now }
     {

@@ -53,7 +53,7 @@ general_due r buffer =
     ok_bind _ (in_header (header_at buffer)) _ (λ header.
     ok_in_command _ header.0.code (body_of r header.0 header.1) (body_due r header.0 header.1))
 
--- A command whose shape forbids sessions has no entries.
+-- If the command's shape forbids sessions, the command has no entries.
 abbrev IsAlone : Whole → Type 0
 IsAlone c = (shape_of c.code).forbids_sessions ≡ true → c.entries ≡ []
 

@@ -88,7 +88,7 @@ use Rattle.tpm_row_secrecy.proofs.SessionRows as session_secrets
 
 -- ---- TPM2_Startup and TPM2_Shutdown
 
--- a startup changes only the fields that it sets
+-- a startup changes the record only as `Touches Beginning` allows
 start_touches : (r : Record) (start : Start) (random : List ℕ)
     → Touches Beginning r (started_record start r random)
 unfolding with_hierarchy_auth
@@ -355,7 +355,7 @@ late_counted : (Fit : Type 0) (x : Result BankValues ChangeFault)
     → Late Fit (or_refusal (λ fault. action_refusal action.Second (plain code.Failure)) x)
 late_counted Fit x = grind arith
 
--- the PCR update of TPM2_Clear is refused, or it increments the number of updates
+-- if the PCR update of TPM2_Clear is not refused, it only increments the number of updates
 clear_counts : (refusal : ChangeFault → Refused) (banks : BankValues)
     → IfOk (or_refusal refusal (clear_counted banks))
     (λ new. new ≡ record banks { update_count = banks.update_count + 1 })

@@ -1,4 +1,4 @@
--- The handles that the entries of a command authorize.
+-- If the authorization succeeds, each entry is granted the handle that it has to authorize, if any.
 use Rattle.std.proofs.Common.{rules, ◌≡◌, ◌⊎◌, ℕ, ◌+◌, arith, true, List, [], ◌∷◌, ◌++◌, length, get_or, slice_get, Option, Some, None, option_and_then, option_map, Result, Ok, IfOk, is_some, refl, ap, ◌∙◌, inl, inr}
 use Rattle.std.proofs.lemmas.Bool.{false≢true}
 use Rattle.std.proofs.lemmas.List.{length-take}

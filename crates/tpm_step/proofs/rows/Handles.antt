@@ -69,7 +69,7 @@ general_fits r buffer =
 
 -- ---- refusals after the general checks
 
--- if the authorization refuses a command, the failed check is never that of handles (G6)
+-- if the authorization refuses a command, the failed check is never the check of handles (G6)
 authorize_passes : (r : Record) (c : Whole) (locality : ℕ) → Passes check.Handles (authorize r c locality)
 unfolding authorize
 authorize_passes r c locality =

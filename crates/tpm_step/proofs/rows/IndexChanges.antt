@@ -1,4 +1,4 @@
--- The effect of each change on the NV indices.
+-- Each command changes the NV indices only as `ChangesIndices` allows.
 use Rattle.std.specs.Int.{from_be_bytes, to_be_bytes, w64}
 use Rattle.std.specs.List.{list_any}
 use Rattle.std.specs.Prelude.{◌&&◌, ◌==◌, ◌||◌, bit_or, is_some, nat_lt, not}
@@ -183,7 +183,7 @@ same_count _ q old new keeps changes = absurd (false≢true keeps)
 
 -- ---- defining or removing an index
 
--- the index that a row uses is the one that the second handle names
+-- a row uses the index that the second handle names
 pub target_names : (r : Record) (q : Request)
     → IfOk (target_of r q) (λ t. second_handle q.handles ≡ Ok t.handle)
 target_names r q =

@@ -174,8 +174,8 @@ defined_grows : (r : Record) (h : Handle) (i : NvIndex)
     → Grows true r (record r { nv = with_index r.nv h i })
 defined_grows r h i = let more = put_length r.nv.indices h.number i in omega (arith, more)
 
--- TPM2_NV_DefineSpace parses parameters of these kinds. It parses its authorization value as a
--- buffer, and removes trailing zeros afterwards.
+-- TPM2_NV_DefineSpace parses a buffer of at most 32 bytes and then the public area of an index. The
+-- buffer is the authorization value; its trailing zeros are removed after parsing.
 define_reads : (text : List ℕ)
     → outcome (parameters_in text) ≡ spelled 1 (kind.Buffer 32 ∷ kind.NvPublic ∷ []) text
 unfolding parameters_in

@@ -118,7 +118,7 @@ late_creation Fit before x = grind arith
 late_scheme : (Fit : Type 0) (p : PublicParameters) → Late Fit (scheme_of p)
 late_scheme Fit p = grind arith
 
--- The step of TPM2_EvictControl that removes a persistent object, or copies a transient one,
+-- The step of TPM2_EvictControl that removes a persistent object, or copies a transient object,
 -- refuses late (`Late`).
 late_evicted : (Fit : Type 0) (objects : Entries Object) (h : Handle) (o : Object) (wanted : Handle)
     → Late Fit (evicted objects h o wanted)

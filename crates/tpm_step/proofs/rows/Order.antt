@@ -1,5 +1,5 @@
--- The order in which a row reports refusals (`Orders`): its proof, step by step, and its
--- consequences.
+-- Proves, step by step, in which order a row reports refusals (`Orders`), and proves what follows
+-- from this order.
 use Rattle.std.specs.Option.{option_map_or}
 use Rattle.std.specs.Prelude.{◌==◌, ◌||◌, if◌then◌else◌, is_some, not, ok_or}
 use Rattle.std.proofs.Common.{◌+◌, ◌∙◌, ◌∷◌, ◌≡◌, ◌⊎◌, Bool, Err, IfErr, List, None, Ok, Option}
@@ -41,8 +41,8 @@ use Rattle.tpm_step.proofs.rows.Readings.{read_one, trimmed_read}
 
 -- ---- consequences of the order
 
--- unless it refuses a handle, a row that satisfies `InOrder` accepts parameters of its kinds, and
--- refuses others with their first fault
+-- a row that satisfies `InOrder` accepts parameters of its kinds and refuses all other parameters
+-- with their first fault, unless it refuses a handle
 pub in_order_reads : {X : Type 0} (Fit : Type 0) (s : Result (Unit {0}) Refused)
     (row : Result X Refused) → InOrder Fit s row → ReadsParameters s row
 in_order_reads Fit (Ok u) (Ok x) order = tt
@@ -163,7 +163,8 @@ pub either : (a b : Bool) → (a || b) ≡ true → (a ≡ true) ⊎ (b ≡ true
 either true b is = inl refl
 either false b is = inr is
 
--- The entity that a handle of this type names exists: a session, or another entity.
+-- A handle of this type names something that exists: `session` says whether its session exists, and
+-- `entity` is its entity if the handle does not have the type of a session.
 abbrev pub IsThere : ℕ → Bool → Entity → Type 0
 IsThere type session entity =
     (if (type == 0x02 || type == 0x03) then session
@@ -270,12 +271,13 @@ pub late_own_fault : {X : Type 0} (Fit : Type 0) (x : Result X ActionFault)
 late_own_fault Fit (Ok u) = tt
 late_own_fault Fit (Err fault) = tt
 
--- the rules for the steps of rows: those that read handles, those that read parameters, and those
--- that refuse late
+-- the rules for the steps of rows that read handles
 pub ruleset handle_steps = (behind_first, behind_second, behind_third, behind_entity, behind_index, behind_target, behind_target_asserted)
 
+-- the rules for the steps of rows that read parameters
 pub ruleset reading_steps = (behind_reading, behind_handed, all_read_outcome, only_read, read_one, read_all, trimmed_read)
 
+-- the rules for the steps of rows that refuse late (`Late`)
 pub ruleset late_steps = (rules, err_bind, err_if, err_or, err_fault, late_own_fault)
 
 -- the rules with which `Orders` is proved for a row

@@ -1,4 +1,4 @@
--- Steps of a row whose refusals neither count as failed tries nor disable lockoutAuth.
+-- The refusals of these steps of a row neither count as failed tries nor disable lockoutAuth.
 use Rattle.std.proofs.Common.{◌∷◌, Err, List, Ok, Result, [], refl, rules, ℕ}
 use Rattle.tpm_types.specs.declared.action_fault.ActionFault.{ActionFault}
 use Rattle.tpm_types.specs.declared.handle.Handle.{Handle}

@@ -80,7 +80,7 @@ checked_assertion hash trial assertion policy = by (asserted hash trial assertio
     by (Err fault) is = tt
 
 -- There are as many sessions as before, each session that existed still exists, and the fields of
--- all of them keep the right sizes.
+-- all sessions keep the right sizes.
 record KeepsSessions (r : Record) (sessions : List (Option Session)) : Type 0 where
   count : taken_count sessions ≡ taken_count r.sessions
   stay : SessionsStay r (record r { sessions = sessions })

@@ -1,5 +1,5 @@
--- Sessions still exist, and their fields have the right sizes, after a session starts, changes its
--- policy, or is flushed.
+-- After a session starts or changes its policy, the sessions that existed still exist. The fields
+-- of all sessions keep the right sizes, also after a session is flushed.
 use Rattle.std.specs.Prelude.{IfSome, is_some, option_and_then}
 use Rattle.std.proofs.Common.{◌∙◌, ◌≡◌, List, None, Option, Some, ap, inl, inr, length, refl}
 use Rattle.std.proofs.Common.{slice_set, subst, sym, true, ℕ}
@@ -21,7 +21,7 @@ use Rattle.tpm_step.proofs.rows.AllPlaces.{all_changed, all_found, all_without}
 
 -- ---- the existing sessions
 
--- a session that exists still exists after a new one gets a free slot
+-- a session that exists still exists after a new session gets a free slot
 pub stays_put : (sessions : List (Option Session)) (place : ℕ) (s : Session) (h : Handle)
     → lowest_free sessions ≡ Some place → is_some (session_at sessions h) ≡ true
     → is_some (session_at (slice_set sessions place (Some s)) h) ≡ true

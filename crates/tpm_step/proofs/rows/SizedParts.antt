@@ -1,4 +1,4 @@
--- The sizes of the fields of a session.
+-- Lemmas about the sizes of a session's fields.
 use Rattle.std.proofs.Common.{arith, ◌≡◌, ◌⊎◌, ℕ, Bool, List, [], length, take, Option, Some, None, refl, inl, inr, ◌≤◌, true, false, subst, sym}
 use Rattle.std.proofs.lemmas.List.{length-take-le}
 use Rattle.std.specs.Prelude.{◌&&◌, nat_le}

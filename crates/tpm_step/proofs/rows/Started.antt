@@ -1,4 +1,5 @@
--- A device is started after an accepted command.
+-- After every accepted command the device is started. Only TPM2_Startup is accepted before that,
+-- and it starts the device.
 use Rattle.std.proofs.Common.{◌≡◌, ℕ, Bool, true, false, List, IfOk, refl, ap, ◌∙◌}
 use Rattle.tpm_types.specs.StartupType.{startup_type_at}
 use Rattle.tpm_commands.specs.declared.command_code.CommandCode.{CommandCode}

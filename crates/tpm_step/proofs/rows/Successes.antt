@@ -51,12 +51,11 @@ pub in_place : (c : CommandCode) (r : Record) (q : Request) (s : Success)
 in_place c r q s leaves keeps nothing touches changes answers draws =
     beside_sessions c r q s leaves touches (nothing r s.after (touched_grows (part_of c) r s.after keeps touches)) changes answers draws
 
--- drawing no random bytes stays within the limit
+-- drawing no random bytes stays within the limit of 96 bytes
 pub none_drawn : 0 ≤ 96
 none_drawn = omega arith
 
--- the number of bytes that is computed from parsed parameters is the number that `read_or_none`
--- computes
+-- if the parameters could be parsed, `read_or_none` computes the number of bytes from them
 pub drawn_as_read : {P : Type 0} (count : P → ℕ) (x : Result P Refused) (p : P)
     → x ≡ Ok p → count p ≡ read_or_none count x
 drawn_as_read count x p is = sym (ap (read_or_none count) is)

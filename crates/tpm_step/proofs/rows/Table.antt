@@ -124,7 +124,8 @@ pub row_sized : (r : Record) (c : CommandCode) (q : Request) → 32 ≤ length q
     → IfOk (row_of r c q) (λ s. AreSized s.after)
 row_sized r c q enough sized = of_success _ r c q (λ s laws. laws.sized enough sized)
 
--- a success that changes a part without sessions leaves the sessions unchanged
+-- if a command changes a part of the state without sessions, its success leaves the sessions
+-- unchanged
 pub row_same : (r : Record) (c : CommandCode) (q : Request) → leaves_sessions (part_of c) ≡ true
     → IfOk (row_of r c q) (λ s. s.after.sessions ≡ r.sessions)
 row_same r c q leaves =

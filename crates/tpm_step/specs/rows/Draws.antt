@@ -1,6 +1,7 @@
--- How many of an event's random bytes a command itself draws, as its code and its parameters
--- determine. The nonces of its entries are drawn after these. TPM 2.0 Library, Part 3, sections
--- 11.1 (TPM2_StartAuthSession), 12.1 (TPM2_Create), 16.1 (TPM2_GetRandom) and 24.6 (TPM2_Clear).
+-- The number of an event's random bytes that a command itself draws, which its code and its
+-- parameters determine. The nonces for the command's entries are drawn after these bytes. TPM 2.0
+-- Library, Part 3, sections 11.1 (TPM2_StartAuthSession), 12.1 (TPM2_Create), 16.1 (TPM2_GetRandom)
+-- and 24.6 (TPM2_Clear).
 use Rattle.std.specs.Prelude.{ℕ, ◌≡◌, ◌≤◌, ◌+◌, ◌*◌, min, length, false, List, Result, Ok, Err}
 use Rattle.std.specs.Int.{w16}
 use Rattle.tpm_bytes.specs.Reading.{number_at, or_fault}

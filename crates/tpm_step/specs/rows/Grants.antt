@@ -1,4 +1,4 @@
--- The handles that the entries of a command authorize.
+-- Says which handle each entry of a command is granted.
 use Rattle.std.specs.Prelude.{◌≡◌, ℕ, List, length, Option, option_and_then, option_map, slice_get}
 use Rattle.tpm_types.specs.declared.handle.Handle.{Handle}
 use Rattle.tpm_types_command.specs.Command.{Whole}

@@ -27,8 +27,8 @@ abbrev pub stored_count : NvIndex → Option ℕ
 stored_count index =
     if index_has index attribute.Written then Some (from_be_bytes w64 index.bytes) else None
 
--- If the index is a counter after the change, it was one before, with the same value and the same
--- TPMA_NV_CLEAR_STCLEAR.
+-- If the index is a counter after the change, it was a counter before, with the same value and the
+-- same TPMA_NV_CLEAR_STCLEAR.
 abbrev pub KeepsCount : NvIndex → NvIndex → Type 0
 KeepsCount old new =
     IsCounter new
@@ -85,8 +85,8 @@ pub record Undefines (q : Request) (old new : NvContents) : Type 0 where
   pub named : second_handle q.handles ≡ Ok handle
   pub is : new ≡ without_index old handle
 
--- how a success changes the NV indices if it changes this part of the state; other successes do not
--- change them
+-- how a success changes the NV indices if it changes this part of the state; if the part is not
+-- listed here, the indices are unchanged
 abbrev pub ChangesIndices : Part → Request → NvContents → NvContents → Type 0
 ChangesIndices NvData q = Writes
 ChangesIndices NvCounter q = Increments q

@@ -11,19 +11,19 @@ use Rattle.tpm_record.specs.Record.{Record}
 use Rattle.tpm_step.specs.rows.Handles.{HandlesFit}
 use Rattle.tpm_step.specs.rows.Shapes.{spelled}
 
--- A late check is one that comes after the row has parsed its parameters. It is one of the
--- command's own checks, or the check of handles if the handles do not fit.
+-- A check is late if it comes after the row has parsed its parameters. The late checks are the
+-- command's own checks and, if the handles do not fit, the check of handles.
 abbrev pub IsLate : Type 0 → Check → Type 0
 IsLate Fit (check.Action own) = Unit {0}
 IsLate Fit check.Handles = Fit → ⊥
 IsLate Fit _ = ⊥
 
--- If the row refuses, the failed check is a late one (`IsLate`).
+-- If the row refuses, the failed check is late (`IsLate`).
 abbrev pub Late : {X : Type 0} → Type 0 → Result X Refused → Type 0
 Late Fit row = IfErr row (λ e. IsLate Fit e.check)
 
--- The refusal is the first of these: a handle does not fit its rule; the parameters have a fault;
--- or, after they could be parsed, a late check fails.
+-- The refusal is one of these: the check of handles fails, and a handle does not fit its rule; the
+-- parameters have this fault; or all parameters could be parsed, and a late check fails.
 abbrev pub IsInPlace : Type 0 → Result (Unit {0}) Refused → Refused → Type 0
 IsInPlace Fit spelling e =
     ((e.check ≡ check.Handles) × (Fit → ⊥))

@@ -8,8 +8,8 @@ use Rattle.tpm_types.specs.declared.refused.Refused.{Refused}
 abbrev pub Passes : {X : Type 0} → Check → Result X Refused → Type 0
 Passes check result = IfErr result (λ e. e.check ≢ check)
 
--- If the result is a refusal, it is by the check of the entries that authorize handles (G9), or by
--- that of the other entries (G10).
+-- If the result is a refusal, the failed check is G9 (entries that authorize handles) or G10 (all
+-- other entries).
 abbrev pub RefusesAuthorization : {X : Type 0} → Result X Refused → Type 0
 RefusesAuthorization result =
     IfErr result (λ e. (e.check ≡ check.Authorization) ⊎ (e.check ≡ check.Others))

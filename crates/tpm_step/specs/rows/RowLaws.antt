@@ -1,4 +1,4 @@
--- All laws about the row of a command, as one record.
+-- Defines one record with all laws about the row of a command.
 use Rattle.std.specs.Prelude.{◌≡◌, ◌≤◌, false, length, Result, IfOk}
 use Rattle.tpm_types.specs.declared.refused.Refused.{Refused}
 use Rattle.tpm_commands.specs.CommandCode.{part_of, shape_of}
@@ -18,9 +18,10 @@ use Rattle.tpm_step.specs.rows.Shapes.{AnswersItsShape, GrowsAsShaped}
 use Rattle.tpm_step.specs.rows.Sizes.{AreSized}
 
 -- A success changes only its command's part of the state, and changes the NV indices as that part
--- allows. It fills slots and returns values as the command's shape says. It draws as many random
--- bytes as `draws_of` says. If the command may have sessions, all sessions still exist after it.
--- The fields of sessions keep the right sizes.
+-- allows. It fills slots and returns values as the command's shape says. Unless the command is
+-- TPM2_Startup, it draws as many random bytes as `draws_of` says. If the command may have sessions,
+-- all sessions still exist after it. The fields of sessions keep the right sizes, if there are
+-- enough random bytes for a nonce.
 pub record SuccessLaws (c : CommandCode) (r : Record) (q : Request) (s : Success) : Type 0 where
   pub touches : Touches (part_of c) r s.after
   pub changes : ChangesIndices (part_of c) q r.nv s.after.nv

@@ -32,8 +32,8 @@ said_of_opening (opening.Follow fault) = said_of_following fault
 abbrev pub HasFault : List ℕ → OpenFault → Type 0
 HasFault text fault = (new : Record) × OpensJournal text (Err fault) new
 
--- The report says why these bytes are not a journal. If they are one, the report says that an
--- earlier attempt found it damaged. The report may also say that an allocation failed.
+-- The report says why these bytes are not a journal, or that an earlier attempt found the journal
+-- damaged, or that an allocation failed.
 abbrev pub IsSaidOf : List ℕ → Said → Type 0
 IsSaidOf text words =
     ((fault : OpenFault) × (words ≡ said_of_opening fault) × HasFault text fault)

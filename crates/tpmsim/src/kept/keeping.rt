@@ -87,8 +87,8 @@ impl<'a> Kept<'a> {
         self.execute(&command)
     }
 
-    /// Executes a TPM command this many milliseconds after the previous one, without the completing
-    /// layer.
+    /// Executes a TPM command this many milliseconds after the previous command, without the
+    /// completing layer.
     pub fn execute_after(
         &mut self,
         elapsed_ms: u32,

@@ -28,7 +28,7 @@ pub fn traced_row(answer: Answer<'_>) -> Option<Row>
     Some(Row { code, check })
 }
 
-/// Whether a number is that of a command, or 0.
+/// Whether a number is 0 or the number of a command.
 #[tactic(auto, using(tpm_commands::proofs::Codes::codes))]
 fn is_code(number: u32) -> bool
     ensures only { result ≡ true → IsCode number }
@@ -40,7 +40,7 @@ fn is_code(number: u32) -> bool
     }
 }
 
-/// Whether a number is that of a check, or 0.
+/// Whether a number is 0 or the number of a check.
 fn is_check(number: u8) -> bool
     ensures only { result ≡ true → IsCheck number }
     ensures all { IsCheck number → result ≡ true }

@@ -1,4 +1,4 @@
--- The entry of an execution.
+-- The entry that a log contains for an execution.
 use Rattle.std.specs.Prelude.{ℕ, ◌&&◌, nat_le, Bool, false, List, length, take, Option, Some, None}
 use Rattle.tpm_step.specs.Events.{PlainEvent, Given, Cycled, Placed}
 use Rattle.tpm_machine.specs.Executions.{Execution}

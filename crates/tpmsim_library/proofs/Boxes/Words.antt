@@ -28,15 +28,16 @@ Heap = arg (bare (layout global.the_row)) no global.the_row
 pub heap_laws : Laws Heap
 heap_laws = arg_laws (bare (layout global.the_row)) no global.the_row global_laws.the_row_laws refl
 
--- the machine word of an allocator, and the machine word of a pointer together with an allocator
+-- the machine word of an allocator
 abbrev pub heap_word : Global → Val
 heap_word alloc = global_laws.lowered alloc
 
+-- the machine word of a pointer together with an allocator
 abbrev pub word : Ptr → Global → Val
 word at alloc = vstruct (vcons (ptr_val at) (vcons (heap_word alloc) vnil))
 
--- an allocator owns nothing but the fact that it is represented by this machine word, and by no
--- other
+-- an allocator is represented by this machine word, and by no other; it owns nothing except this
+-- fact
 pub heap_is : (alloc : Global) → Is Heap alloc (heap_word alloc ∷ [])
 heap_is alloc = ((vstruct (vcons vunit vnil) ∷ [], tt), (refl, (((vunit ∷ [], tt), (refl, (refl, tt))), tt)))
 

@@ -23,10 +23,11 @@ use Rattle.tpmsim_web.specs.declared.lent.Lent.{Lent}
 use Rattle.tpmsim_web.proofs.device.Device.TheLaws as device_laws
 use Rattle.tpmsim_web.specs.contracts.device.Device as device
 
--- the types of the allocator and the device, as arguments of a generic function
+-- the type of the allocator, as an argument of a generic function
 abbrev pub Source : RattleType
 Source = arg (bare (layout lent.the_row)) no lent.the_row
 
+-- the type of the device, as an argument of a generic function
 abbrev pub Content : RattleType
 Content = arg (bare (layout device.the_row)) no device.the_row
 
@@ -36,15 +37,16 @@ source_laws = arg_laws (bare (layout lent.the_row)) no lent.the_row lent_laws.th
 pub content_laws : Laws Content
 content_laws = arg_laws (bare (layout device.the_row)) no device.the_row device_laws.the_row_laws refl
 
--- the machine word of an allocator, and the machine word of a pointer together with an allocator
+-- the machine word of an allocator
 abbrev pub source_word : Lent → Val
 source_word alloc = lent_laws.lowered alloc
 
+-- the machine word of a pointer together with an allocator
 abbrev pub word : Ptr → Lent → Val
 word at alloc = vstruct (vcons (ptr_val at) (vcons (source_word alloc) vnil))
 
--- an allocator owns nothing but the fact that it is represented by this machine word, and by no
--- other
+-- an allocator is represented by this machine word, and by no other; it owns nothing except this
+-- fact
 pub source_is : (alloc : Lent) → Is Source alloc (source_word alloc ∷ [])
 source_is alloc = (tt, (refl, tt))
 

@@ -6,7 +6,7 @@ use Rattle.tpm_nv.specs.Head.{indices_of, total}
 use Rattle.tpm_image_text.specs.Body.{index_text}
 use Rattle.tpm_image_text.proofs.indices.write_heads.Given as goal
 
--- The indices written so far, followed by those still to be written, are the whole list.
+-- The indices written so far, followed by the indices still to be written, are the whole list.
 abbrev pub invariant-loop-entry : goal.invariant-loop-entry
 invariant-loop-entry l = record {
   written : l.text ++ flat_map index_text (indices_of (drop l.entry-index l.heads) l.left) ≡ l.fn.text ++ flat_map index_text (indices_of l.heads l.area);

@@ -6,7 +6,7 @@ use Rattle.tpm_image_text.specs.Filling.{AllBelow}
 use Rattle.tpm_image_text.proofs.EntriesLaws.{entries_left}
 use Rattle.tpm_image_text.proofs.objects.add_objects.Given as goal
 
--- The objects read so far, followed by those still to be read, are the whole list.
+-- The objects read so far, followed by the objects still to be read, are the whole list.
 abbrev pub invariant-loop : goal.invariant-loop
 invariant-loop g l = record {
   joined : entries_left object_in l.count l.counter l.lowest (g.P.PersistentObjects.entries l.objects) l.text ≡ passing (ascend_from 0) (many_at object_in l.count) l.fn.text;

@@ -4,7 +4,7 @@ use Rattle.tpm_bytes.proofs.Joining.{behind}
 use Rattle.tpm_step.specs.General.{present_handle_at}
 use Rattle.tpm_machine.proofs.decoding.read_handles.Given as goal
 
--- The handles read so far, together with those that remain to be read, are all handles of the
+-- The handles read so far, together with the handles that remain to be read, are all handles of the
 -- command.
 abbrev pub invariant-loop-rule : goal.invariant-loop-rule
 invariant-loop-rule g l =

@@ -2,7 +2,7 @@ use Rattle.std.proofs.Common.{◌≡◌, ◌+◌, ◌*◌, ◌≤◌, ◌++◌, 
 use Rattle.tpm_types.specs.PcrSelection.{banks_text}
 use Rattle.tpm_types.proofs.pcr_selection.append_banks.Given as goal
 
--- The loop has written the banks before this index, and the sink has room for the others.
+-- The loop has written the banks before this index, and the sink has room for the remaining banks.
 abbrev pub invariant-loop-bank : goal.invariant-loop-bank
 invariant-loop-bank g l = record {
   so_far : l.sink ≡ l.fn.sink ++ banks_text (take l.bank-index l.banks);

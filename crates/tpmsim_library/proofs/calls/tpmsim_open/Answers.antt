@@ -15,7 +15,7 @@ returns-in-Err-clause-opens c = (
   (c.fault_number.ensures, refl),
 )
 
--- if the image is that of a device with a history, the opened device has this history and a power
+-- if a device with a history has this image, the opened device has the same history and a power
 -- cycle after it
 pub returns-in-Ok-clause-history : goal.returns-in-Ok-clause-history
 returns-in-Ok-clause-history c =

@@ -9,7 +9,7 @@ pub returns-in_default : goal.returns-in_default
 returns-in_default c =
     rw (no_head c.args.text.now (λ h rest has is. c.in_default.ensures.only h.kind h.clock h.content rest has is)) (search rules)
 
--- the content is that of the head at the start of the bytes
+-- the content of the head at the start of the bytes is written
 pub returns : goal.returns
 returns c =
     let head = c.in-Some.head in

@@ -28,7 +28,7 @@ returns-clause-executes c =
     c.in-Some.ensures.1 told in
     λ _. (before, c.execute.new.self, was, c.put.ensures, all.0, all.1, all.2, c.execute.ensures.journal)
 
--- the written trace is that of this event
+-- the written trace is the trace of this event
 pub returns-clause-traced : goal.returns-clause-traced
 returns-clause-traced c =
     let row : Row = record { code = c.execute.result.code; check = c.execute.result.check } in

@@ -4,7 +4,7 @@ use Rattle.tpmsim_web.specs.State.{whole_state}
 use Rattle.tpmsim_web.proofs.Restoring.{fault_told, never_faulty, same_history, same_layer, same_record}
 use Rattle.tpmsim_web.proofs.snapshots.device_restore.Goals as goal
 
--- The device that is put back into the holder is that of the state text.
+-- The device that is put back into the holder is the device of the state text.
 pub returns-in-Ok-clause-restores : goal.returns-in-Ok-clause-restores
 returns-in-Ok-clause-restores c = λ done. (c.restore-restored.new.self, c.put.ensures, c.in-Ok.ensures.restores)
 
@@ -23,7 +23,7 @@ returns-in-Ok-clause-history c = λ state history is follows same done.
     let device = c.restore-restored.new.self in
     (device, c.put.ensures, same_history c.args.text.now device c.in-Ok.ensures.restores state history is follows same)
 
--- The reported error is the first one in the bytes.
+-- The reported error is the first error in the bytes.
 pub returns-in-Err-clause-told : goal.returns-in-Err-clause-told
 returns-in-Err-clause-told c =
     let was : c.args.holder.now.device ≡ Some c.deref_mut.result.now = c.in-Some.ensures.taken ∙ ap Some (sym c.deref_mut.ensures.value) in

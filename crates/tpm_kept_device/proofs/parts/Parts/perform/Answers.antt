@@ -10,7 +10,8 @@ use Rattle.tpm_kept_device.specs.View.{plain_command, plain_moment}
 use Rattle.tpm_kept_device.specs.declared.command.Command.{Command}
 use Rattle.tpm_kept_device.proofs.parts.Parts.perform.Goals as goal
 
--- The command is the same if its random bytes are a copy of those in its encoding.
+-- If a command's random bytes are replaced by a copy of them, the encoding still decodes to this
+-- command.
 copied : (text : List ℕ) (at : Moment) (locality : ℕ) (completes : Bool) (random copy buffer : List ℕ) (field : Command)
     → command_of text ≡ Ok (plain_command field) → plain_command field ≡ kept.Executes at locality completes random buffer → copy ≡ random
     → command_of text ≡ Ok (kept.Executes at locality completes copy buffer)

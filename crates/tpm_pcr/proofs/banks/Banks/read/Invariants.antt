@@ -3,7 +3,7 @@ use Rattle.tpm_types.specs.DigestList.{digests_of}
 use Rattle.tpm_pcr.specs.Banks.{answer_selection, read_values}
 use Rattle.tpm_pcr.proofs.banks.Banks.read.Given as goal
 
--- The banks read so far, followed by the remaining ones, are all the banks to read.
+-- The banks read so far, followed by the remaining banks, are all the banks to read.
 abbrev pub invariant-loop-bank : goal.invariant-loop-bank
 invariant-loop-bank l =
     let left = drop l.bank-index l.bank-items in

@@ -3,7 +3,7 @@ use Rattle.tpm_types_command.specs.Command.{handles_at}
 use Rattle.tpm_bytes.proofs.Joining.{behind}
 use Rattle.tpm_types_command.proofs.command.reading.read_handles.Given as goal
 
--- The handles read so far, followed by those in the remaining bytes, are all handles of the
+-- The handles read so far, followed by the handles in the remaining bytes, are all handles of the
 -- command.
 abbrev pub invariant-loop-before : goal.invariant-loop-before
 invariant-loop-before l = record {

@@ -1,4 +1,5 @@
--- `into_owner` returns an owner with the holder's pointer, which owns what the holder owned.
+-- `into_owner` returns an owner with the holder's pointer. The new owner owns what the holder
+-- owned.
 use mathlib.Core.List.{[], ◌∷◌}
 use mathlib.Core.Path.{refl}
 use mir.Val.{Val}

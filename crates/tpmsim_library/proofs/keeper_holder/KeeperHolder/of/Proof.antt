@@ -1,4 +1,4 @@
--- `of` returns a holder with the owner's pointer, which owns what the owner owned.
+-- `of` returns a holder with the owner's pointer. The new holder owns what the owner owned.
 use mathlib.Core.List.{[], ◌∷◌}
 use mathlib.Core.Path.{refl}
 use mir.Val.{Val}

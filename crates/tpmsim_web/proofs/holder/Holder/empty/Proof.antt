@@ -35,7 +35,7 @@ empty_spec 𝓤 𝓛 𝓜 𝓡 wired =
     enter ! _ _ _ _ _ $ alloc_all ! (λ l. pass_all ! refl (source_typed a.0, tt) $
     sets ! (agg ! (and_then ! (lit ! tt) (and_then ! (get ! refl) (no_more !)))) refl (word_typed null_ptr a.0) $
     returns ! (look_at ! 0 refl) $ free_all ! refl $
-    -- Context: the holder.
+    -- The context contains the holder.
     feq_i ! Ptr null_ptr null_ptr refl $ use1 𝓛 (‵ (HolderRow.own_val made (word null_ptr a.0 ∷ []))) (holder_made 𝓛 made) $
     suffices ! _ (ends_at 𝓛 promise.ended stays clauses y (word null_ptr a.0) made (tt, tt) (tt, tt)) $ says ! refl $
     nothing ! $ nothing ! $ join ! $ nothing ! $ group ! 3 $ done !))

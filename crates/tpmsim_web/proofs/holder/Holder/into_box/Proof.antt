@@ -82,7 +82,7 @@ into_box_spec 𝓤 𝓛 𝓜 𝓡 wired =
     use1 𝓛 (raw ((Whole 𝓛 𝓜.mem 𝓡.returns).pre (at_whole 𝓛 𝓜.mem 𝓡.returns h.alloc (block_ptr b o) value))) (whole_asks 𝓛 𝓜.mem 𝓡.returns h.alloc (block_ptr b o) value) $
     calls_at_last ! (framed 𝓤 𝓛.H 𝓜 𝓣) (Whole 𝓛 𝓜.mem 𝓡.returns) met (at_whole 𝓛 𝓜.mem 𝓡.returns h.alloc (block_ptr b o) value)
     (and_then ! (get ! refl) (and_then ! (get ! refl) (no_more !))) (λ u.
-    -- Context: the box.
+    -- The context contains the box.
     use1 𝓛 (later (some (λ (boxed : BoxRow.Denot). given ((boxed.value ≡ value) × (u ≡ word boxed.ptr boxed.alloc)) (‵ (BoxRow.own_val boxed (u ∷ []))))))
     (whole_gives 𝓛 𝓜.mem 𝓡.returns h.alloc (block_ptr b o) value u) $ await ! tt $ pick ! (λ boxed. learn ! (λ same.
     let typed : T (has_ty (layout BoxRow) u) × WT u = subst (λ (v : Val). T (has_ty (layout BoxRow) v) × WT v) (sym same.1) (word_typed boxed.ptr boxed.alloc) in

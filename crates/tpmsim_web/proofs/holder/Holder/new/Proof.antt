@@ -53,10 +53,11 @@ one_word [] lone = absurd lone
 one_word (v ∷ []) lone = refl
 one_word (v ∷ u ∷ us) lone = absurd lone
 
--- the only field of a place, as a struct without a name, and the machine word of a place
+-- the only field of a place, as a struct without a name
 abbrev Fields : Shape
 Fields = record { name = []; args = []; types = []; fields = RawPtr ∷ [] }
 
+-- the machine word of a place
 abbrev place_words : Ptr → List Val
 place_words at = vstruct (vcons (ptr_val at) vnil) ∷ []
 
@@ -88,7 +89,7 @@ new_spec 𝓤 𝓛 𝓜 𝓡 wired =
     sets ! (agg ! (no_more !)) refl (source_typed (record {})) $
     sets ! (agg ! (and_then ! (get_in ! (fld ! refl (stop !)) (sub ! 0 refl (whole !))) (and_then ! (get ! refl) (no_more !)))) refl (word_typed (block_ptr b o) (record {})) $
     returns ! (look_at ! 0 refl) $ free_all ! refl $
-    -- Context: the holder.
+    -- The context contains the holder.
     use2 𝓛 (‵ (part_at DeviceRow full_share device b o)) (part_in 𝓛 DeviceRow refl full_share device b o w) $
     rewrite ! 1 (λ (s : Ptr). ‵ (flt (count_of s) (2 ^ 63))) lies refl $ fjoin ! $
     let made : HolderRow.Denot = record { at = block_ptr b o; alloc = record {}; device = Some device } in

@@ -61,7 +61,7 @@ of_spec 𝓤 𝓛 𝓜 𝓡 wired =
     sets ! (of_opd ! (get ! refl)) refl (pointer_typed at) $
     sets ! (agg ! (and_then ! (get ! refl) (and_then ! (get ! refl) (no_more !)))) refl (word_typed at b.alloc) $
     returns ! (look_at ! 0 refl) $ free_all ! refl $
-    -- Context: the holder.
+    -- The context contains the holder.
     let made : HolderRow.Denot = record { at = at; alloc = b.alloc; device = Some b.value } in
     use1 𝓛 (‵ (HolderRow.own_val made (word at b.alloc ∷ []))) (holder_made 𝓛 made) $
     suffices ! _ (ends_at 𝓛 promise.ended stays clauses y (word at b.alloc) made (tt, tt) (tt, tt)) $ says ! refl $

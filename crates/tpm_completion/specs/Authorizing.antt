@@ -1,0 +1,101 @@
+-- How a command on sequence objects is authorized: by passwords alone, one for each handle that
+-- needs authorization. TPM 2.0 Library, Part 3, section 5.5 (session area validation) and 5.6
+-- (authorization checks), and Part 1, section 32.4 (sequence objects).
+use Rattle.std.specs.Prelude.{ℕ, ◌==◌, ◌||◌, nat_lt, not, List, [], ◌∷◌, length, Result, Ok, Err, ok_or}
+use Rattle.std.specs.Int.{w32}
+use Rattle.tpm_bytes.specs.Reading.{◌>>=◌, number_at, or_fault, refused_if}
+use Rattle.tpm_types.specs.Handle.{is_transient, numbered, password_handle}
+use Rattle.tpm_types.specs.Rc.{at, entry_fault, plain}
+use Rattle.tpm_types.specs.Refused.{checked, refusal}
+use Rattle.tpm_types.specs.SessionAttributes.{audits, has_reserved_bits, uses_cipher}
+use Rattle.tpm_types.specs.declared.check.Check.TheVariants as check
+use Rattle.tpm_types.specs.declared.handle.Handle.{Handle}
+use Rattle.tpm_types.specs.declared.rc.Place.TheVariants as place
+use Rattle.tpm_types.specs.declared.rc.ResponseCode.{ResponseCode}
+use Rattle.tpm_types.specs.declared.rc.ResponseCode.TheVariants as code
+use Rattle.tpm_types.specs.declared.refused.Refused.{Refused}
+use Rattle.tpm_types_command.specs.AuthArea.{area_at}
+use Rattle.tpm_types_command.specs.AuthEntry.{Entry}
+use Rattle.tpm_completion.specs.Sequences.{slot_of}
+use Rattle.tpm_completion.specs.declared.completion.Completion.{Completion}
+
+-- ---- refusals
+
+-- the refusal of handle n, by check G6
+abbrev pub handle_refused : ℕ → ResponseCode → Refused
+handle_refused n fault = refusal check.Handles (at (place.Handle n) (plain fault))
+
+-- the refusal of entry n, by check G8
+abbrev pub entry_refused : ℕ → ResponseCode → Refused
+entry_refused n fault = refusal check.Entries (entry_fault n fault)
+
+-- the refusal if entry n has the wrong password, by check G9. It is no failed try, because sequence
+-- objects are not protected against dictionary attacks
+abbrev pub password_refused : ℕ → Refused
+password_refused n = refusal check.Authorization (entry_fault n code.BadAuth)
+
+-- the refusal if an entry is missing, by check G7
+abbrev pub missing_refused : Refused
+missing_refused = refusal check.Sessions (plain code.AuthMissing)
+
+-- the refusal if handle 1, or handle 2, does not name a sequence object, by check G6
+abbrev pub absent_refused : ResponseCode → Refused
+absent_refused reference = refusal check.Handles (plain reference)
+
+-- ---- handles
+
+-- handle n of a command, and the remaining bytes: INSUFFICIENT if it is truncated
+unfoldable pub handle_at : (n : ℕ) → List ℕ → Result (Handle × List ℕ) Refused
+handle_at n text = do
+  number ← or_fault (number_at w32 text) (handle_refused n code.Insufficient)
+  Ok (numbered number.0, number.1)
+
+-- the slot of the sequence object that handle n of a command names: VALUE if the handle is not that
+-- of a transient object, and `reference` if it does not name a sequence object
+unfoldable pub sequence_named : Completion → (n : ℕ) → (reference : ResponseCode) → Handle
+    → Result ℕ Refused
+sequence_named c n reference handle = do
+  transient ← refused_if (not (is_transient handle)) (handle_refused n code.Value)
+  ok_or (slot_of c handle) (absent_refused reference)
+
+-- ---- entries
+
+-- the entries at the start of the bytes, and the remaining bytes: AUTHSIZE if the authorization
+-- area is malformed
+unfoldable pub entries_at : List ℕ → Result (List Entry × List ℕ) Refused
+entries_at text = checked check.Entries (area_at text)
+
+-- the checks of entry n: SIZE if its nonce or password has more than 32 bytes; HANDLE if it is the
+-- entry of a session, since only passwords authorize these commands; RESERVED_BITS or ATTRIBUTES if
+-- an attribute other than continueSession is set
+unfoldable pub is_password_entry : (n : ℕ) → Entry → Result (Unit {0}) Refused
+is_password_entry n e = do
+  sizes ← refused_if (nat_lt 32 (length e.nonce) || nat_lt 32 (length e.hmac))
+      (entry_refused n code.Size)
+  session ← refused_if (not (e.session.number == password_handle.number))
+      (entry_refused n code.Handle)
+  reserved ← refused_if (has_reserved_bits e.attributes) (entry_refused n code.ReservedBits)
+  refused_if (audits e.attributes || uses_cipher e.attributes) (entry_refused n code.Attributes)
+
+-- the only entry of a command with one handle: HANDLE for a second entry, which authorizes nothing
+unfoldable pub only_entry : List Entry → Result Entry Refused
+only_entry [] = Err missing_refused
+only_entry (e ∷ []) = do
+  valid ← is_password_entry 1 e
+  Ok e
+only_entry (e ∷ f ∷ more) = do
+  valid ← is_password_entry 1 e
+  Err (entry_refused 2 code.Handle)
+
+-- the two entries of a command with two handles: AUTH_MISSING if there is only one entry, and
+-- HANDLE for a third entry
+unfoldable pub two_entries : List Entry → Result (Entry × Entry) Refused
+two_entries [] = Err missing_refused
+two_entries (e ∷ []) = do
+  valid ← is_password_entry 1 e
+  Err missing_refused
+two_entries (e ∷ f ∷ more) = do
+  first ← is_password_entry 1 e
+  second ← is_password_entry 2 f
+  third ← refused_if (not (length more == 0)) (entry_refused 3 code.Handle)
+  Ok (e, f)

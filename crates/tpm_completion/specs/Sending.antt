@@ -1,0 +1,209 @@
+-- The commands on sequence objects for which the completing layer sends a command to the device.
+-- TPM 2.0 Library, Part 3, sections 17.2 (TPM2_HMAC_Start) and 17.6 (TPM2_EventSequenceComplete).
+--
+-- TPM2_HMAC_Start sends TPM2_HMAC of no data with the same handle and password, so the device
+-- itself decides whether the key may be used. TPM2_EventSequenceComplete sends TPM2_PCR_Extend.
+use Rattle.std.specs.Prelude.{ℕ, ◌==◌, ◌&&◌, not, Bool, true, false, List, [], ◌∷◌, ◌++◌, length, if◌then◌else◌, Option, Some, None, Result, Ok, Err, ok_or, option_map, option_and_then}
+use Rattle.std.specs.Int.{w16, w32, to_be_bytes}
+use Rattle.tpm_bytes.specs.Reading.{◌>>=◌, refused_if}
+use Rattle.tpm_bytes.specs.Writing.{sized_text}
+use Rattle.tpm_hash_state.specs.State.{state_digest}
+use Rattle.tpm_mac.specs.declared.algorithm.HashAlg.{HashAlg}
+use Rattle.tpm_object.specs.declared.object.Object.{Object}
+use Rattle.tpm_record.specs.Entity.{object_of}
+use Rattle.tpm_record.specs.Record.{Record}
+use Rattle.tpm_record.specs.rows.Rows.{all_read, parameter}
+use Rattle.tpm_sequence.specs.Authorization.{is_authorized}
+use Rattle.tpm_sequence.specs.Sequence.{hmac_sequence, sequence_updated}
+use Rattle.tpm_sequence.specs.Sequence.{object_of as sequence_object}
+use Rattle.tpm_sequence.specs.declared.sequence.Sequence.{Sequence}
+use Rattle.tpm_sequence.specs.declared.sequence.Sequence.TheVariants.{Event, Hash, Hmac}
+use Rattle.tpm_step.specs.Answer.{framed}
+use Rattle.tpm_step.specs.Entries.{password_answer}
+use Rattle.tpm_types.specs.Algorithm.{hash_or_null_at, hash_or_null_number}
+use Rattle.tpm_types.specs.Buffer.{buffer_at}
+use Rattle.tpm_types.specs.DigestValues.{digest_values_text}
+use Rattle.tpm_types.specs.Limits.{data_limit}
+use Rattle.tpm_types.specs.declared.digest_values.DigestValue.TheVariants.{Sha1, Sha256}
+use Rattle.tpm_types.specs.declared.handle.Handle.{Handle}
+use Rattle.tpm_types.specs.declared.rc.ResponseCode.TheVariants as code
+use Rattle.tpm_types.specs.declared.refused.Refused.{Refused}
+use Rattle.tpm_types_command.specs.AuthEntry.{Entry, auth_entry_text, entry_of}
+use Rattle.tpm_types_object.specs.declared.public.KeyedHashScheme.{KeyedHashScheme}
+use Rattle.tpm_types_object.specs.declared.public.KeyedHashScheme.TheVariants as scheme
+use Rattle.tpm_types_object.specs.declared.public.PublicParameters.{PublicParameters}
+use Rattle.tpm_types_object.specs.declared.public.PublicParameters.TheVariants.{KeyedHash, SymCipher}
+use Rattle.tpm_bytes.specs.declared.cursor.Short.{Short}
+use Rattle.tpm_completion.specs.Answer.{is_refusal}
+use Rattle.tpm_completion.specs.Command.{Command, authorized_command}
+use Rattle.tpm_completion.specs.Saving.{Reply}
+use Rattle.tpm_completion.specs.Authorizing.{absent_refused, entries_at, handle_at, only_entry, password_refused, sequence_named, two_entries}
+use Rattle.tpm_completion.specs.SequenceRows.{authorized_success, full_refused, mode_refused, slot_text}
+use Rattle.tpm_completion.specs.Sequences.{free_slot, in_slot, with_sequence, without_sequence}
+use Rattle.tpm_completion.specs.declared.completion.Completion.{Completion}
+use Rattle.tpm_completion.specs.declared.sending.HmacStart as declared
+use Rattle.tpm_completion.specs.declared.sending.Sent.{Sent}
+use Rattle.tpm_completion.specs.declared.sending.Work.{Work}
+use Rattle.tpm_completion.specs.declared.sending.Work.TheVariants.{Ends, Starts}
+
+-- ---- TPM2_HMAC_Start
+
+-- the hash of an HMAC sequence: that of the key's scheme, or the hash that the command requests if
+-- the scheme is NULL; None if there is neither, or if the object is not a KEYEDHASH object. The
+-- device then refuses TPM2_HMAC
+abbrev pub key_hash : PublicParameters → Option HashAlg → Option HashAlg
+key_hash (KeyedHash scheme.Null) asked = asked
+key_hash (KeyedHash (scheme.Hmac own)) asked = Some own
+key_hash SymCipher asked = None
+
+-- the HMAC sequence that starts with the key of an object
+abbrev pub keyed_sequence : Option HashAlg → Object → Option Sequence
+keyed_sequence asked o =
+    option_map (λ hash. hmac_sequence hash o.sensitive) (key_hash o.public.parameters asked)
+
+-- an authorization area with only this entry
+abbrev pub area_of : Entry → List ℕ
+area_of e = to_be_bytes w32 (length (auth_entry_text e)) ++ auth_entry_text e
+
+-- the command TPM2_HMAC (155) of no data, with this handle, entry and hashAlg
+unfoldable pub hmac_command : Handle → Entry → Option HashAlg → List ℕ
+hmac_command handle e asked =
+    framed 0x8002 0x155
+    (to_be_bytes w32 handle.number ++ area_of e ++ sized_text []
+    ++ to_be_bytes w16 (hash_or_null_number asked))
+
+-- what TPM2_HMAC_Start asks for: the handle of a key, the entry with its password, hashAlg, the
+-- authorization value of the new sequence object, and a free slot
+pub record HmacStart : Type 0 where
+  pub handle : Handle
+  pub entry : Entry
+  pub hash : Option HashAlg
+  pub auth : List ℕ
+  pub slot : ℕ
+
+-- the same, regardless of where its bytes are in memory
+abbrev pub start_of : declared.HmacStart → HmacStart
+start_of start = record {
+  handle = start.handle;
+  entry = entry_of start.entry;
+  hash = start.hash;
+  auth = start.auth.now;
+  slot = start.slot;
+}
+
+-- what TPM2_HMAC_Start asks for. It has one handle and one entry, and its parameters are auth and
+-- hashAlg. Refused, before the device is asked, by check A1 with OBJECT_MEMORY if no slot is free
+unfoldable pub hmac_start_in : Completion → List ℕ → Result HmacStart Refused
+hmac_start_in c text = do
+  handle ← handle_at 1 text
+  entries ← entries_at handle.1
+  entry ← only_entry entries.0
+  auth ← parameter 1 (buffer_at 32 entries.1)
+  hash ← parameter 2 (hash_or_null_at auth.1)
+  ended ← all_read hash.1
+  slot ← ok_or (free_slot c) full_refused
+  Ok (record {
+    handle = handle.0;
+    entry = entry;
+    hash = hash.0;
+    auth = auth.0;
+    slot = slot;
+  })
+
+-- the work after the device accepted TPM2_HMAC: a sequence object gets a slot
+abbrev pub start_work : (slot : ℕ) → (auth : List ℕ) → Sequence → Work
+start_work slot auth sequence = Starts slot (sequence_object auth sequence)
+
+-- the command that TPM2_HMAC_Start sends. There is no work if the handle names no object, or if the
+-- object has no hash; the device then refuses TPM2_HMAC
+abbrev pub start_sent : Record → HmacStart → Sent
+start_sent r start = record {
+  command = hmac_command start.handle start.entry start.hash;
+  work = option_map (start_work start.slot start.auth)
+      (option_and_then (keyed_sequence start.hash) (object_of r start.handle));
+}
+
+unfoldable pub hmac_start_sent : Record → Completion → List ℕ → Result Sent Refused
+hmac_start_sent r c text = do
+  start ← hmac_start_in c text
+  Ok (start_sent r start)
+
+-- ---- TPM2_EventSequenceComplete
+
+-- the encoding of the digests of an event sequence's data; None for another sequence
+abbrev pub digests_text : Sequence → Option (List ℕ)
+digests_text (Event sha1 sha256) =
+    Some (digest_values_text (Sha1 (state_digest sha1) ∷ Sha256 (state_digest sha256) ∷ []))
+digests_text (Hash state beginning) = None
+digests_text (Hmac state) = None
+
+-- the command TPM2_PCR_Extend (182), with this handle, entry and encoded digests
+unfoldable pub extend_command : Handle → Entry → (digests : List ℕ) → List ℕ
+extend_command handle e digests =
+    framed 0x8002 0x182 (to_be_bytes w32 handle.number ++ area_of e ++ digests)
+
+-- the command that TPM2_EventSequenceComplete sends. Its handles are a PCR or TPM_RH_NULL, and an
+-- event sequence; each is authorized by the password in its entry, the first by the device. Its
+-- parameter is buffer. Refused, before the device is asked, by check A1 with MODE for handle 2 if
+-- the sequence is not an event sequence
+unfoldable pub event_complete_sent : Completion → List ℕ → Result Sent Refused
+event_complete_sent c text = do
+  pcr ← handle_at 1 text
+  handle ← handle_at 2 pcr.1
+  slot ← sequence_named c 2 code.ReferenceH1 handle.0
+  object ← ok_or (in_slot c slot) (absent_refused code.ReferenceH1)
+  entries ← entries_at handle.1
+  both ← two_entries entries.0
+  wrong ← refused_if (not (is_authorized object both.1.hmac)) (password_refused 2)
+  bytes ← parameter 1 (buffer_at data_limit entries.1)
+  ended ← all_read bytes.1
+  digests ← ok_or (digests_text (sequence_updated object.sequence bytes.0)) (mode_refused 2)
+  Ok (record {
+    command = extend_command pcr.0 both.0 digests;
+    work = Some (Ends slot digests);
+  })
+
+-- ---- the command that is sent, and the answer after it
+
+-- the command that a client's command sends, if it is one of these two: 15B and 185
+abbrev pub sent_by : Record → Completion → (code : ℕ) → List ℕ → Option (Result Sent Refused)
+sent_by r c code text =
+    if code == 0x15b then Some (hmac_start_sent r c text)
+    else (if code == 0x185 then Some (event_complete_sent c text)
+    else None)
+
+abbrev pub accepted_only : Option (Result Sent Refused) → Option Sent
+accepted_only (Some (Ok sent)) = Some sent
+accepted_only (Some (Err e)) = None
+accepted_only None = None
+
+abbrev pub sent_in : Record → Completion → Result Command Short → Option Sent
+sent_in r c (Ok command) = accepted_only (sent_by r c command.code command.parameters)
+sent_in r c (Err e) = None
+
+-- the command that the layer sends to the device for a client's command, if the device is started
+-- and refused the client's command with COMMAND_CODE (143)
+unfoldable pub sent_for : Record → Completion → (buffer response : List ℕ) → Option Sent
+sent_for r c buffer response =
+    if r.fixed.started && is_refusal 0x143 response then
+    sent_in r c (authorized_command buffer)
+    else None
+
+-- the answer after the device accepted the command: the handle of the new sequence object, or the
+-- digests
+abbrev pub work_done : Completion → Work → Reply
+work_done c (Starts slot object) = record {
+  response = authorized_success (slot_text slot) [] password_answer;
+  after = with_sequence c slot object;
+}
+work_done c (Ends slot digests) = record {
+  response = authorized_success [] digests (password_answer ++ password_answer);
+  after = without_sequence c slot;
+}
+
+-- the answer after the device executed the command that was sent; `accepted` says whether the
+-- device accepted it. If not, the client gets the device's refusal
+abbrev pub sent_reply : Completion → (accepted : Bool) → Option Work → (response : List ℕ) → Reply
+sent_reply c true (Some work) response = work_done c work
+sent_reply c true None response = record { response = response; after = c }
+sent_reply c false work response = record { response = response; after = c }

@@ -1,0 +1,4 @@
+pub mod Words1
+pub mod Words256
+pub mod Absorbing
+pub mod HmacLaws

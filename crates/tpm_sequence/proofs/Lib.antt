@@ -1,0 +1,3 @@
+pub mod BeginningLaws
+pub mod SequenceLaws
+pub mod AuthorizationLaws

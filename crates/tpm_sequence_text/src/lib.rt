@@ -1,0 +1,17 @@
+#![tactic(auto)]
+
+//! The text of a slot for a sequence object: encodes the slot's contents, and decodes them again.
+//!
+//! A state text contains the sequence objects of the completing layer in this encoding
+//! (`specs/Slot`). The crate uses `tpm_sequence` for the objects, and `tpm_image_text` for the
+//! fields.
+//!
+//! Decoding returns a slot exactly when the bytes begin with its encoding. Therefore each slot has
+//! only one encoding ([`laws`]). No function allocates memory.
+
+mod hash_state;
+mod kind;
+pub mod laws;
+mod slot;
+
+pub use slot::{read_slot, write_slot};

@@ -1,0 +1,123 @@
+//! The text of a slot.
+
+ghost use Rattle.std.specs.Prelude.{◌≡◌, ◌+◌, ◌++◌, ◌≤◌, length, option_copied};
+ghost use Rattle.tpm_bytes.specs.Reading.{Reads};
+ghost use Rattle.tpm_image_text.specs.Sizes.{text_size};
+ghost use Rattle.tpm_sequence_text.specs.Sizes.{sequence_size, slot_size};
+ghost use Rattle.tpm_sequence_text.specs.Slot.{event_in, hash_in, hmac_in, object_in, sequence_in, sequence_text, slot_in, slot_text};
+
+use crate::hash_state::{read_hash_state, write_hash_state};
+use crate::kind::{SequenceKind, kind_of, read_beginning, read_kind, write_beginning, write_kind};
+use tpm_bytes::Cursor;
+use tpm_hash_state::HmacState;
+use tpm_image_text::{Malformed, Text, read_array, write_array};
+use tpm_sequence::{Sequence, SequenceObject};
+
+#[tactic(auto, unfolding(crate::specs::Slot::hash_in))]
+fn read_hash_sequence(text: &mut Cursor) -> Result<Sequence, Malformed>
+    ensures { Reads (λ sequence. sequence) (hash_in text.old) text.old result text.new }
+{
+    let mut ahead = Cursor::new(text.rest());
+    let state = read_hash_state(&mut ahead)?;
+    let beginning = read_beginning(&mut ahead)?;
+    *text = ahead;
+    Ok(Sequence::Hash { state, beginning })
+}
+
+#[tactic(auto, unfolding(crate::specs::Slot::event_in))]
+fn read_event_sequence(text: &mut Cursor) -> Result<Sequence, Malformed>
+    ensures { Reads (λ sequence. sequence) (event_in text.old) text.old result text.new }
+{
+    let mut ahead = Cursor::new(text.rest());
+    let sha1 = read_hash_state(&mut ahead)?;
+    let sha256 = read_hash_state(&mut ahead)?;
+    *text = ahead;
+    Ok(Sequence::Event { sha1, sha256 })
+}
+
+#[tactic(auto, unfolding(crate::specs::Slot::hmac_in))]
+fn read_hmac_sequence(text: &mut Cursor) -> Result<Sequence, Malformed>
+    ensures { Reads (λ sequence. sequence) (hmac_in text.old) text.old result text.new }
+{
+    let mut ahead = Cursor::new(text.rest());
+    let inner = read_hash_state(&mut ahead)?;
+    let outer = read_hash_state(&mut ahead)?;
+    *text = ahead;
+    let state = HmacState { inner, outer };
+    Ok(Sequence::Hmac { state })
+}
+
+/// Reads a sequence of this kind.
+fn read_sequence(kind: SequenceKind, text: &mut Cursor) -> Result<Sequence, Malformed>
+    ensures { Reads (λ sequence. sequence) (sequence_in kind text.old) text.old result text.new }
+{
+    match kind {
+        SequenceKind::Hash => read_hash_sequence(text),
+        SequenceKind::Event => read_event_sequence(text),
+        SequenceKind::Hmac => read_hmac_sequence(text),
+    }
+}
+
+/// Reads a sequence object whose sequence is of this kind.
+#[tactic(auto, unfolding(crate::specs::Slot::object_in))]
+fn read_object(kind: SequenceKind, text: &mut Cursor) -> Result<SequenceObject, Malformed>
+    ensures { Reads (λ object. object) (object_in kind text.old) text.old result text.new }
+{
+    let mut ahead = Cursor::new(text.rest());
+    let auth = read_array(&mut ahead)?;
+    let sequence = read_sequence(kind, &mut ahead)?;
+    *text = ahead;
+    Ok(SequenceObject { auth, sequence })
+}
+
+/// Reads the contents of a slot.
+#[tactic(auto, unfolding(crate::specs::Slot::slot_in))]
+pub fn read_slot(text: &mut Cursor) -> Result<Option<SequenceObject>, Malformed>
+    ensures { Reads (λ slot. slot) (slot_in text.old) text.old result text.new }
+{
+    let mut ahead = Cursor::new(text.rest());
+    let slot = match read_kind(&mut ahead)? {
+        Some(kind) => Some(read_object(kind, &mut ahead)?),
+        None => None,
+    };
+    *text = ahead;
+    Ok(slot)
+}
+
+fn write_sequence(sequence: &Sequence, text: &mut Text)
+    requires { length text.old + sequence_size ≤ text_size }
+    ensures written { text.new ≡ text.old ++ sequence_text sequence.now }
+    ensures small { length text.new ≤ length text.old + sequence_size }
+{
+    match sequence {
+        Sequence::Hash { state, beginning } => {
+            write_hash_state(state, text);
+            write_beginning(*beginning, text);
+        }
+        Sequence::Event { sha1, sha256 } => {
+            write_hash_state(sha1, text);
+            write_hash_state(sha256, text);
+        }
+        Sequence::Hmac { state } => {
+            write_hash_state(&state.inner, text);
+            write_hash_state(&state.outer, text);
+        }
+    }
+}
+
+/// Writes the contents of a slot.
+#[tactic(auto, unfolding(crate::specs::Slot::slot_text))]
+pub fn write_slot(slot: Option<&SequenceObject>, text: &mut Text)
+    requires { length text.old + slot_size ≤ text_size }
+    ensures written { text.new ≡ text.old ++ slot_text (option_copied slot.entry) }
+    ensures small { length text.new ≤ length text.old + slot_size }
+{
+    match slot {
+        Some(object) => {
+            write_kind(Some(kind_of(&object.sequence)), text);
+            write_array(&object.auth, text);
+            write_sequence(&object.sequence, text);
+        }
+        None => write_kind(None, text),
+    }
+}

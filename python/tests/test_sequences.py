@@ -1,0 +1,243 @@
+"""Tests hash, HMAC and event sequences: hashes in progress, their state texts, and explanations of
+commands on sequences. tests/library/sequences.py tests the responses.
+"""
+
+import hashlib
+import hmac
+import random
+import unittest
+
+from completed_model import CompletedModel, RecordedModel
+from tpmsim.audit import start
+from tpmsim.audit.auditor import Auditor, report
+from tpmsim.audit.log import NoLog
+from tpmsim.caller import Caller, HERE, hmac_key
+from tpmsim.device import ModelDevice
+from tpmsim.explain import text
+from tpmsim.explain.play import Play
+from tpmsim.model import image, sequence_text, state_text
+from tpmsim.model.hash_states import BLOCK, HashState, HmacState
+from tpmsim.model.machine import Model
+from tpmsim.model.sequence_commands import EVENT_SEQUENCE_COMPLETE, HASH_SEQUENCE_START, HMAC_START
+from tpmsim.model.sequence_commands import SEQUENCE_UPDATE
+from tpmsim.model.sequences import EventSequence, GENERATED_VALUE, HashSequence, HmacSequence
+from tpmsim.model.sequences import SequenceObject
+from tpmsim.model.state_text import Layer
+from tpmsim.standard import ALG_NULL, CC, command, entry, number, on_handle, on_handles, SHA1
+from tpmsim.standard import SHA256, sized
+from tpmsim.standard.objects import Attribute
+
+NAMES = {SHA1: "sha1", SHA256: "sha256"}
+SIZES = 0, 1, 3, 55, 56, 63, 64, 65, 119, 120, 127, 128, 129
+FIRST = 0x8000_0008
+
+# FIPS 180-4: "abc" with its padding is one block, and its digest consists of the words after it.
+ABC = b"abc\x80" + bytes(52) + number(24, 8)
+OF_ABC = {
+    SHA1: "a9993e364706816aba3e25717850c26c9cd0d89d",
+    SHA256: "ba7816bf8f01cfea414140de5dae2223b00361a396177a9cb410ff61f20015ad",
+}
+
+
+def words_text(state):
+    return b"".join(number(it, 4) for it in state.words).hex()
+
+
+class States(unittest.TestCase):
+    def test_cuts(self):
+        """A digest or an HMAC is that of hashlib, at whatever position the data are cut."""
+        chance = random.Random(1)
+        for algorithm, name in NAMES.items():
+            for size in SIZES:
+                data, key = chance.randbytes(size), chance.randbytes(size)
+                wanted = hashlib.new(name, data).digest(), hmac.digest(key, data, name)
+                empty = HashState.empty(algorithm), HmacState.of_key(algorithm, key)
+                for at in range(size + 1):
+                    found = tuple(it.after(data[:at]).after(data[at:]).digest for it in empty)
+                    self.assertEqual(found, wanted, f"{name} of {size} bytes, cut at {at}")
+
+    def test_the_words(self):
+        """The words, the block and the length are those of FIPS 180-4. The bytes of the block after
+        the latest byte are those of the block before.
+        """
+        for algorithm, digest in OF_ABC.items():
+            state = HashState.empty(algorithm).after(b"abc")
+            begun = HashState.empty(algorithm).words
+            self.assertEqual((state.words, state.length), (begun, 3))
+            self.assertEqual(state.block, b"abc" + bytes(BLOCK - 3))
+            state = HashState.empty(algorithm).after(ABC)
+            self.assertEqual((words_text(state), state.block, state.length), (digest, ABC, 64))
+            state = state.after(b"xy")
+            self.assertEqual((words_text(state), state.length), (digest, 66))
+            self.assertEqual(state.block, b"xy" + ABC[2:])
+
+    def test_the_length(self):
+        """The number of bytes is counted modulo 2^64, like the number of bits in the padding."""
+        state = HashState(SHA256, HashState.empty(SHA256).words, bytes(BLOCK), 2**64 - 1)
+        self.assertEqual(state.after(b"\1").length, 0)
+        self.assertNotEqual(state.after(b"\1").words, state.words)
+
+    def test_beginnings(self):
+        """A sequence knows whether its data begin with TPM_GENERATED_VALUE."""
+        for data, wanted in (
+            *((GENERATED_VALUE[:size], size) for size in range(5)),
+            *((GENERATED_VALUE[:size] + b"x", 5) for size in range(4)),
+            (GENERATED_VALUE + b"x", 4),
+            (b"x" + GENERATED_VALUE, 5),
+        ):
+            for at in range(len(data) + 1):
+                found = HashSequence.of(SHA256).after(data[:at]).after(data[at:])
+                self.assertEqual(found.beginning, wanted, data)
+
+
+def held_objects():
+    key = HmacSequence(HmacState.of_key(SHA1, b"key"))
+    for sequence in (HashSequence.of(SHA1), HashSequence.of(SHA256), EventSequence(), key):
+        yield SequenceObject.of(b"pin", sequence)
+        yield SequenceObject.of(b"", sequence.after(bytes(range(200))))
+
+
+class Texts(unittest.TestCase):
+    def text(self, *slots):
+        layer = Layer(7, 1)
+        layer.sequences[: len(slots)] = slots
+        return state_text.state_text(Model(), layer)
+
+    def test_each_kind(self):
+        """A state text with sequence objects is read as the same objects, in the same slots."""
+        for held in held_objects():
+            for slots in ([held], [None, held, None], [held] * 3):
+                text = self.text(*slots)
+                device, layer = state_text.open_state(text)
+                self.assertEqual(layer.sequences, (slots + [None, None])[:3])
+                self.assertEqual(state_text.state_text(device, layer), text)
+
+    def test_without_sequences(self):
+        """A layer without sequence objects is written as before there were any."""
+        text = state_text.state_text(Model(), Layer(7, 1))
+        body = state_text.device_text(Model()) + b"\1" + number(7, 8) + number(1, 8) + bytes(128)
+        self.assertEqual(text, state_text.framed(body))
+        self.assertEqual(len(text), 1811)
+
+    def test_faults(self):
+        """Each byte of a slot that has only a few values is checked."""
+        held = SequenceObject.of(b"pin", HashSequence.of(SHA256))
+        body = self.text(held)[image.HEAD_BYTES : -image.DIGEST_AT_END]
+        slots = sequence_text.slots_text([held, None, None])
+        head = len(body) - len(slots)
+        self.assertEqual(len(slots), 1 + 32 + 2 + 32 + 64 + 8 + 1 + 2)
+        for at, values in (
+            (head, (4,)),
+            (head + 34, (0x0C,)),
+            (head + 139, (6,)),
+            (head + 140, (4,)),
+        ):
+            for value in values:
+                bent = state_text.framed(body[:at] + bytes([value]) + body[at + 1 :])
+                self.assertEqual(state_text.fault_of(bent), "Body", (at - head, value))
+        layer = body[: head - 144]
+        for words, bent in (
+            ("a layer with sequences, without slots", body[:head]),
+            ("two slots", body[:-1]),
+            ("four slots", body + b"\0"),
+            ("three free slots", body[:head] + bytes(3)),
+            ("slots after a layer without sequences", layer[:-1] + b"\1" + body[head - 144 :]),
+            ("another byte for the layer", layer[:-1] + b"\3" + body[head - 144 :]),
+        ):
+            self.assertEqual(state_text.fault_of(state_text.framed(bent)), "Body", words)
+
+
+class Explained(unittest.TestCase):
+    """Tests the explanations of commands on sequences, and the audit."""
+
+    def setUp(self):
+        self.device = self.enterContext(RecordedModel())
+        self.tpm = Caller(self.device)
+        self.tpm.start_up()
+
+    def last(self):
+        """Returns the explanation of the last command."""
+        events = list(Play().events(self.device.journal.text))
+        self.assertFalse(any(it.differences for it in events))
+        event = events[-1]
+        words = text.told(event) if event.refused else text.whole(event)
+        return " ".join(" ".join(words).split())
+
+    def test_a_key(self):
+        """If the device refuses the command that the layer sends, the device's reason is the
+        reason.
+        """
+        template = hmac_key(attributes=HERE | Attribute.USER_WITH_AUTH)
+        key = self.tpm.create_primary(template, data=b"key", user_auth=b"pin")
+        parameters = sized(b"") + number(ALG_NULL, 2)
+        self.device.execute(on_handle(HMAC_START, key, parameters, [entry(hmac=b"wrong")]))
+        told = self.last()
+        self.assertIn("HMAC_Start is refused: AUTH_FAIL/s1 (98e), by the completing layer", told)
+        self.assertIn("The completing layer: the device refuses the layer's TPM2_HMAC.", told)
+        self.assertIn("The password of the entry is not the authValue of 80000000", told)
+        self.device.execute(on_handle(HMAC_START, key, parameters, [entry(hmac=b"pin")]))
+        self.assertIn("HMAC_Start is accepted, by the completing layer", self.last())
+        auditor = Auditor(start.of_log(self.device.journal.text, None), NoLog())
+        auditor.read(self.device.journal.text)
+        self.assertEqual((auditor.counts.accepted, auditor.counts.layer), (3, 1))
+        told = " ".join(report(auditor))
+        self.assertIn("HMAC by password is refused by AUTH_FAIL/s1", told)
+
+    def test_a_pcr(self):
+        """The audit knows the PCR that an event sequence extended."""
+        self.device.execute(command(HASH_SEQUENCE_START, sized(b"pin") + number(ALG_NULL, 2)))
+        self.device.execute(on_handle(SEQUENCE_UPDATE, FIRST, sized(b"data")))
+        told = self.last()
+        self.assertIn("SequenceUpdate is refused: BAD_AUTH/s1 (9a2), by the completing layer", told)
+        self.assertIn("the password is not that of the event sequence 80000008", told)
+        entries = [entry(), entry(hmac=b"pin")]
+        for pcr in (17, 16):
+            buffer = on_handles(EVENT_SEQUENCE_COMPLETE, [pcr, FIRST], sized(b"data"), entries)
+            self.device.execute(buffer)
+            if pcr == 17:
+                self.assertIn("refused: LOCALITY (907)", self.last())
+        wanted = hashlib.sha1(bytes(20) + hashlib.sha1(b"data").digest()).digest()
+        self.assertEqual(self.device.model.banks[SHA1][16], wanted)
+        auditor = Auditor(start.of_log(self.device.journal.text, None), NoLog())
+        auditor.read(self.device.journal.text)
+        self.assertEqual(list(auditor.history.differences(auditor.device)), [])
+
+    def test_power(self):
+        """A device that continues from a state text keeps its sequences until a power cycle."""
+        self.device.execute(command(HASH_SEQUENCE_START, sized(b"") + number(SHA1, 2)))
+        self.device.journal.go_on(self.device.completion.numbers)
+        self.device.execute(on_handle(SEQUENCE_UPDATE, FIRST, sized(b"data")))
+        self.assertIn("4 bytes are added to the hash sequence 80000008", self.last())
+        self.device.power_cycle()
+        self.assertEqual(self.device.completion.sequences, [None] * 3)
+
+
+class Without(unittest.TestCase):
+    def test_a_restored_device(self):
+        """A device without the layer keeps the sequences of a state text until a power cycle."""
+        with CompletedModel() as device, ModelDevice() as other:
+            Caller(device).start_up()
+            device.execute(command(HASH_SEQUENCE_START, sized(b"") + number(SHA1, 2)))
+            other.restore(state_text.state_text(device.model, device.completion.numbers))
+            other.execute(command(CC.GetRandom, number(4, 2)))
+            self.assertTrue(any(other.layer.sequences))
+            other.power_cycle()
+            self.assertEqual(state_text.open_state(other.state())[1].sequences, [None] * 3)
+
+    def test_the_layer(self):
+        """Without the layer, sequences are neither served nor changed."""
+        with CompletedModel() as device:
+            Caller(device).start_up()
+            device.execute(command(HASH_SEQUENCE_START, sized(b"") + number(SHA1, 2)))
+            before = list(device.completion.sequences)
+            device.completes = False
+            response = device.execute(on_handle(SEQUENCE_UPDATE, FIRST, sized(b"data"))).response
+            self.assertEqual(
+                (response[6:10].hex(), device.did),
+                ("00000143", "the hash sequence 80000008 starts"),
+            )
+            self.assertEqual(device.completion.sequences, before)
+
+
+if __name__ == "__main__":
+    unittest.main()

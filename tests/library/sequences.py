@@ -1,0 +1,405 @@
+"""Tests hash, HMAC and event sequences, which the completing layer serves:
+
+    tools/python.sh sequences.py [LIBRARY]
+
+LIBRARY is the shared library. The Python device executes the same commands. Both must return the
+same responses, and have the same state at the end. Without LIBRARY the test uses only the Python
+device. Digests and HMACs are compared with those of hashlib and hmac.
+"""
+
+import hashlib
+import hmac
+
+from tests.library.contexts import Pair
+from tpmsim.caller import Caller, HERE, hmac_key, OPEN, sealed, storage_key
+from tpmsim.model.completion import Completion, CONTEXT_SAVE
+from tpmsim.model.state import CLEAR, STATE
+from tpmsim.model.state_text import open_state, state_text
+from tpmsim.standard import ALG_NULL, area, CC, command, entry, Fields, number, on_handle
+from tpmsim.standard import on_handles, RH_LOCKOUT, RH_NULL, RH_OWNER, SESSIONS, SHA1, SHA256, sized
+from tpmsim.standard.handle_kinds import PRIMARY_HIERARCHIES
+from tpmsim.standard.objects import Attribute
+
+COMPLETE, HMAC_START, UPDATE, EVENT_COMPLETE, START, HASH = 0x13E, 0x15B, 0x15C, 0x185, 0x186, 0x17D
+FIRST, GENERATED, PCR, LATE_PCR = 0x80000008, bytes.fromhex("ff544347"), 16, 17
+LONG = bytes(range(256)) * 4
+HASHES = {SHA1: "sha1", SHA256: "sha256"}
+
+# Data in parts, the last of which goes to the command that ends the sequence.
+DATA = (
+    *((b"",), (b"abc",), (b"abc", b""), (b"abc", b"def", b"ghi")),
+    *(
+        (LONG, LONG, LONG),
+        (LONG, LONG, b"seven b"),
+        (bytes(63), b"1"),
+        (bytes(64), b""),
+        (bytes(65),),
+    ),
+    tuple(bytes([it]) for it in range(130)),
+)
+
+
+class Reopened(Pair):
+    """Two devices. If `reopens` is true, each device is restored from its state text after each
+    command.
+    """
+
+    reopens = False
+
+    def answer(self, *event):
+        answered = super().answer(*event)
+        if self.reopens:
+            self.compare()
+            text = state_text(self.model, self.completion.numbers)
+            self.model, layer = open_state(text)
+            self.completion = Completion.of(layer)
+            if self.other:
+                self.other.resume(text)
+        return answered
+
+
+class Client:
+    """A started device and its caller."""
+
+    def __init__(self):
+        self.device = Reopened()
+        self.tpm = Caller(self.device)
+        self.tpm.start_up()
+
+    def code(self, buffer):
+        """Returns the response code of a command, in hex."""
+        return f"{int.from_bytes(self.device.execute(buffer).response[6:10], 'big'):03x}"
+
+    def done(self, buffer):
+        """Sends a command that must succeed, and returns the response without its header."""
+        response = self.device.execute(buffer).response
+        assert not any(response[6:10]), f"{buffer.hex()} is refused: {response.hex()}"
+        return response[10:]
+
+    def started(self, buffer):
+        return int.from_bytes(self.done(buffer)[:4], "big")
+
+    def key(self, data=b"key", value=b"", template=hmac_key()):
+        return self.tpm.create_primary(template, data=data, user_auth=value)
+
+    def handles(self, first=0x80000000, count=20):
+        """Returns the listed handles from this one on, as words."""
+        asked = {"capability": "handles", "property": first, "propertyCount": count}
+        listed = self.tpm.call("GetCapability", **asked).capabilityData.handles
+        return " ".join(f"{it:08x}" for it in listed)
+
+    def tries(self):
+        asked = {"capability": "properties", "property": 0x20E, "propertyCount": 1}
+        return self.tpm.call("GetCapability", **asked).capabilityData.properties[0x20E]
+
+    def pcr(self, bank, number):
+        return self.tpm.call("PCR_Read", pcrSelectionIn=f"{bank}:{number}").pcrValues[0]
+
+    def end(self):
+        self.device.compare()
+        self.device.close()
+
+
+def start(algorithm=SHA256, auth=b""):
+    return command(START, sized(auth) + number(algorithm, 2))
+
+
+def hmac_start(key, algorithm=ALG_NULL, auth=b"", password=b""):
+    entries = [entry(hmac=password)]
+    return on_handle(HMAC_START, key, sized(auth) + number(algorithm, 2), entries)
+
+
+def update(handle, data, password=b""):
+    return on_handle(UPDATE, handle, sized(data), [entry(hmac=password)])
+
+
+def complete(handle, data=b"", hierarchy=RH_NULL, password=b""):
+    parameters = sized(data) + number(hierarchy, 4)
+    return on_handle(COMPLETE, handle, parameters, [entry(hmac=password)])
+
+
+def event_complete(pcr, handle, data=b"", passwords=(b"", b"")):
+    entries = [entry(hmac=it) for it in passwords]
+    return on_handles(EVENT_COMPLETE, [pcr, handle], sized(data), entries)
+
+
+def all_in(client, buffer, parts):
+    """Starts a sequence with a command, and adds all parts but the last one. Returns its handle."""
+    handle = client.started(buffer)
+    for part in parts[:-1]:
+        client.done(update(handle, part))
+    return handle
+
+
+def completed(client, buffer, parts, hierarchy=RH_NULL):
+    """Returns the digest of a sequence of these parts, and its ticket in hex."""
+    fields = Fields(client.done(complete(all_in(client, buffer, parts), parts[-1], hierarchy)))
+    fields.number(4)
+    found = fields.sized()
+    ticket = fields.take(6) + sized(fields.sized())
+    assert fields.data == bytes.fromhex("0000010000"), "the answer to a password"
+    return found, ticket.hex()
+
+
+def hashes(client):
+    """Hashes of data in several parts; a slot becomes free at the end of each sequence."""
+    for algorithm, name in HASHES.items():
+        found = [completed(client, start(algorithm), it) for it in DATA]
+        wanted = [hashlib.new(name, b"".join(it)).digest() for it in DATA]
+        assert {ticket for _, ticket in found} == {"8024400000070000"}
+        print(
+            f"{name}: {sum(map(bytes.__eq__, wanted, (it for it, _ in found)))} digests are right"
+        )
+
+
+def restored_hashes(client):
+    """The same, and after each command the devices are restored from their state texts."""
+    client.device.reopens = True
+    hashes(client)
+
+
+def tickets(client):
+    """The ticket is an HMAC of the digest with the hierarchy's proof, the same as TPM2_Hash's."""
+    handle = client.started(start())
+    for hierarchy in (*PRIMARY_HIERARCHIES, RH_LOCKOUT):
+        if hierarchy == RH_LOCKOUT:
+            print(f"of {hierarchy:08x}:", client.code(complete(handle, b"abc", hierarchy)))
+            continue
+        found, ticket = completed(client, start(), (b"a", b"bc"), hierarchy)
+        proof = client.device.model.proofs[hierarchy]
+        right = hmac.digest(proof, b"\x80\x24" + found, "sha256") if hierarchy != RH_NULL else b""
+        own = number(0x8024, 2) + number(hierarchy, 4) + sized(right)
+        asked = sized(b"abc") + number(SHA256, 2) + number(hierarchy, 4)
+        same = client.done(command(HASH, asked)) == sized(found) + own
+        print(f"of {hierarchy:08x}: {ticket == own.hex()}, like TPM2_Hash's {same}")
+
+
+def generated(client):
+    """Data that begin with TPM_GENERATED_VALUE get a NULL ticket, in whatever parts they come."""
+    for data in (
+        GENERATED,
+        GENERATED + b"more",
+        GENERATED[:3],
+        GENERATED[:3] + b"H",
+        b"\0" + GENERATED,
+    ):
+        hierarchies = set()
+        for at in range(len(data) + 1):
+            for parts in ((data[:at], data[at:]), (data[:at], b"", data[at:], b"")):
+                _, ticket = completed(client, start(), parts, RH_OWNER)
+                hierarchies.add(ticket[4:12])
+        print(f"{data.hex()}: {', '.join(hierarchies)}")
+
+
+def events(client):
+    """An event sequence hashes by both algorithms, and extends a PCR in both banks."""
+    for pcr in (PCR, RH_NULL):
+        before = {it: client.pcr(it, PCR) for it in HASHES.values()}
+        parts = LONG, b"event"
+        handle = all_in(client, start(ALG_NULL), parts)
+        fields = Fields(client.done(event_complete(pcr, handle, parts[-1])))
+        size, count, right = fields.number(4), fields.number(4), []
+        for algorithm, name in HASHES.items():
+            digest = hashlib.new(name, b"".join(parts)).digest()
+            after = hashlib.new(name, before[name] + digest).digest()
+            right.append((fields.number(2), fields.take(len(digest))) == (algorithm, digest))
+            right.append(client.pcr(name, PCR) == (after if pcr == PCR else before[name]))
+        print(f"{pcr:08x}: {size} bytes, {count} digests, right {right}, and {fields.data.hex()}")
+    handle = client.started(start(ALG_NULL))
+    print("PCR 17 at locality 0:", client.code(event_complete(LATE_PCR, handle)))
+    print("PCR 24:", client.code(event_complete(24, handle)))
+    print(
+        "a password for the PCR:", client.code(event_complete(PCR, handle, passwords=(b"x", b"")))
+    )
+    print("an event sequence in SequenceComplete:", client.code(complete(handle)))
+    other = client.started(start())
+    print("a hash sequence in EventSequenceComplete:", client.code(event_complete(PCR, other)))
+    print("still there:", client.handles())
+    client.device.locality = 3
+    print("PCR 17 at locality 3:", client.code(event_complete(LATE_PCR, handle)))
+
+
+def hmacs(client):
+    """HMACs with a key whose scheme has a hash, and with one whose scheme is NULL."""
+    fixed, free = client.key(b"k" * 70), client.key(template=hmac_key(scheme=ALG_NULL))
+    client.tpm.call("EvictControl", RH_OWNER, free, uses=[b""], persistentHandle=0x81000001)
+    for words, key, data, asked, name in (
+        ("scheme SHA-256, asked NULL", fixed, b"k" * 70, ALG_NULL, "sha256"),
+        ("scheme SHA-256, asked SHA-256", fixed, b"k" * 70, SHA256, "sha256"),
+        ("scheme NULL, asked SHA-1", free, b"key", SHA1, "sha1"),
+        ("scheme NULL, asked SHA-256", free, b"key", SHA256, "sha256"),
+        ("a persistent key", 0x81000001, b"key", SHA1, "sha1"),
+    ):
+        wanted = [(hmac.digest(data, b"".join(it), name), "8024400000070000") for it in DATA]
+        found = [completed(client, hmac_start(key, asked), it, RH_OWNER) for it in DATA]
+        print(f"{words}: {sum(map(tuple.__eq__, wanted, found))} HMACs are right")
+    print("scheme SHA-256, asked SHA-1:", client.code(hmac_start(fixed, SHA1)))
+    print("scheme NULL, asked NULL:", client.code(hmac_start(free)))
+
+
+def restored_hmacs(client):
+    """The key is no longer needed when the sequence has started."""
+    client.device.reopens = True
+    key = client.key()
+    handle = client.started(hmac_start(key))
+    client.tpm.send(client.tpm.flush(key))
+    client.done(update(handle, LONG))
+    found = client.done(complete(handle, b"end"))[6:38]
+    print("restored after each command:", found == hmac.digest(b"key", LONG + b"end", "sha256"))
+    handle = client.started(start(ALG_NULL))
+    client.done(update(handle, LONG))
+    found = client.done(event_complete(PCR, handle, b"end"))[10:30]
+    print("an event sequence:", found == hashlib.sha1(LONG + b"end").digest())
+
+
+def keys_that_cannot(client):
+    """The device itself decides whether a key may be used, and counts failed tries."""
+    protected = client.key(
+        value=b"pin", template=hmac_key(attributes=HERE | Attribute.USER_WITH_AUTH)
+    )
+    print("a wrong password:", client.code(hmac_start(protected, password=b"wrong")))
+    print("failed tries:", client.tries())
+    print("the right one:", client.code(hmac_start(protected, password=b"pin")))
+    open_key = client.key(value=b"pin")
+    print("a wrong password of a key with noDA:", client.code(hmac_start(open_key)))
+    print("failed tries:", client.tries())
+    restricted = client.key(template=hmac_key(attributes=HERE | OPEN | Attribute.RESTRICTED))
+    print("a restricted key:", client.code(hmac_start(restricted)))
+    print("sealed data:", client.code(hmac_start(client.key(b"data", template=sealed()))))
+    storage = client.tpm.create_primary(storage_key())
+    print("a storage key:", client.code(hmac_start(storage, SHA256)))
+    print("no object:", client.code(hmac_start(0x80000007)))
+    print("a sequence:", client.code(hmac_start(FIRST)))
+    print("an HMAC session for the key:", client.code(with_session(client, HMAC_START, protected)))
+
+
+def with_session(client, code, handle):
+    """Returns a command whose entry has an HMAC session."""
+    session = client.tpm.session().handle
+    return on_handle(code, handle, sized(b"") + number(ALG_NULL, 2), [entry(session, bytes(16))])
+
+
+def passwords(client):
+    """A sequence object has a password, which is not protected against guessing."""
+    handle = client.started(start(ALG_NULL, b"pin"))
+    for words, buffer in (
+        ("no password", update(handle, b"")),
+        ("a wrong password", update(handle, b"", b"wrong")),
+        ("the right one", update(handle, b"", b"pin")),
+        ("with zeros after it", update(handle, b"", b"pin" + bytes(29))),
+        ("of 33 bytes", update(handle, b"", b"pin" + bytes(30))),
+        ("a wrong one at the end", complete(handle, password=b"wrong")),
+        ("a wrong one for an event", event_complete(PCR, handle, passwords=(b"", b"wrong"))),
+        ("one password for two handles", event_complete(PCR, handle, passwords=(b"",))),
+        ("three", event_complete(PCR, handle, passwords=(b"", b"pin", b""))),
+        ("no sessions", command(UPDATE, number(handle, 4) + sized(b""))),
+        ("an HMAC session", with_session(client, UPDATE, handle)),
+        ("a second entry", on_handle(UPDATE, handle, sized(b""), [entry(hmac=b"pin"), entry()])),
+        (
+            "a reserved bit",
+            on_handle(UPDATE, handle, sized(b""), [entry(attributes=9, hmac=b"pin")]),
+        ),
+        ("audit", on_handle(UPDATE, handle, sized(b""), [entry(attributes=0x81, hmac=b"pin")])),
+        ("decrypt", on_handle(UPDATE, handle, sized(b""), [entry(attributes=0x21, hmac=b"pin")])),
+        ("an empty area", command(UPDATE, number(handle, 4) + area() + sized(b""), SESSIONS)),
+        ("HashSequenceStart with a password", command(START, area(entry()) + bytes(3), SESSIONS)),
+    ):
+        print(f"{words}: {client.code(buffer)}")
+    print("failed tries:", client.tries())
+
+
+def slots(client):
+    """There are three sequences at most. Their handles follow those of the device's objects."""
+    key = client.key()
+    print(
+        "handles:",
+        *(f"{client.started(it):08x}" for it in (start(), start(ALG_NULL), hmac_start(key))),
+    )
+    print("a fourth:", client.code(start()), client.code(hmac_start(key)))
+    print("with a wrong password:", client.code(hmac_start(key, password=b"x")))
+    print("listed:", client.handles())
+    print("listed from the second on:", client.handles(FIRST + 1, 1))
+    flush = [command(CC.FlushContext, number(FIRST + it, 4)) for it in range(4)]
+    print("flushed:", *map(client.code, (flush[1], flush[1], flush[3])))
+    print("listed:", client.handles())
+    print("used after it:", client.code(update(FIRST + 1, b"")))
+    print("the free slot:", f"{client.started(start()):08x}")
+    for words, code in (("ContextSave", CONTEXT_SAVE), ("ReadPublic", CC.ReadPublic)):
+        print(f"{words} of a sequence:", client.code(command(code, number(FIRST, 4))))
+    client.device.completes = False
+    print("without the layer:", client.code(update(FIRST, b"")), client.code(flush[0]))
+    client.device.completes = True
+    print("with it:", client.code(update(FIRST, b"")), client.code(flush[0]))
+
+
+def commands(client):
+    asked = {"capability": "commands", "property": 0x13E, "propertyCount": 200}
+    found = client.tpm.call("GetCapability", **asked).capabilityData.commands
+    own = (COMPLETE, HMAC_START, UPDATE, EVENT_COMPLETE, START)
+    print("attributes:", *(f"{it:08x}" for it in found if it & 0xFFFF in own))
+    asked = {"capability": "properties", "property": 0x129, "propertyCount": 2}
+    print("commands:", client.tpm.call("GetCapability", **asked).capabilityData.properties)
+
+
+def powered(client):
+    """Sequences end at a power cycle, even if the device resumes."""
+    for words, kind in (("a TPM Reset", CLEAR), ("a TPM Resume", STATE)):
+        handle = client.started(start())
+        client.tpm.call("Shutdown", shutdownType=kind)
+        client.device.power_cycle()
+        before = client.code(update(handle, b""))
+        client.tpm.start_up(kind)
+        print(f"{words}: before TPM2_Startup {before}, after it {client.code(update(handle, b''))}")
+        handle = client.started(start())
+        client.tpm.call("Shutdown", shutdownType=kind)
+        client.device.power_cycle()
+        client.tpm.start_up(kind)
+        print(f"{words}, only TPM2_Startup: {client.code(update(handle, b''))}")
+
+
+def malformed(client):
+    handle = client.started(start(ALG_NULL))
+    password, data = area(entry()), sized(b"data")
+    for words, buffer in (
+        ("an authorization value of 33 bytes", start(auth=bytes(33))),
+        ("SHA-384", start(0x0C)),
+        ("a byte after the hash", command(START, sized(b"") + number(SHA256, 2) + b"\0")),
+        ("no hash", command(START, sized(b""))),
+        ("1,025 bytes", update(handle, bytes(1025))),
+        ("a byte after the data", on_handle(UPDATE, handle, data + b"\0")),
+        ("cut data", on_handle(UPDATE, handle, data[:-1])),
+        ("no hierarchy", on_handle(COMPLETE, handle, data)),
+        (
+            "a byte after the hierarchy",
+            on_handle(COMPLETE, handle, data + number(RH_NULL, 4) + b"\0"),
+        ),
+        (
+            "a byte after an event",
+            on_handles(EVENT_COMPLETE, [PCR, handle], data + b"\0", [entry()] * 2),
+        ),
+        ("half a handle", command(UPDATE, b"\x80\0", SESSIONS)),
+        ("the owner's handle", command(UPDATE, number(RH_OWNER, 4) + password + data, SESSIONS)),
+        ("no sequence", update(FIRST + 1, b"")),
+        ("an object's handle", update(0x80000000, b"")),
+        ("the owner's as second", event_complete(PCR, RH_OWNER)),
+        ("no sequence as second", event_complete(PCR, FIRST + 2)),
+        ("one handle", command(EVENT_COMPLETE, number(PCR, 4), SESSIONS)),
+        ("none of this changed it", event_complete(PCR, handle)),
+    ):
+        print(f"{words}: {client.code(buffer)}")
+
+
+TESTS = hashes, restored_hashes, tickets, generated, events, hmacs, restored_hmacs
+TESTS += keys_that_cannot, passwords, slots, commands, powered, malformed
+
+
+def main():
+    for test in TESTS:
+        print(f"{test.__name__.replace('_', ' ')}:")
+        client = Client()
+        test(client)
+        client.end()
+
+
+if __name__ == "__main__":
+    main()
